@@ -1,5 +1,5 @@
 -- What a part has heard of a round so far, and that it begins the next once it has heard all.
-use Rattle.std.proofs.Common.{◌≡◌, ◌≢◌, ◌⊎◌, ◌↔◌, ℕ, ◌+◌, ◌<◌, true, List, [], ◌∷◌, ◌++◌, map, length, get_or, drop, append_assoc, append-nil, Option, inl, inr, ap, ◌∙◌, sym, subst, refl, arith}
+use Rattle.std.proofs.Common.{◌≡◌, ◌≢◌, ◌⊎◌, ◌↔◌, ℕ, ◌+◌, ◌<◌, true, List, [], ◌∷◌, ◌++◌, map, length, get_or, drop, append_assoc, append-nil, Option, inl, inr, ap, ◌∙◌, sym, subst, refl}
 use Rattle.std.specs.List.{AllByRecursion}
 use Rattle.std.specs.FinMap.{FinMap}
 use Rattle.std.proofs.lemmas.List.{map-append}
@@ -7,7 +7,6 @@ use Rattle.base.specs.declared.key.Key.{Key}
 use Rattle.base.specs.Order.{key_cmp}
 use Rattle.base.specs.Rising.{IsRising, AreNew}
 use Rattle.base.proofs.Rising.{all_append, all_weaker, rising_front, all_front, all_back}
-use Rattle.scenario.specs.Setup.{member_count}
 use Rattle.trace.specs.declared.row.Row.{Row}
 use Rattle.member.specs.declared.content.Content.{Content}
 use Rattle.member.specs.declared.event.Event.{Event}
@@ -19,12 +18,11 @@ use Rattle.windows.specs.Parts.{Window, with_arrivals}
 use Rattle.windows.specs.Window.{is_own}
 use Rattle.windows.specs.WorldOf.{world_of}
 use Rattle.windows.proofs.Cuts.{joined_joined}
-use Rattle.turns.proofs.Turning.{low_by_part}
 use Rattle.turns.proofs.After.{of_events}
 use Rattle.rounds.specs.Starts.{IsUpTo}
 use Rattle.rounds.specs.Messages.{BeginsRound, IsWindowOfRound, IsLeastAfter, IsMessage, IsOneOf, Message, sender_of, all_events, AreOfAllOthers, IsLeastOfAll}
 use Rattle.rounds.proofs.Heard.{new_so_far, next_round, own_so_far}
-use Rattle.round_windows.specs.Basis.{Basis, IsBasis, division_of}
+use Rattle.round_windows.specs.Basis.{Basis, IsBasis, plan_of}
 use Rattle.rings.specs.declared.word.Word.{Word}
 use Rattle.rings.specs.Peers.{AreOthers}
 use Rattle.rings.specs.Telling.{IsWord}
@@ -51,10 +49,6 @@ pub to_pairs : (P : Key → Type 0) (es : List Event) → AllByRecursion (λ (e 
 to_pairs P [] all = tt
 to_pairs P (e ∷ es) all = (all.0, to_pairs P es all.1)
 
--- who has a part that there is, is a member
-pub own_member : (basis : Basis) (own : ℕ) → IsBasis basis → own < basis.deal.parts → (m : ℕ) → division_of basis m ≡ own → m < member_count basis.setup
-own_member basis own is low m same = let below = low_by_part basis.deal m own low same in omega (arith, below, is.divides)
-
 -- the least moment, with that of one message more
 least_more : (own first next : Option ℕ) (ms : List Message) (m : Message) → IsLeastOfAll own ms first → ((t : ℕ) → (IsUpTo first t × IsUpTo m.least t) ↔ IsUpTo next t) → IsLeastOfAll own (ms ++ m ∷ []) next
 least_more own first next ms m so_far lesser t = (
@@ -67,11 +61,11 @@ least_more own first next ms m so_far lesser t = (
 
 -- the word that a peer told is a message of its part
 word_here : (basis : Basis) (word : Word) (from to round : ℕ) → IsWord basis word → (word.from ≡ from) × (word.to ≡ to) × (word.round ≡ round)
-    → IsMessage basis.setup basis.delay (division_of basis) from to round (map pair_of word.events.items) word.least
+    → IsMessage (plan_of basis) from to round (map pair_of word.events.items) word.least
 word_here basis word from to round is place =
-    subst (λ n. IsMessage basis.setup basis.delay (division_of basis) from to n (map pair_of word.events.items) word.least) place.2
-    (subst (λ n. IsMessage basis.setup basis.delay (division_of basis) from n word.round (map pair_of word.events.items) word.least) place.1
-    (subst (λ n. IsMessage basis.setup basis.delay (division_of basis) n word.to word.round (map pair_of word.events.items) word.least) place.0 is))
+    subst (λ n. IsMessage (plan_of basis) from to n (map pair_of word.events.items) word.least) place.2
+    (subst (λ n. IsMessage (plan_of basis) from n word.round (map pair_of word.events.items) word.least) place.1
+    (subst (λ n. IsMessage (plan_of basis) n word.to word.round (map pair_of word.events.items) word.least) place.0 is))
 
 -- ---- what is heard so far
 
@@ -81,10 +75,10 @@ module _ {Q : Type 0} (set : Q → FinMap key_cmp Event) (basis : Basis) (own ro
   pub record HasHeard (left : List ℕ) (part : Part Q) (first : Option ℕ) : Type 0 where
     pub window : Window State Content Row
     pub named : window.part ≡ own
-    pub runs : IsWindowOfRound basis.setup basis.delay (division_of basis) round window
+    pub runs : IsWindowOfRound (plan_of basis) round window
     pub after : IsLeastAfter window told
     pub messages : List Message
-    pub each : AllByRecursion (λ (m : Message). IsMessage basis.setup basis.delay (division_of basis) m.from own round m.events m.least) messages
+    pub each : AllByRecursion (λ (m : Message). IsMessage (plan_of basis) m.from own round m.events m.least) messages
     pub senders : map sender_of messages ++ left ≡ numbers
     pub come : world_of set part ≡ with_arrivals window.after (all_events messages)
     pub least : IsLeastOfAll told messages first
@@ -105,22 +99,22 @@ module _ {Q : Type 0} (set : Q → FinMap key_cmp Event) (basis : Basis) (own ro
   module _ (is : IsBasis basis) (others : AreOthers basis.deal.parts own numbers) where
     -- one other more is heard
     module _ (n : ℕ) (left : List ℕ) (part : Part Q) (first : Option ℕ) (heard : HasHeard (n ∷ left) part first) (events : List Event) (least : Option ℕ)
-        (word : IsMessage basis.setup basis.delay (division_of basis) n own round (map pair_of events) least) where
+        (word : IsMessage (plan_of basis) n own round (map pair_of events) least) where
       abbrev message : Message
       message = record { from = n; events = map pair_of events; least = least }
 
       abbrev more : List Message
       more = heard.messages ++ message ∷ []
 
-      each_more : AllByRecursion (λ (m : Message). IsMessage basis.setup basis.delay (division_of basis) m.from own round m.events m.least) more
-      each_more = all_append (λ (m : Message). IsMessage basis.setup basis.delay (division_of basis) m.from own round m.events m.least) heard.messages (message ∷ []) heard.each (word, tt)
+      each_more : AllByRecursion (λ (m : Message). IsMessage (plan_of basis) m.from own round m.events m.least) more
+      each_more = all_append (λ (m : Message). IsMessage (plan_of basis) m.from own round m.events m.least) heard.messages (message ∷ []) heard.each (word, tt)
 
       senders_more : map sender_of more ++ left ≡ numbers
       senders_more =
           ap (λ ns. ns ++ left) (map-append sender_of heard.messages (message ∷ [])) ∙ append_assoc (map sender_of heard.messages) (n ∷ []) left ∙ heard.senders
 
-      each_here : AllByRecursion (λ (m : Message). IsMessage basis.setup basis.delay (division_of basis) m.from heard.window.part round m.events m.least) more
-      each_here = subst (λ to. AllByRecursion (λ (m : Message). IsMessage basis.setup basis.delay (division_of basis) m.from to round m.events m.least) more) (sym heard.named) each_more
+      each_here : AllByRecursion (λ (m : Message). IsMessage (plan_of basis) m.from heard.window.part round m.events m.least) more
+      each_here = subst (λ to. AllByRecursion (λ (m : Message). IsMessage (plan_of basis) m.from to round m.events m.least) more) (sym heard.named) each_more
 
       others_here : AllByRecursion (λ (m : Message). heard.window.part ≢ m.from) more
       others_here =
@@ -137,7 +131,7 @@ module _ {Q : Type 0} (set : Q → FinMap key_cmp Event) (basis : Basis) (own ro
           subst (λ (w : Cluster). AreNew w.pending (map pair_of events)) (sym heard.come)
           (new_behind (all_events heard.messages) (map pair_of events) heard.window.after.pending
           (subst (AreNew heard.window.after.pending) (events_more heard.messages message)
-          (new_so_far basis.setup basis.delay (division_of basis) is.sound round heard.window more heard.runs each_here others_here differ_here)))
+          (new_so_far (plan_of basis) round heard.window more is.plan heard.runs each_here others_here differ_here)))
 
       own_next : own < basis.deal.parts → AllByRecursion (λ (e : Event). is_own (world_of set part) e.key.to ≡ true) events
       own_next low =
@@ -145,7 +139,7 @@ module _ {Q : Type 0} (set : Q → FinMap key_cmp Event) (basis : Basis) (own ro
           (subst (λ (w : Cluster). AllByRecursion (λ (e : Key × Content). is_own w e.0.to ≡ true) (map pair_of events)) (sym heard.come)
           (all_back (λ (e : Key × Content). is_own heard.window.after e.0.to ≡ true) (all_events heard.messages) (map pair_of events)
           (subst (AllByRecursion (λ (e : Key × Content). is_own heard.window.after e.0.to ≡ true)) (events_more heard.messages message)
-          (own_so_far basis.setup basis.delay (division_of basis) is.sound round heard.window more heard.runs each_here (λ m same. own_member basis own is low m (same ∙ heard.named))))))
+          (own_so_far (plan_of basis) round heard.window more is.plan (subst (λ n. n < basis.deal.parts) (sym heard.named) low) heard.runs each_here))))
 
       heard_next : (after : Part Q) (next : Option ℕ) → world_of set after ≡ with_arrivals (world_of set part) (map pair_of events) → ((t : ℕ) → (IsUpTo first t × IsUpTo least t) ↔ IsUpTo next t)
           → HasHeard left after next
@@ -175,7 +169,7 @@ module _ {Q : Type 0} (set : Q → FinMap key_cmp Event) (basis : Basis) (own ro
       here : HasHeard (n ∷ left) part first
       here = subst (λ ns. HasHeard ns part first) (next_to_come number peers numbers i d so_far low) heard
 
-      as_message : IsMessage basis.setup basis.delay (division_of basis) n own round (map pair_of word.events.items) word.least
+      as_message : IsMessage (plan_of basis) n own round (map pair_of word.events.items) word.least
       as_message = word_here basis word n own round told_it place
 
       pub word_new : AreNew (world_of set part).pending (map pair_of word.events.items)
@@ -189,24 +183,24 @@ module _ {Q : Type 0} (set : Q → FinMap key_cmp Event) (basis : Basis) (own ro
       word_heard = heard_next n left part first here word.events.items word.least as_message
 
     -- once all others are heard, the part begins the next round
-    pub heard_all : (part : Part Q) (first : Option ℕ) → HasHeard [] part first → Begins set basis own (round + 1) first part
-    heard_all part first heard =
-        subst (λ (w : Cluster). BeginsRound basis.setup basis.delay (division_of basis) own (round + 1) first w) (sym heard.come)
-        (subst (λ n. BeginsRound basis.setup basis.delay (division_of basis) n (round + 1) first (with_arrivals heard.window.after (all_events heard.messages))) heard.named
-        (next_round basis.setup basis.delay (division_of basis) is.sound round heard.window heard.messages heard.runs of_all is.lies told first heard.after heard.least))
+    pub heard_all : own < basis.deal.parts → (part : Part Q) (first : Option ℕ) → HasHeard [] part first → Begins set basis own (round + 1) first part
+    heard_all low part first heard =
+        subst (λ (w : Cluster). BeginsRound (plan_of basis) own (round + 1) first w) (sym heard.come)
+        (subst (λ n. BeginsRound (plan_of basis) n (round + 1) first (with_arrivals heard.window.after (all_events heard.messages))) heard.named
+        (next_round (plan_of basis) round heard.window heard.messages told first is.plan (subst (λ n. n < basis.deal.parts) (sym heard.named) low) heard.runs of_all heard.after heard.least))
       where
         senders : map sender_of heard.messages ≡ numbers
         senders = sym (append-nil (map sender_of heard.messages)) ∙ heard.senders
 
-        of_all : AreOfAllOthers basis.setup basis.delay (division_of basis) heard.window.part round heard.messages
+        of_all : AreOfAllOthers (plan_of basis) heard.window.part round heard.messages
         of_all = record {
-          each = subst (λ to. AllByRecursion (λ (m : Message). IsMessage basis.setup basis.delay (division_of basis) m.from to round m.events m.least) heard.messages) (sym heard.named) heard.each;
+          each = subst (λ to. AllByRecursion (λ (m : Message). IsMessage (plan_of basis) m.from to round m.events m.least) heard.messages) (sym heard.named) heard.each;
           others =
-              by_sender (λ n. heard.window.part ≢ n) heard.messages
-              (all_weaker (λ n. (n ≢ own) × (n < basis.deal.parts)) (λ n. heard.window.part ≢ n) (λ n other same. other.0 (sym same ∙ heard.named)) (map sender_of heard.messages)
+              by_sender (λ n. (heard.window.part ≢ n) × (n < basis.deal.parts)) heard.messages
+              (all_weaker (λ n. (n ≢ own) × (n < basis.deal.parts)) (λ n. (heard.window.part ≢ n) × (n < basis.deal.parts)) (λ n other. ((λ same. other.0 (sym same ∙ heard.named)), other.1)) (map sender_of heard.messages)
               (subst (AllByRecursion (λ n. (n ≢ own) × (n < basis.deal.parts))) (sym senders) others.others));
           different = differ_by_sender heard.messages (subst (IsRising (λ m n. m ≢ n)) (sym senders) others.different);
-          complete = λ m low. by_number (division_of basis m) (others.complete (division_of basis m) (is.below m low));
+          complete = λ other low. by_number other (others.complete other low);
         }
           where
             by_number : (n : ℕ) → (own ≡ n) ⊎ IsOneOf (λ m. m) numbers n → (heard.window.part ≡ n) ⊎ IsOneOf sender_of heard.messages n

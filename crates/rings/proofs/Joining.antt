@@ -9,7 +9,8 @@ use Rattle.base.proofs.Rising.{all_append, all_weaker, rising_append}
 use Rattle.rings.specs.declared.peers.Peer.{Peer}
 use Rattle.rings.specs.Peers.{AreOthers, AreJoined, numbers_of}
 use Rattle.rings.proofs.JoiningNumbers.{HaveNumbersBelow, one_more_number, one_before, one_last}
-use Rattle.rings.proofs.JoiningPlaces.{written_each, pushed_each, slice_get_behind}
+use Rattle.round_windows.proofs.Places.{pushed_each}
+use Rattle.rings.proofs.JoiningPlaces.{written_each, slice_get_behind}
 
 -- the numbers below a count are the others of the worker of that number
 pub others_of_last : (count : ℕ) (ns : List ℕ) → HaveNumbersBelow (λ n. n) count ns → AreOthers (count + 1) count ns

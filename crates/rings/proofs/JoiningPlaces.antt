@@ -1,5 +1,5 @@
 -- What holds of each item of a list at its place.
-use Rattle.std.proofs.Common.{◌≡◌, ◌≢◌, ℕ, zero, suc, List, [], ◌∷◌, ◌++◌, map, length, slice_set, Some, refl, sym, subst, arith}
+use Rattle.std.proofs.Common.{◌≡◌, ◌≢◌, ℕ, zero, suc, List, [], ◌∷◌, ◌++◌, map, slice_set, Some, refl, sym, subst, arith}
 use Rattle.std.specs.List.{AllByRecursion, slice_get}
 use Rattle.std.proofs.lemmas.Option.{none-some, same_Some}
 use Rattle.base.proofs.Rising.{all_append}
@@ -13,14 +13,6 @@ written_each P (z ∷ xs) zero y here others (suc j) x is = others (suc j) x (λ
 written_each P (z ∷ xs) (suc i) y here others zero x is = others 0 x (λ same. omega arith) is
 written_each P (z ∷ xs) (suc i) y here others (suc j) x is =
     written_each (λ k. P (suc k)) xs i y here (λ k w apart at. others (suc k) w (λ same. apart (omega arith)) at) j x is
-
--- in a list that has one more at its end
-pub pushed_each : {X : Type 0} (P : ℕ → X → Type 0) (xs : List X) (y : X) → ((j : ℕ) (x : X) → slice_get xs j ≡ Some x → P j x) → P (length xs) y
-    → (j : ℕ) (x : X) → slice_get (xs ++ y ∷ []) j ≡ Some x → P j x
-pushed_each P [] y each here zero x is = subst (P 0) (same_Some y x is) here
-pushed_each P [] y each here (suc j) x is = absurd (none-some x is)
-pushed_each P (z ∷ xs) y each here zero x is = each 0 x is
-pushed_each P (z ∷ xs) y each here (suc j) x is = pushed_each (λ k. P (suc k)) xs y (λ k w at. each (suc k) w at) here j x is
 
 -- what holds of each item holds with one more of which it holds
 pub all_with_one : {X : Type 0} (P : X → Type 0) (xs more : List X) (x : X) → more ≡ xs ++ x ∷ [] → AllByRecursion P xs → P x → AllByRecursion P more

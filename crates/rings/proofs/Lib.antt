@@ -9,6 +9,7 @@ mod TellingInTurn
 mod TellingWindows
 mod HearingMessages
 mod HearingRounds
+mod RowsCut
 mod WorkerEndings
 mod WorkerRounds
 mod EndingsOfRuns

@@ -1,5 +1,5 @@
 -- Lots of all parts, sorted, are the next turn.
-use Rattle.std.proofs.Common.{◌≡◌, ℕ, ◌<◌, Bool, true, false, List, ◌++◌, refl, subst}
+use Rattle.std.proofs.Common.{◌≡◌, ℕ, ◌+◌, ◌<◌, Bool, true, false, List, ◌++◌, refl, subst, arith}
 use Rattle.std.specs.Bool.{OnTrue}
 use Rattle.std.specs.List.Sorted.{IsPermutation, IsSorted}
 use Rattle.std.specs.declared.cmp.Ordering.{Ordering}
@@ -8,11 +8,11 @@ use Rattle.trace.specs.declared.row.Row.{Row}
 use Rattle.member_laws.specs.Runs.{IsRunOf, WearsOut}
 use Rattle.windows.specs.Cluster.{IsRowOrder}
 use Rattle.turns.proofs.Lasting.{wears_nothing}
-use Rattle.rounds.specs.Starts.{IsOverBy}
 use Rattle.rounds.specs.Lots.{HasLasted, AreLotsOfAll, writer_of}
-use Rattle.rounds.proofs.Lots.{lots_next, ends_over}
-use Rattle.rounds.proofs.Lasting.{over_by_part, world_of_end}
-use Rattle.round_windows.specs.Basis.{Basis, IsBasis, division_of}
+use Rattle.rounds.proofs.Worlds.{ends_before}
+use Rattle.rounds.proofs.Lots.{lots_next}
+use Rattle.rounds.proofs.Lasting.{world_of_end}
+use Rattle.round_windows.specs.Basis.{Basis, IsBasis, division_of, plan_of}
 use Rattle.rings.specs.declared.lots.Turn.{Turn}
 use Rattle.rings.specs.Writing.{HasComeTo, IsNextTurn}
 use Rattle.rings.proofs.LotsJoined.{AreLotsBelow, holds_of_one}
@@ -21,40 +21,35 @@ where_true : {P : Type 0} (b : Bool) → (b ≡ true → P) → OnTrue b P
 where_true true gives = gives refl
 where_true false gives = tt
 
-module _ (basis : Basis) (is : IsBasis basis) (since until : ℕ) (last : Bool) (rows : List Row) (are : AreLotsBelow basis since basis.deal.parts until last rows) where
+module _ (basis : Basis) (is : IsBasis basis) (since until round : ℕ) (last : Bool) (rows : List Row) (are : AreLotsBelow basis since basis.deal.parts until round last rows) where
   -- each part with members has its lot
-  of_all : AreLotsOfAll basis.setup basis.delay (division_of basis) since until are.lots
-  of_all = record { each = are.each; different = are.numbers.different; complete = λ m low. are.numbers.complete (division_of basis m) (is.below m low) }
+  of_all : AreLotsOfAll basis.setup (division_of basis) since until are.lots
+  of_all = record { each = are.each; different = are.numbers.different; complete = λ m low. are.numbers.complete (division_of basis m) (is.plan.below m low) }
 
-  all_lasted : last ≡ true → (m : ℕ) → m < member_count basis.setup → HasLasted basis.setup basis.delay (division_of basis) (division_of basis m) until
+  all_lasted : last ≡ true → (m : ℕ) → m < member_count basis.setup → (until ≡ basis.setup.end + 1) × HasLasted (plan_of basis) (division_of basis m) round
   all_lasted ends m low =
-      holds_of_one (λ n. HasLasted basis.setup basis.delay (division_of basis) n until) writer_of are.lots (division_of basis m) (are.lasted ends) (are.numbers.complete (division_of basis m) (is.below m low))
-
-  over : last ≡ true → IsOverBy basis.setup basis.delay until
-  over ends = over_by_part basis.setup basis.delay (division_of basis) (division_of basis 0) until (all_lasted ends 0 is.sound.members.0)
+      holds_of_one (λ n. (until ≡ basis.setup.end + 1) × HasLasted (plan_of basis) n round) writer_of are.lots (division_of basis m) (are.lasted ends) (are.numbers.complete (division_of basis m) (is.plan.below m low))
 
   -- no counter is past its limit where the run ends
   nothing_worn : last ≡ true → ¬ (WearsOut basis.setup)
   nothing_worn ends =
-      let end = world_of_end basis.setup basis.delay (division_of basis) until is.sound (all_lasted ends) in
-      wears_nothing basis.setup is.sound end.0 end.1 end.2 end.3 end.4 end.5
+      let end = world_of_end (plan_of basis) round is.plan (λ m low. (all_lasted ends m low).1) in
+      wears_nothing basis.setup is.plan.sound end.0 end.1 end.2 end.3 end.4 end.5
 
   module _ (sorted : List Row) (cmp : Row → Row → Ordering) (order : IsRowOrder cmp) (same : IsPermutation rows sorted) (up : IsSorted cmp sorted) where
     next_rows : (before : List Row) → HasComeTo basis since before → HasComeTo basis until (before ++ sorted)
     next_rows before come =
-        lots_next basis.setup is.sound basis.delay (division_of basis) since until come.0 are.lots before sorted cmp come.1 come.2 of_all order
+        lots_next basis.setup (division_of basis) since until are.lots before sorted cmp is.plan.sound come of_all order
         (subst (λ l. IsPermutation l sorted) are.rows_are same) up
 
     all_rows : last ≡ true → (before : List Row) → HasComeTo basis since before → IsRunOf basis.setup (before ++ sorted)
-    all_rows ends before come =
-        let next = next_rows before come in
-        ends_over basis.setup is.sound basis.delay until next.0 (before ++ sorted) (over ends) next.1 next.2
+    all_rows ends before come = let lasted = all_lasted ends 0 is.plan.sound.members.0 in ends_before basis.setup until (before ++ sorted) (next_rows before come) (omega (arith, lasted.0))
 
 -- the lots of all parts, once they are sorted
-pub turn_of_all : (basis : Basis) (since : ℕ) (turn : Turn) (rows : List Row) (cmp : Row → Row → Ordering) → IsBasis basis → AreLotsBelow basis since basis.deal.parts turn.until turn.last rows
+pub turn_of_all : (basis : Basis) (since : ℕ) (turn : Turn) (rows : List Row) (cmp : Row → Row → Ordering) → IsBasis basis → AreLotsBelow basis since basis.deal.parts turn.until turn.round turn.last rows
     → IsRowOrder cmp → IsPermutation rows turn.rows.items → IsSorted cmp turn.rows.items → IsNextTurn basis since turn
 turn_of_all basis since turn rows cmp is are order same up = record {
-  next = next_rows basis is since turn.until turn.last rows are turn.rows.items cmp order same up;
-  whole = where_true turn.last (all_rows basis is since turn.until turn.last rows are turn.rows.items cmp order same up);
-  lasts = where_true turn.last (nothing_worn basis is since turn.until turn.last rows are);
+  next = next_rows basis is since turn.until turn.round turn.last rows are turn.rows.items cmp order same up;
+  whole = where_true turn.last (all_rows basis is since turn.until turn.round turn.last rows are turn.rows.items cmp order same up);
+  lasts = where_true turn.last (nothing_worn basis is since turn.until turn.round turn.last rows are);
 }

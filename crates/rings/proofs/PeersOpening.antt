@@ -1,5 +1,5 @@
 -- A worker as the run begins.
-use Rattle.std.proofs.Common.{◌≡◌, ◌<◌, List, [], ◌∷◌, ◌++◌, length, Some, refl, ap, ◌∙◌, sym, subst, arith}
+use Rattle.std.proofs.Common.{◌≡◌, ◌<◌, List, [], ◌∷◌, ◌++◌, length, Some, zero-le, refl, ap, ◌∙◌, sym, subst, arith}
 use Rattle.std.specs.List.{slice_get}
 use Rattle.std.specs.FinMap.{FinMap}
 use Rattle.std.specs.Option.{option_map}
@@ -13,8 +13,9 @@ use Rattle.windows.specs.WorldOf.{world_of}
 use Rattle.turns.specs.Parts.{StandFor}
 use Rattle.rounds.specs.Starts.{IsFirstMoment}
 use Rattle.rounds.specs.Messages.{BeginsRound}
+use Rattle.rounds.proofs.Worlds.{opening_before}
 use Rattle.rounds.proofs.Heard.{begins_opening}
-use Rattle.round_windows.specs.Basis.{Basis, division_of}
+use Rattle.round_windows.specs.Basis.{Basis, plan_of}
 use Rattle.rings.specs.declared.worker.Worker.{Worker}
 use Rattle.rings.specs.Peers.{AreOthers, numbers_of}
 use Rattle.rings.specs.Starting.{MayWork}
@@ -34,8 +35,8 @@ module _ {K Q : Type 0} (set : Q → FinMap key_cmp Event) (basis : Basis) where
       let world = same_Some _ _ (sym (ap (option_map (world_of set)) here) ∙ stand.worlds worker.lines.number below) in
       record {
         begins =
-            subst (BeginsRound basis.setup basis.delay (division_of basis) worker.lines.number 0 worker.first) (sym world)
-            (begins_opening basis.setup basis.delay (division_of basis) worker.lines.number worker.first first);
+            subst (BeginsRound (plan_of basis) worker.lines.number 0 worker.first) (sym world)
+            (begins_opening (plan_of basis) worker.lines.number (opening basis.setup) worker.first ([], [], opening_before basis.setup 0 (λ q pends. zero-le)) first);
         lines = record {
           own = below;
           peers = subst (λ n. AreOthers n worker.lines.number (numbers_of worker.lines.peers.items)) stand.count (subst (λ n. AreOthers (length parts) n (numbers_of worker.lines.peers.items)) (sym number) are);

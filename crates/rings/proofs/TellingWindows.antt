@@ -14,7 +14,7 @@ use Rattle.member.specs.StateOf.{pair_of}
 use Rattle.windows.specs.Parts.{for_own, is_in}
 use Rattle.rounds.specs.Messages.{IsMessage}
 use Rattle.round_windows.specs.declared.window.Ran.{Ran}
-use Rattle.round_windows.specs.Basis.{Basis, division_of}
+use Rattle.round_windows.specs.Basis.{Basis, division_of, plan_of}
 use Rattle.rings.specs.Peers.{AreOthers}
 use Rattle.rings.specs.Windows.{HasRanRound, AfterWindow, CanTell}
 use Rattle.rings.proofs.TellingInTurn.{AreUntouched, of_next, untouched_next}
@@ -44,10 +44,10 @@ module _ {Q : Type 0} (set : Q → FinMap key_cmp Event) (basis : Basis) (own ro
 pub next_told : {A V : Type 0} (number : A → ℕ) (items : V → List Event) (basis : Basis) (own round : ℕ) (least : Option ℕ) (before lists : List V) (peers : List A) (numbers : List ℕ) (i : ℕ) (d : A)
     → CanTell basis own round least (map items before) → AreOthers basis.deal.parts own numbers → map number peers ≡ numbers → i < length peers
     → (IsRising (λ m n. m ≢ n) numbers → AreUntouched before lists (drop i numbers))
-    → IsMessage basis.setup basis.delay (division_of basis) own (number (get_or peers i d)) round (map pair_of (unwrap_or (slice_get (map items lists) (number (get_or peers i d))) [])) least
+    → IsMessage (plan_of basis) own (number (get_or peers i d)) round (map pair_of (unwrap_or (slice_get (map items lists) (number (get_or peers i d))) [])) least
 next_told number items basis own round least before lists peers numbers i d can others so_far low untouched =
     let n = number (get_or peers i d) in
     let other = of_next number peers numbers i d so_far low (λ m. (m ≢ own) × (m < basis.deal.parts)) others.others in
     let same = untouched_next number peers numbers i d so_far low before lists others.different (untouched others.different) in
-    subst (λ o. IsMessage basis.setup basis.delay (division_of basis) own n round (map pair_of (unwrap_or o [])) least)
+    subst (λ o. IsMessage (plan_of basis) own n round (map pair_of (unwrap_or o [])) least)
     (slice_get-map items before n ∙ ap (option_map items) (sym same) ∙ sym (slice_get-map items lists n)) (can n other.1 other.0)

@@ -1,7 +1,8 @@
 -- What a worker knows from round to round.
-use Rattle.std.proofs.Common.{◌≡◌, ℕ, ◌+◌, ◌^◌, ◌<◌, ◌≤◌, Bool, true, false, nat_lt, [], ◌++◌, map, Option, Some, Vec, Global, ap, ◌∙◌, sym, subst, refl, arith}
+use Rattle.std.proofs.Common.{◌≡◌, ℕ, zero, suc, ◌+◌, ◌^◌, ◌<◌, ◌≤◌, min, zero-le, List, [], ◌∷◌, ◌++◌, map, get_or, unwrap_or, Option, Some, Vec, Global, append-nil, ap, ◌∙◌, sym, subst, refl, arith}
 use Rattle.std.specs.FinMap.{FinMap}
-use Rattle.std.proofs.lemmas.Bool.{ltb-true, ltb-false}
+use Rattle.std.specs.List.{AllByRecursion, slice_get}
+use Rattle.std.proofs.lemmas.Option.{none-some, same_Some, slice_get-get_or}
 use Rattle.base.specs.Order.{key_cmp}
 use Rattle.scenario.specs.Setup.{Setup}
 use Rattle.member.specs.declared.event.Event.{Event}
@@ -12,61 +13,81 @@ use Rattle.windows.specs.Window.{IsConsistentPart}
 use Rattle.windows.specs.Wears.{WearsInWindow}
 use Rattle.windows.specs.WorldOf.{world_of}
 use Rattle.windows.proofs.Slots.{part_unworn}
-use Rattle.rounds.specs.Starts.{IsUpTo, round_bound}
+use Rattle.rounds.specs.Plan.{bound_of}
+use Rattle.rounds.specs.Starts.{IsUpTo, IsRound, HasRunTo}
 use Rattle.rounds.specs.Lots.{IsLot, HasLasted}
-use Rattle.rounds.proofs.Bounded.{lies_positive}
-use Rattle.rounds.proofs.Turns.{start_over}
+use Rattle.rounds.proofs.Turns.{round_number}
 use Rattle.rounds.proofs.Heard.{begins_consistent, window_here, worn_here}
 use Rattle.rounds.proofs.Lots.{lot_none, lot_joins}
-use Rattle.rounds.proofs.LotWindows.{lot_of_window}
+use Rattle.rounds.proofs.LotWindows.{lot_of_window, lot_rest}
+use Rattle.round_windows.specs.declared.course.Rounds.{Rounds}
 use Rattle.round_windows.specs.declared.window.Ran.{Ran}
-use Rattle.round_windows.specs.Basis.{Basis, IsBasis, division_of}
+use Rattle.round_windows.specs.Basis.{Basis, IsBasis, GoBy, basis_of, division_of, plan_of}
 use Rattle.round_windows.specs.Windows.{HasRan}
 use Rattle.turns.proofs.After.{of_events}
 use Rattle.rings.specs.declared.rows.Gathered.{Gathered}
 use Rattle.rings.specs.declared.peers.Peer.{Peer}
 use Rattle.rings.specs.declared.worker.Lines.{Lines}
 use Rattle.rings.specs.Peers.{AreOthers, AreLines, numbers_of}
-use Rattle.rings.specs.Windows.{HasRanRound, Begins, GathersUpTo}
-use Rattle.rings.proofs.HearingRounds.{to_pairs, own_member}
+use Rattle.rings.specs.Windows.{HasRanRound, Begins, GathersUpTo, GathersSoFar}
+use Rattle.rings.proofs.HearingRounds.{to_pairs}
 
--- the bound that was chosen is the round's
-pub bound_here : (delay first : Option ℕ) (from bound end last : ℕ) → bound ≡ round_bound end delay (Some from) → end ≡ last → first ≡ Some from → bound ≡ round_bound last delay first
-bound_here delay first from bound end last chosen ends pends = chosen ∙ ap (λ e. round_bound e delay (Some from)) ends ∙ ap (round_bound last delay) (sym pends)
+-- what holds of all holds of the one at a place
+all_at : {A : Type 0} (P : A → Type 0) (xs : List A) (i : ℕ) (x : A) → AllByRecursion P xs → slice_get xs i ≡ Some x → P x
+all_at P [] i x all here = absurd (none-some x here)
+all_at P (y ∷ xs) zero x all here = subst P (same_Some y x here) all.0
+all_at P (y ∷ xs) (suc i) x all here = all_at P xs i x all.1 here
+
+-- ---- how far a part runs
+
+-- the way into a part that there is
+pub way_there : (rounds : Rounds) → GoBy rounds → (number : ℕ) → number < rounds.division.now.parts → slice_get rounds.ways.now number ≡ Some (get_or rounds.ways.now number 0)
+way_there rounds going number low = slice_get-get_or rounds.ways.now number 0 (omega (arith, low, going.basis.ways))
+
+module _ (rounds : Rounds) (going : GoBy rounds) (first : Option ℕ) (from : ℕ) (pends : first ≡ Some from) where
+  -- the bound that was chosen is that of the part
+  pub bound_here : (number way bound : ℕ) → slice_get rounds.ways.now number ≡ Some way → bound ≡ min (from + way) (rounds.end + 1) → bound ≡ bound_of (plan_of (basis_of rounds)) first number
+  bound_here number way bound here chosen =
+      chosen ∙ ap (λ e. min (from + way) (e + 1)) going.end ∙ ap (λ (o : Option ℕ). min (from + unwrap_or o 1) (rounds.cluster.scenario.now.end + 1)) (sym here)
+      ∙ ap (λ o. bound_of (plan_of (basis_of rounds)) o number) (sym pends)
+
+  -- and no less than the one in common
+  pub common_bound : (number way common bound : ℕ) → slice_get rounds.ways.now number ≡ Some way → common ≡ min (from + rounds.shortest) (rounds.end + 1) → bound ≡ min (from + way) (rounds.end + 1) → common ≤ bound
+  common_bound number way common bound here short chosen = let least = all_at (λ w. rounds.shortest ≤ w) rounds.ways.now number way going.shortest here in omega (arith, short, chosen, least)
 
 module _ {Q : Type 0} (set : Q → FinMap key_cmp Event) (basis : Basis) (is : IsBasis basis) (number round : ℕ) (first : Option ℕ) (part : Part Q) (begins : Begins set basis number round first part) where
   abbrev s : Setup
   s = basis.setup
 
-  -- while something pends up to the end, the round's number isn't past the end
+  -- while something pends up to the end, the round's number isn't past it
   pub round_low : (from end : ℕ) → (first ≡ Some from) × (from ≤ end) → end ≡ s.end → round ≤ 2 ^ 40
-  round_low from end pends ends = by_test (nat_lt s.end round) refl
-    where
-      by_test : (b : Bool) → nat_lt s.end round ≡ b → round ≤ 2 ^ 40
-      by_test true past =
-          let started : begins.start ≤ from = subst (λ o. IsUpTo o begins.start) pends.0 ((begins.in_round.pends begins.start).0 begins.in_round.world.2.none) in
-          let over = start_over s basis.delay (lies_positive s (division_of basis) basis.delay is.lies) round begins.start begins.in_round.starts (ltb-true s.end round past) in
-          let in_time = pends.1 in
-          absurd (omega (arith, started, over, in_time, ends))
-      by_test false low = let h = ltb-false s.end round low in omega (arith, h, is.sound.end)
+  round_low from end pends ends =
+      let in_time = pends.1 in
+      let low = round_number (plan_of basis) round from begins.world is.plan (subst (IsRound (plan_of basis) round begins.world) pends.0 begins.in_round) (omega (arith, in_time, ends)) in
+      omega (arith, low, in_time, ends, is.plan.sound.end)
 
   pub consistent_here : IsConsistentPart s (world_of set part)
-  consistent_here = begins_consistent s basis.delay (division_of basis) number round first (world_of set part) begins is.sound
+  consistent_here = begins_consistent (plan_of basis) number round first (world_of set part) is.plan begins
 
   -- nothing is left, and no member in memory has a counter past its limit
-  pub lasted_here : IsUpTo first (s.end + 1) → HasLasted s basis.delay (division_of basis) number round
+  pub lasted_here : IsUpTo first (s.end + 1) → HasLasted (plan_of basis) number round
   lasted_here past = record { last = world_of set part; first = first; begins = begins; past = past; unworn = λ m t here. part_unworn set part m t here }
 
   module _ (low : number < basis.deal.parts) where
+    -- up to its bound the part has run as the next round begins
+    runs_to_bound : HasRunTo (plan_of basis) (round + 1) number (bound_of (plan_of basis) first number)
+    runs_to_bound = let same : suc round ≡ round + 1 = omega arith in subst (λ n. HasRunTo (plan_of basis) n number (bound_of (plan_of basis) first number)) same (begins.world, first, begins.in_round, refl)
+
     -- the window that was run is that of the round
-    pub ran_round : (ran : Ran Q) → HasRan set basis (round_bound s.end basis.delay first) (world_of set part) ran → HasRanRound set basis number round ran
+    pub ran_round : (ran : Ran Q) → HasRan set basis (bound_of (plan_of basis) first number) (world_of set part) ran → HasRanRound set basis number round ran
     ran_round ran has =
-        let window = window_here s basis.delay (division_of basis) number round first (world_of set part) begins is.sound (own_member basis number is low) (world_of set ran.part) has.out ran.rows.items has.window in
+        let window = window_here (plan_of basis) number round first (world_of set part) (world_of set ran.part) has.out ran.rows.items is.plan low begins has.window in
         record {
           window = record { part = number; keys = window.0; out = map pair_of has.out; rows = ran.rows.items; after = world_of set ran.part };
           own = refl;
           runs = window.1;
           after = refl;
+          to = subst (HasRunTo (plan_of basis) (round + 1) number) (sym has.until) runs_to_bound;
           rows = refl;
           out = has.out;
           sent = refl;
@@ -77,8 +98,15 @@ module _ {Q : Type 0} (set : Q → FinMap key_cmp Event) (basis : Basis) (is : I
           );
         }
 
-    pub wears_here : WearsInWindow s (round_bound s.end basis.delay first) (world_of set part) → WearsOut s
-    wears_here = worn_here s basis.delay (division_of basis) number round first (world_of set part) begins is.sound (own_member basis number is low) is.lies
+    pub wears_here : WearsInWindow s (bound_of (plan_of basis) first number) (world_of set part) → WearsOut s
+    wears_here = worn_here (plan_of basis) number round first (world_of set part) is.plan low begins
+
+    -- where nothing is left up to the end, what was gathered goes up to it
+    pub gathers_rest : (gathered : Gathered) → IsUpTo first (s.end + 1) → GathersSoFar basis number round gathered → GathersUpTo basis number (s.end + 1) gathered
+    gathers_rest gathered past (to, run, gathers) =
+        subst (IsLot s (division_of basis) number gathered.since (s.end + 1)) (append-nil gathered.rows.items)
+        (lot_joins s (division_of basis) number gathered.since to (s.end + 1) gathered.rows.items [] is.plan.sound gathers
+        (lot_rest (plan_of basis) number round to first (world_of set part) is.plan low begins past run))
 
 -- ---- rings that stay as they are
 
@@ -92,25 +120,31 @@ same_lines {K} basis before after number peers are = record {
 
 -- ---- the rows that wait
 
-module _ (basis : Basis) (is : IsBasis basis) (number round : ℕ) where
-  pub gathers_none : (gathered : Gathered) → gathered.since ≡ round → gathered.rows.items ≡ [] → GathersUpTo basis number round gathered
-  gathers_none gathered since none =
-      subst (λ from. IsLot basis.setup basis.delay (division_of basis) number from round gathered.rows.items) (sym since)
-      (subst (IsLot basis.setup basis.delay (division_of basis) number round round) (sym none) (lot_none basis.setup is.sound basis.delay (division_of basis) number round))
+module _ (basis : Basis) (is : IsBasis basis) (number : ℕ) where
+  -- as the first round begins none do
+  pub gathers_none : (gathered : Gathered) → gathered.since ≡ 0 → gathered.rows.items ≡ [] → GathersSoFar basis number 0 gathered
+  gathers_none gathered since none = (
+    0,
+    refl,
+    subst (λ from. IsLot basis.setup (division_of basis) number from 0 gathered.rows.items) (sym since)
+        (subst (IsLot basis.setup (division_of basis) number 0 0) (sym none) (lot_none basis.setup (division_of basis) number 0 is.plan.sound zero-le)),
+  )
 
-  pub gathers_still : (before after : Gathered) → after.since ≡ before.since → after.rows.items ≡ before.rows.items → GathersUpTo basis number round before → GathersUpTo basis number round after
-  gathers_still before after since rows gathers =
-      subst (λ from. IsLot basis.setup basis.delay (division_of basis) number from round after.rows.items) (sym since)
-      (subst (IsLot basis.setup basis.delay (division_of basis) number before.since round) (sym rows) gathers)
+  pub gathers_still : (to : ℕ) (before after : Gathered) → after.since ≡ before.since → after.rows.items ≡ before.rows.items → GathersUpTo basis number to before → GathersUpTo basis number to after
+  gathers_still to before after since rows gathers =
+      subst (λ from. IsLot basis.setup (division_of basis) number from to after.rows.items) (sym since)
+      (subst (IsLot basis.setup (division_of basis) number before.since to) (sym rows) gathers)
 
-  -- with those of the round's window they go up to the next
-  pub gathers_more : {Q : Type 0} (set : Q → FinMap key_cmp Event) (ran : Ran Q) (before after : Gathered) → number < basis.deal.parts → HasRanRound set basis number round ran → after.since ≡ before.since
-      → after.rows.items ≡ before.rows.items ++ ran.rows.items → GathersUpTo basis number round before → GathersUpTo basis number (round + 1) after
-  gathers_more set ran before after low has since rows gathers =
+  -- with those of the round's window they go as far as that
+  pub gathers_more : {Q : Type 0} (set : Q → FinMap key_cmp Event) (round : ℕ) (ran : Ran Q) (before after : Gathered) → number < basis.deal.parts → HasRanRound set basis number round ran → after.since ≡ before.since
+      → after.rows.items ≡ before.rows.items ++ ran.rows.items → GathersSoFar basis number round before → GathersUpTo basis number ran.until after
+  gathers_more set round ran before after low has since rows (to, run, gathers) =
       let own : has.window.part < basis.deal.parts = subst (λ n. n < basis.deal.parts) (sym has.own) low in
-      let lot = lot_of_window basis.setup basis.delay (division_of basis) basis.deal.parts round has.window is.sound is.lies is.below own has.runs in
-      let lot_here = subst (IsLot basis.setup basis.delay (division_of basis) number round (round + 1)) has.rows
-      (subst (λ n. IsLot basis.setup basis.delay (division_of basis) n round (round + 1) has.window.rows) has.own lot) in
-      subst (λ from. IsLot basis.setup basis.delay (division_of basis) number from (round + 1) after.rows.items) (sym since)
-      (subst (IsLot basis.setup basis.delay (division_of basis) number before.since (round + 1)) (sym rows)
-      (lot_joins basis.setup is.sound basis.delay (division_of basis) number before.since round (round + 1) before.rows.items ran.rows.items gathers lot_here))
+      let begun = subst (λ n. HasRunTo (plan_of basis) round n to) (sym has.own) run in
+      let goes = subst (λ n. HasRunTo (plan_of basis) (round + 1) n ran.until) (sym has.own) has.to in
+      let lot = lot_of_window (plan_of basis) round to ran.until has.window is.plan own has.runs begun goes in
+      let lot_here = subst (IsLot basis.setup (division_of basis) number to ran.until) has.rows
+      (subst (λ n. IsLot basis.setup (division_of basis) n to ran.until has.window.rows) has.own lot) in
+      subst (λ from. IsLot basis.setup (division_of basis) number from ran.until after.rows.items) (sym since)
+      (subst (IsLot basis.setup (division_of basis) number before.since ran.until) (sym rows)
+      (lot_joins basis.setup (division_of basis) number before.since to ran.until before.rows.items ran.rows.items is.plan.sound gathers lot_here))

@@ -1,5 +1,5 @@
 -- How who writes the rows of a run goes on from turn to turn.
-use Rattle.std.proofs.Common.{◌≡◌, ◌≢◌, ◌+◌, ◌<◌, ◌^◌, ℕ, true, All, List, [], ◌++◌, length, Option, Some, Result, Ok, Err, zero-le, ◌∙◌, sym, subst, refl, arith}
+use Rattle.std.proofs.Common.{◌≡◌, ◌≢◌, ◌+◌, ◌<◌, ℕ, true, All, List, [], ◌++◌, Option, Some, Result, Ok, Err, zero-le, ◌∙◌, sym, subst, arith}
 use Rattle.std.specs.Result.{IfOk, OnOk, IfErr}
 use Rattle.std.specs.Bool.{OnTrue}
 use Rattle.std.proofs.lemmas.Option.{same_Some}
@@ -7,7 +7,7 @@ use Rattle.base.specs.declared.fault.Fault.{Fault}
 use Rattle.base.specs.declared.fault.Fault.TheVariants.{Worn, Write}
 use Rattle.scenario.specs.Setup.{Setup, IsSound}
 use Rattle.trace.specs.declared.row.Row.{Row}
-use Rattle.trace.specs.Text.{NamesMembers, rows_text, trace_text}
+use Rattle.trace.specs.Text.{NamesMembers}
 use Rattle.member.specs.Opening.{opening}
 use Rattle.member_laws.specs.Runs.{IsRunOf, WearsOut}
 use Rattle.turns.specs.Beginning.{BeginsRun}
@@ -27,7 +27,7 @@ use Rattle.rings.proofs.EndingsOfRuns.{breaks_off}
 pub one_basis : (given : Option Basis) (a b : Basis) → given ≡ Some a → given ≡ Some b → a ≡ b
 one_basis given a b x y = same_Some a b (sym x ∙ y)
 
--- The lots of so many workers are those of a run, and its rows before a round were written and tallied; after a fault a beginning of them.
+-- The lots of so many workers are those of a run, and its rows before a moment were written and tallied; after a fault a beginning of them.
 pub record IsWriting (given : Option Basis) (s : Setup) (count since : ℕ) (held_old held_new : Option (List ℕ)) (failed_old failed_new : ℕ) (tallied : List Row) (outcome : Result (Unit {0}) Fault) : Type 0 where
   pub basis : Basis
   pub known : given ≡ Some basis
@@ -50,7 +50,7 @@ begins given s count held_old held_new failed_old failed_new tallied outcome bas
   one = one;
   workers = workers;
   before = [];
-  come = (0, refl, ([], opening basis.setup, opening_before basis.setup 0 (λ q here. zero-le)));
+  come = ([], opening basis.setup, opening_before basis.setup 0 (λ q here. zero-le));
   written = subst (λ l. HasWritten s [] held_old held_new l outcome) (sym none) written;
   failures = failures;
 }
@@ -62,13 +62,13 @@ module _ (given : Option Basis) (s : Setup) (count since : ℕ) (held_old held_n
   takes basis known = subst (λ (b : Basis). IsBasis b × (count ≡ b.deal.parts)) (one_basis given on.basis basis on.known known) (on.sound, on.workers)
 
   is_sound : IsSound s
-  is_sound = subst IsSound (sym on.one) on.sound.sound
+  is_sound = subst IsSound (sym on.one) on.sound.plan.sound
 
-  -- rows up to a round are the first of the run
-  begun : (round : ℕ) (rows : List Row) → HasComeTo on.basis round rows → BeginsRun s rows
-  begun round rows come =
-      let run = some_run on.basis.setup on.sound.sound in
-      subst (λ t. BeginsRun t rows) (sym on.one) (run.0, run.1, beginning_before on.basis.setup on.sound.sound come.0 rows run.0 come.2 run.1)
+  -- rows up to a moment are the first of the run
+  begun : (t : ℕ) (rows : List Row) → HasComeTo on.basis t rows → BeginsRun s rows
+  begun t rows come =
+      let run = some_run on.basis.setup on.sound.plan.sound in
+      subst (λ t. BeginsRun t rows) (sym on.one) (run.0, run.1, beginning_before on.basis.setup on.sound.plan.sound t rows run.0 come run.1)
 
   -- a fault comes by which a worker may end
   pub ends_by : (fault : Fault) → ((basis : Basis) → given ≡ Some basis → MayEndBy basis fault) → KeepsTrace s held_old held_new failed_old failed_new (Err (fault_beside outcome fault))

@@ -1,5 +1,5 @@
 -- What may go over the rings of a run. All that is said of it is a function of what the run goes by.
-use Rattle.std.specs.Prelude.{◌≡◌, ◌≢◌, true, List, map, All, Option, Some, None}
+use Rattle.std.specs.Prelude.{◌≡◌, ◌≢◌, ◌+◌, true, List, map, Option, Some, None}
 use Rattle.base.specs.declared.fault.Fault.{Fault}
 use Rattle.base.specs.declared.fault.Fault.TheVariants as fault
 use Rattle.member.specs.StateOf.{pair_of}
@@ -10,7 +10,7 @@ use Rattle.rings.specs.declared.word.Word.{Word}
 use Rattle.rings.specs.declared.word.Told.{Told}
 use Rattle.rings.specs.declared.lot.Lot.{Lot}
 use Rattle.rings.specs.declared.lot.Delivery.{Delivery}
-use Rattle.round_windows.specs.Basis.{Basis, division_of}
+use Rattle.round_windows.specs.Basis.{Basis, division_of, plan_of}
 
 -- a fault by which a worker may end: it tells of a worn counter only where the run wears one out, and writes nothing
 abbrev pub MayEndBy : Basis → Fault → Type 0
@@ -18,17 +18,18 @@ MayEndBy basis f = (f ≡ fault.Worn → WearsOut basis.setup) × (f ≢ fault.W
 
 -- the word is what the run has there
 abbrev pub IsWord : Basis → Word → Type 0
-IsWord basis w = IsMessage basis.setup basis.delay (division_of basis) w.from w.to w.round (map pair_of w.events.items) w.least
+IsWord basis w = IsMessage (plan_of basis) w.from w.to w.round (map pair_of w.events.items) w.least
 
 -- one worker may tell this another
 abbrev pub IsTold : Basis → Told → Type 0
 IsTold basis (Told.Word w) = IsWord basis w
 IsTold basis (Told.Ended f) = MayEndBy basis f
 
--- the lot's rows are those that the run has there, and where it says so its part has come to the end
+-- The lot's rows are those that the run has there, and where it says so it goes up to the moment after the end, to which its part
+-- has come.
 pub record IsLotOfRun (basis : Basis) (lot : Lot) : Type 0 where
-  pub rows : IsLot basis.setup basis.delay (division_of basis) lot.from lot.since lot.until lot.rows.items
-  pub last : lot.last ≡ true → HasLasted basis.setup basis.delay (division_of basis) lot.from lot.until
+  pub rows : IsLot basis.setup (division_of basis) lot.from lot.since lot.until lot.rows.items
+  pub last : lot.last ≡ true → (lot.until ≡ basis.setup.end + 1) × HasLasted (plan_of basis) lot.from lot.round
 
 -- a worker may deliver this to who writes
 abbrev pub IsDelivered : Basis → Delivery → Type 0

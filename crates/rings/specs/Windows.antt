@@ -1,5 +1,5 @@
 -- What a worker knows in a round.
-use Rattle.std.specs.Prelude.{◌≡◌, ◌≢◌, ℕ, ◌<◌, List, [], map, unwrap_or, Option}
+use Rattle.std.specs.Prelude.{◌≡◌, ◌≢◌, ℕ, ◌+◌, ◌<◌, List, [], map, unwrap_or, Option}
 use Rattle.std.specs.List.{slice_get}
 use Rattle.std.specs.FinMap.{FinMap}
 use Rattle.base.specs.Order.{key_cmp}
@@ -11,11 +11,12 @@ use Rattle.member.specs.StateOf.{pair_of}
 use Rattle.windows.specs.declared.part.Part.{Part}
 use Rattle.windows.specs.Parts.{Window}
 use Rattle.windows.specs.WorldOf.{world_of}
+use Rattle.rounds.specs.Starts.{HasRunTo}
 use Rattle.rounds.specs.Messages.{BeginsRound, IsMessage, IsWindowOfRound, IsLeastAfter}
 use Rattle.rounds.specs.Lots.{IsLot}
 use Rattle.rings.specs.declared.rows.Gathered.{Gathered}
 use Rattle.round_windows.specs.declared.window.Ran.{Ran}
-use Rattle.round_windows.specs.Basis.{Basis, division_of}
+use Rattle.round_windows.specs.Basis.{Basis, division_of, plan_of}
 use Rattle.round_windows.specs.Windows.{AreDealt}
 
 module _ {Q : Type 0} (set : Q → FinMap key_cmp Event) where
@@ -23,8 +24,9 @@ module _ {Q : Type 0} (set : Q → FinMap key_cmp Event) where
   pub record HasRanRound (basis : Basis) (number round : ℕ) (ran : Ran Q) : Type 0 where
     pub window : Window State Content Row
     pub own : window.part ≡ number
-    pub runs : IsWindowOfRound basis.setup basis.delay (division_of basis) round window
+    pub runs : IsWindowOfRound (plan_of basis) round window
     pub after : window.after ≡ world_of set ran.part
+    pub to : HasRunTo (plan_of basis) (round + 1) number ran.until
     pub rows : window.rows ≡ ran.rows.items
     pub out : List Event
     pub sent : window.out ≡ map pair_of out
@@ -35,19 +37,23 @@ module _ {Q : Type 0} (set : Q → FinMap key_cmp Event) where
   pub record AfterWindow (basis : Basis) (number round : ℕ) (least : Option ℕ) (part : Part Q) : Type 0 where
     pub window : Window State Content Row
     pub own : window.part ≡ number
-    pub runs : IsWindowOfRound basis.setup basis.delay (division_of basis) round window
+    pub runs : IsWindowOfRound (plan_of basis) round window
     pub after : window.after ≡ world_of set part
     pub least_is : IsLeastAfter window least
 
   -- the part of that number begins the round, and this is the first moment that pends anywhere
   abbrev pub Begins : Basis → ℕ → ℕ → Option ℕ → Part Q → Type 0
-  Begins basis number round first part = BeginsRound basis.setup basis.delay (division_of basis) number round first (world_of set part)
+  Begins basis number round first part = BeginsRound (plan_of basis) number round first (world_of set part)
 
 -- what a worker tells each other of the round: the list of its events, and the least moment
 abbrev pub CanTell : Basis → ℕ → ℕ → Option ℕ → List (List Event) → Type 0
 CanTell basis own round least lists = (to : ℕ) → to < basis.deal.parts → to ≢ own
-    → IsMessage basis.setup basis.delay (division_of basis) own to round (map pair_of (unwrap_or (slice_get lists to) [])) least
+    → IsMessage (plan_of basis) own to round (map pair_of (unwrap_or (slice_get lists to) [])) least
 
--- the rows of the part of that number since its last lot, before the round
+-- the rows of the part of that number since its last lot, before the moment
 abbrev pub GathersUpTo : Basis → ℕ → ℕ → Gathered → Type 0
-GathersUpTo basis number round gathered = IsLot basis.setup basis.delay (division_of basis) number gathered.since round gathered.rows.items
+GathersUpTo basis number to gathered = IsLot basis.setup (division_of basis) number gathered.since to gathered.rows.items
+
+-- up to where the part has run as the round begins
+abbrev pub GathersSoFar : Basis → ℕ → ℕ → Gathered → Type 0
+GathersSoFar basis number round gathered = (to : ℕ) × HasRunTo (plan_of basis) round number to × GathersUpTo basis number to gathered

@@ -5,17 +5,21 @@ use Rattle.base.specs.declared.fault.Fault.{Fault}
 use Rattle.trace.specs.declared.row.Row.{Row}
 use Rattle.member_laws.specs.Runs.{IsRunOf, WearsOut}
 use Rattle.rounds.specs.Before.{AreRowsBefore}
-use Rattle.rounds.specs.Starts.{IsRoundStart}
 use Rattle.gates.specs.Faults.{first_of}
+use Rattle.rings.specs.declared.lot.Lot.{Lot}
 use Rattle.rings.specs.declared.lots.Turn.{Turn}
 use Rattle.rings.specs.declared.writer.Writer.{Writer}
 use Rattle.round_windows.specs.Basis.{Basis, IsBasis}
 
--- these rows are those of the run before the round
+-- these rows are those of the run before the moment
 abbrev pub HasComeTo : Basis → ℕ → List Row → Type 0
-HasComeTo basis round rows = (start : ℕ) × IsRoundStart basis.setup basis.delay round start × AreRowsBefore basis.setup start rows
+HasComeTo basis t rows = AreRowsBefore basis.setup t rows
 
--- The turn's rows are the next of the run, from that round on; where it is the last, they are the rest, and no counter was worn out.
+-- the lot goes as far as the turn, and was sent before the same round
+abbrev pub GoesAsFar : Lot → Turn → Type 0
+GoesAsFar lot turn = (lot.until ≡ turn.until) × (lot.round ≡ turn.round) × (lot.last ≡ turn.last)
+
+-- The turn's rows are the next of the run, from that moment on; where it is the last, they are the rest, and no counter was worn out.
 pub record IsNextTurn (basis : Basis) (since : ℕ) (turn : Turn) : Type 0 where
   pub next : (before : List Row) → HasComeTo basis since before → HasComeTo basis turn.until (before ++ turn.rows.items)
   pub whole : OnTrue turn.last ((before : List Row) → HasComeTo basis since before → IsRunOf basis.setup (before ++ turn.rows.items))

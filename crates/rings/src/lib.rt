@@ -1,5 +1,5 @@
 //! Runs of a scenario by rings: each thread keeps a part of the cluster, and once a round it tells each other what went
-//! out of its window and the first moment that is left; so all know how far the next round goes, with no driver. The
+//! out of its window and the first moment that is left; so each knows how far its next window goes, with no driver. The
 //! calling thread writes.
 #![tactic(auto)]
 

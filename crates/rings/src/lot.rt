@@ -1,4 +1,4 @@
-use base::Fault;
+use base::{Fault, Moment};
 use trace::Row;
 
 /// Rows of a part, on their way to who writes them.
@@ -6,10 +6,12 @@ use trace::Row;
 pub struct Lot {
     /// The part.
     pub from: usize,
-    /// They are of the rounds from this one on.
-    pub since: u64,
+    /// They are from this moment on.
+    pub since: Moment,
     /// And before this one.
-    pub until: u64,
+    pub until: Moment,
+    /// The round before which they are sent.
+    pub round: u64,
     /// The rows, in the order made.
     pub rows: Vec<Row>,
     /// Whether nothing is left to happen after them.

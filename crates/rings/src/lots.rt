@@ -4,14 +4,14 @@ ghost use Rattle.std.specs.Bool.{OnTrue};
 ghost use Rattle.std.specs.List.Sorted.{IsPermutation, IsSorted};
 ghost use Rattle.round_windows.specs.Basis.{Basis, IsBasis};
 ghost use Rattle.rings.specs.Telling.{MayEndBy, IsLotOfRun};
-ghost use Rattle.rings.specs.Writing.{IsNextTurn};
+ghost use Rattle.rings.specs.Writing.{IsNextTurn, GoesAsFar};
 
 use crate::lot::{Delivery, Lot};
 use crate::of_run::OfRun;
 use crate::patience::Patience;
 use crate::protocols::Lots;
 use crate::ring::Taker;
-use base::{Fault, Memory};
+use base::{Fault, Memory, Moment};
 use gates::first_of;
 use std::alloc::Global;
 use std::sync::Wait;
@@ -26,12 +26,14 @@ pub(crate) struct LotTaker<'b, K: OfRun> {
     is_open: bool,
 }
 
-/// The rows of all parts of some rounds, in row order.
+/// The rows of all parts from one moment up to another, in row order.
 #[derive(Drop)]
 pub(crate) struct Turn {
     pub(crate) rows: Vec<Row>,
-    /// The round before which they are.
-    pub(crate) until: u64,
+    /// The moment before which they are.
+    pub(crate) until: Moment,
+    /// The round before which they were sent.
+    pub(crate) round: u64,
     /// Whether nothing is left to happen after them.
     pub(crate) last: bool,
 }
@@ -85,16 +87,16 @@ impl<'b, K: OfRun> LotTaker<'b, K> {
     }
 }
 
-/// The rows of all parts of the next rounds, in row order.
+/// The next rows of all parts, from that moment on, in row order.
 ///
-/// Faults: `Memory`, those by which workers ended, `Relay` where the lots are not of the same
-/// rounds.
+/// Faults: `Memory`, those by which workers ended, `Relay` where the lots do not go as far, or were
+/// not sent before the same round.
 pub(crate) fn next_turn<'b, K: OfRun>(
     rt: &impl Wait,
     alloc: Global,
     takers: &mut Vec<LotTaker<'b, K>>,
     patience: &mut Patience,
-    since: u64,
+    since: Moment,
 ) -> Result<Turn, Fault>
     requires all { (basis : Basis) → K.basis ≡ Some basis → IsBasis basis × (length takers.old.items ≡ basis.deal.parts) }
     ensures count { length takers.new.items ≡ length takers.old.items }
@@ -104,6 +106,7 @@ pub(crate) fn next_turn<'b, K: OfRun>(
     let mut all = Turn {
         rows: Vec::new(alloc),
         until: since,
+        round: 0,
         last: false,
     };
     for (number, taker) in takers.iter_mut().enumerate() {
@@ -117,31 +120,44 @@ pub(crate) fn next_turn<'b, K: OfRun>(
     Ok(all)
 }
 
-/// Whether the lot is of the part of that number, and of the rounds from that one on, as far as
-/// those of the parts before it.
-fn fits(lot: &Lot, number: usize, since: u64, so_far: &Turn) -> bool
-    ensures { OnTrue result ((lot.now.from ≡ number) × (lot.now.since ≡ since) × (number ≢ 0 → (lot.now.until ≡ so_far.now.until) × (lot.now.last ≡ so_far.now.last))) }
+/// Whether the lot is of the part of that number and from that moment on, and goes as far as those of
+/// the parts before it.
+fn fits(lot: &Lot, number: usize, since: Moment, so_far: &Turn) -> bool
+    ensures { OnTrue result ((lot.now.from ≡ number) × (lot.now.since ≡ since) × (number ≢ 0 → GoesAsFar lot.now so_far.now)) }
 {
     if lot.from != number || lot.since != since {
         return false;
     }
-    number == 0 || (lot.until == so_far.until && lot.last == so_far.last)
+    number == 0 || goes_as_far(lot, so_far)
+}
+
+/// Whether the lot goes as far as the turn so far, and was sent before the same round.
+fn goes_as_far(lot: &Lot, so_far: &Turn) -> bool
+    ensures { OnTrue result (GoesAsFar lot.now so_far.now) }
+{
+    lot.until == so_far.until && lot.round == so_far.round && lot.last == so_far.last
 }
 
 /// The rows so far, and those of one more lot.
 fn with_lot(so_far: Turn, lot: Lot) -> Result<Turn, Memory>
-    ensures { IfOk result (λ turn. (turn.rows.items ≡ so_far.rows.items ++ lot.rows.items) × (turn.until ≡ lot.until) × (turn.last ≡ lot.last)) }
+    ensures { IfOk result (λ turn. (turn.rows.items ≡ so_far.rows.items ++ lot.rows.items) × (turn.until ≡ lot.until) × (turn.round ≡ lot.round) × (turn.last ≡ lot.last)) }
 {
     let Turn { rows, .. } = so_far;
     let mut rows = rows;
     let Lot {
         rows: more,
         until,
+        round,
         last,
         ..
     } = lot;
     join(&mut rows, more)?;
-    Ok(Turn { rows, until, last })
+    Ok(Turn {
+        rows,
+        until,
+        round,
+        last,
+    })
 }
 
 /// Sorts rows into row order.

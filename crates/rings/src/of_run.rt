@@ -1,7 +1,7 @@
 use std::marker::Brand;
 
 /// Of which run a ring is. A type parameter of this kind stands for the scenario, the division and
-/// the delay between parts that were given where the ring was made, which a call picks
+/// the ways into its parts that were given where the ring was made, which a call picks
 /// (`std::marker::Brand`).
 pub trait OfRun {
     ghost use Rattle.std.specs.Prelude.{Option};

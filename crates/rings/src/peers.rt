@@ -3,7 +3,7 @@ ghost use Rattle.std.specs.Prelude.{◌≡◌, ◌≢◌, ℕ, ◌+◌, ◌<◌,
 ghost use Rattle.std.specs.List.{slice_get};
 ghost use Rattle.member.specs.StateOf.{pair_of};
 ghost use Rattle.rounds.specs.Messages.{IsMessage};
-ghost use Rattle.round_windows.specs.Basis.{Basis, division_of};
+ghost use Rattle.round_windows.specs.Basis.{Basis, plan_of};
 ghost use Rattle.rings.specs.Peers.{AreOthers, AreJoined, numbers_of};
 ghost use Rattle.rings.specs.Telling.{MayEndBy, IsWord};
 
@@ -102,7 +102,7 @@ impl<'b, K: OfRun> Peer<'b, K> {
         telling: &Telling,
         out: &mut Vec<Vec<Event>>,
     ) -> bool
-        requires known { (basis : Basis) → K.basis ≡ Some basis → IsMessage basis.setup basis.delay (division_of basis) telling.now.from self.old.number telling.now.round
+        requires known { (basis : Basis) → K.basis ≡ Some basis → IsMessage (plan_of basis) telling.now.from self.old.number telling.now.round
             (map pair_of (unwrap_or (slice_get (map (λ list. list.items) out.old.items) self.old.number) [])) telling.now.least }
         ensures number { self.new.number ≡ self.old.number }
         ensures others { (i : ℕ) → i ≢ self.old.number → slice_get out.new.items i ≡ slice_get out.old.items i }

@@ -1,8 +1,11 @@
 //! The rows of a part that wait to be sent to who writes.
-ghost use Rattle.std.specs.Prelude.{◌≡◌, [], ◌++◌, OnOk};
+ghost use Rattle.std.specs.Prelude.{◌≡◌, ◌<◌, ◌≤◌, [], ◌++◌, length, take, drop, max, OnOk, IfOk};
+ghost use Rattle.std.specs.List.{AllByRecursion};
+ghost use Rattle.base.specs.Rising.{IsRising};
+ghost use Rattle.trace.specs.declared.row.Row.{Row as ARow};
 
 use crate::lot::Lot;
-use base::Memory;
+use base::{Memory, Moment};
 use std::alloc::Global;
 use std::mem;
 use trace::Row;
@@ -10,13 +13,13 @@ use trace::Row;
 /// Once all parts have written so many rows since their last lots, each sends one.
 const ROWS_OF_LOTS: u64 = 2_048;
 
-/// Rows of a part since its last lot.
+/// Rows of a part that were in no lot yet.
 #[derive(Drop)]
 pub(crate) struct Gathered {
-    /// They are of the rounds from this one on.
-    since: u64,
+    /// They are from this moment on.
+    since: Moment,
     rows: Vec<Row>,
-    /// How many rows all parts have written in these rounds.
+    /// How many rows all parts have written since their last lots.
     count: u64,
 }
 
@@ -27,7 +30,7 @@ impl Gathered {
         ensures none { result.rows.items ≡ [] }
     {
         Gathered {
-            since: 0,
+            since: Moment(0),
             rows: Vec::new(alloc),
             count: 0,
         }
@@ -55,25 +58,47 @@ impl Gathered {
         self.count >= ROWS_OF_LOTS
     }
 
-    /// The lot of the rows before that round, which leave.
-    pub(crate) fn lot(&mut self, alloc: Global, from: usize, until: u64, last: bool) -> Lot
-        ensures from { result.from ≡ from }
-        ensures rounds { (result.since ≡ self.old.since) × (result.until ≡ until) }
-        ensures rows { result.rows.items ≡ self.old.rows.items }
-        ensures last { result.last ≡ last }
-        ensures since { self.new.since ≡ until }
-        ensures none { self.new.rows.items ≡ [] }
+    /// The lot of the rows before a moment, sent before that round. They leave, the later ones stay. No
+    /// lot goes back behind the one before it.
+    pub(crate) fn lot(
+        &mut self,
+        from: usize,
+        until: Moment,
+        round: u64,
+        last: bool,
+    ) -> Result<Lot, Memory>
+        requires rising { IsRising (λ (a b : ARow). a.at ≤ b.at) self.old.rows.items }
+        ensures from { IfOk result (λ lot. lot.from ≡ from) }
+        ensures moments { IfOk result (λ lot. (lot.since ≡ self.old.since) × (lot.until ≡ max until self.old.since)) }
+        ensures round { IfOk result (λ lot. lot.round ≡ round) }
+        ensures last { IfOk result (λ lot. lot.last ≡ last) }
+        ensures rows { IfOk result (λ lot. lot.rows.items ++ self.new.rows.items ≡ self.old.rows.items) }
+        ensures before { IfOk result (λ lot. AllByRecursion (λ (row : ARow). row.at < lot.until) lot.rows.items) }
+        ensures later { IfOk result (λ lot. AllByRecursion (λ (row : ARow). lot.until ≤ row.at) self.new.rows.items) }
+        ensures since { IfOk result (λ lot. self.new.since ≡ lot.until) }
     {
-        let rows = mem::replace(&mut self.rows, Vec::new(alloc));
-        let since = self.since;
-        self.since = until;
+        let until = until.max(self.since);
+        let later = self.rows.split_off(count_before(&self.rows, until))?;
+        let rows = mem::replace(&mut self.rows, later);
+        let since = mem::replace(&mut self.since, until);
         self.count = 0;
-        Lot {
+        Ok(Lot {
             from,
             since,
             until,
+            round,
             rows,
             last,
-        }
+        })
     }
+}
+
+/// How many of these rows are before the moment.
+fn count_before(rows: &[Row], until: Moment) -> usize
+    requires rising { IsRising (λ (a b : ARow). a.at ≤ b.at) rows.now }
+    ensures few { result ≤ length rows.now }
+    ensures before { AllByRecursion (λ (row : ARow). row.at < until) (take result rows.now) }
+    ensures later { AllByRecursion (λ (row : ARow). until ≤ row.at) (drop result rows.now) }
+{
+    rows.partition_point(|row| row.at.ticks() < until.ticks())
 }

@@ -26,7 +26,7 @@ use outputs::{
     end_tallied,
 };
 use reports::Tallies;
-use round_windows::{Rounds, first_of, lesser, round_length, rounds_of};
+use round_windows::{Rounds, first_of, lesser, rounds_of, ways_into};
 use scenario::{Division, Scenario};
 use std::alloc::Global;
 use std::marker::{Brand, Sync};
@@ -140,8 +140,8 @@ fn run_into<T: TakeRows<P>, P, G: Gate, R: Threads + Wait + Sync>(
     let cluster = Cluster { scenario, links };
     let parts = open_wheels(alloc, scenario, division)?;
     let walks = horizons(alloc, cluster, division)?;
-    let ticks = round_length(scenario, &walks);
-    let rounds = &rounds_of(cluster, division, ticks);
+    let ways = ways_into(alloc, scenario, &walks)?;
+    let rounds = &rounds_of(cluster, division, &ways);
     by_workers::<T, P, WheelQueue<Event>, G, Brand, R>(rt, alloc, parts, rounds, gate, place)
 }
 

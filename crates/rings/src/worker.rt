@@ -1,12 +1,12 @@
 //! A worker of a run: it keeps a part from the first round to the last.
-ghost use Rattle.std.specs.Prelude.{◌≡◌, ℕ, ◌+◌, ◌<◌, ◌≤◌, true, Some, None, OnOk, IfOk, IfErr, IfSome, IfNone};
+ghost use Rattle.std.specs.Prelude.{◌≡◌, ◌⊎◌, ℕ, ◌+◌, ◌<◌, ◌≤◌, true, Some, None, OnOk, IfOk, IfErr, IfSome, IfNone};
 ghost use Rattle.std.specs.Bool.{OnTrue};
 ghost use Rattle.rounds.specs.Starts.{IsUpTo};
 ghost use Rattle.rounds.specs.Lots.{HasLasted};
-ghost use Rattle.round_windows.specs.Basis.{Basis, IsBasis, basis_of, division_of, GoBy};
+ghost use Rattle.round_windows.specs.Basis.{Basis, IsBasis, basis_of, plan_of, GoBy};
 ghost use Rattle.rings.specs.Peers.{AreLines};
 ghost use Rattle.rings.specs.Telling.{MayEndBy};
-ghost use Rattle.rings.specs.Windows.{Begins, GathersUpTo, HasRanRound};
+ghost use Rattle.rings.specs.Windows.{Begins, GathersUpTo, GathersSoFar, HasRanRound};
 
 use crate::exchange::{Heard, hear_all, tell_all};
 use crate::lot::Delivery;
@@ -92,17 +92,19 @@ fn run_rounds<'b, K: OfRun, Q: EventQueue<Event> + Drop, G: Gate>(
     let mut round = 0;
     for _ in rt.forever() {
         let Some(from) = in_time(first, rounds.end) else {
-            return lines.send_lot(rt, alloc, &mut gathered, round, true);
+            let until = Moment(rounds.end.ticks() + 1);
+            return lines.send_lot(rt, &mut gathered, until, round, true);
         };
         gate.enter(lines.number, round + 1, lines.number);
-        let bound = round_bound(from, rounds.end, rounds.least_delay);
+        let bound = round_bound(from, rounds.end, rounds.ways[lines.number]);
         let came = run_window(alloc, part, bound, rounds)?;
         let (after, heard) = lines.exchange(rt, alloc, &mut patience, round, came, &mut gathered)?;
         part = after;
         first = heard.first;
         round += 1;
         if gathered.are_enough(heard.rows) {
-            lines.send_lot(rt, alloc, &mut gathered, round, false)?;
+            let until = round_bound(from, rounds.end, rounds.shortest);
+            lines.send_lot(rt, &mut gathered, until, round, false)?;
         }
     }
     unreachable!()
@@ -136,11 +138,11 @@ impl<'b, K: OfRun> Lines<'b, K> {
         requires basis { (basis : Basis) → K.basis ≡ Some basis → IsBasis basis }
         requires lines { (basis : Basis) → K.basis ≡ Some basis → AreLines basis self.old }
         requires came { (basis : Basis) → K.basis ≡ Some basis → HasRanRound Q.set basis self.old.number round came }
-        requires gathered { (basis : Basis) → K.basis ≡ Some basis → GathersUpTo basis self.old.number round gathered.old }
+        requires gathered { (basis : Basis) → K.basis ≡ Some basis → GathersSoFar basis self.old.number round gathered.old }
         ensures lines { (basis : Basis) → K.basis ≡ Some basis → AreLines basis self.new }
         ensures own { self.new.number ≡ self.old.number }
         ensures next { IfOk result (λ r. (basis : Basis) → K.basis ≡ Some basis → Begins Q.set basis self.old.number (round + 1) r.1.first r.0) }
-        ensures gathered { OnOk result ((basis : Basis) → K.basis ≡ Some basis → GathersUpTo basis self.old.number (round + 1) gathered.new) }
+        ensures gathered { OnOk result ((basis : Basis) → K.basis ≡ Some basis → GathersUpTo basis self.old.number came.until gathered.new) }
         ensures fault { IfErr result (λ fault. (basis : Basis) → K.basis ≡ Some basis → MayEndBy basis fault) }
     {
         let Ran {
@@ -148,6 +150,7 @@ impl<'b, K: OfRun> Lines<'b, K> {
             mut out,
             least,
             rows,
+            ..
         } = came;
         let telling = Telling {
             from: self.number,
@@ -161,23 +164,26 @@ impl<'b, K: OfRun> Lines<'b, K> {
         Ok((part, heard))
     }
 
-    /// Sends the rows before a round to who writes.
+    /// Sends to who writes, before a round, the rows before a moment.
     fn send_lot(
         &mut self,
         rt: &impl Wait,
-        alloc: Global,
         gathered: &mut Gathered,
-        until: u64,
+        until: Moment,
+        round: u64,
         last: bool,
     ) -> Result<(), Fault>
-        requires gathered { (basis : Basis) → K.basis ≡ Some basis → GathersUpTo basis self.old.number until gathered.old }
-        requires lasted { OnTrue last ((basis : Basis) → K.basis ≡ Some basis → HasLasted basis.setup basis.delay (division_of basis) self.old.number until) }
+        requires run { (basis : Basis) × (K.basis ≡ Some basis) }
+        requires basis { (basis : Basis) → K.basis ≡ Some basis → IsBasis basis }
+        requires gathered { (basis : Basis) → K.basis ≡ Some basis → (to : ℕ) × (until ≤ to) × GathersUpTo basis self.old.number to gathered.old }
+        requires lasted { OnTrue last ((basis : Basis) → K.basis ≡ Some basis → (until ≡ basis.setup.end + 1) × HasLasted (plan_of basis) self.old.number round) }
         ensures own { self.new.number ≡ self.old.number }
         ensures peers { self.new.peers ≡ self.old.peers }
-        ensures gathered { (basis : Basis) → K.basis ≡ Some basis → IsBasis basis → GathersUpTo basis self.old.number until gathered.new }
-        ensures fault { IfErr result (λ fault. fault ≡ Fault.Relay) }
+        ensures gathered { OnOk result ((basis : Basis) (to : ℕ) → K.basis ≡ Some basis → until ≤ to → GathersUpTo basis self.old.number to gathered.old
+            → GathersUpTo basis self.old.number to gathered.new) }
+        ensures fault { IfErr result (λ fault. (fault ≡ Fault.Memory) ⊎ (fault ≡ Fault.Relay)) }
     {
-        let lot = gathered.lot(alloc, self.number, until, last);
+        let lot = gathered.lot(self.number, until, round, last)?;
         if self.lots.send(rt, Delivery::Lot(lot)) {
             return Ok(());
         }

@@ -7,7 +7,7 @@ ghost use Rattle.rings.specs.Writing.{MayWrite, fault_beside};
 use crate::lots::{LotTaker, drained, next_turn};
 use crate::of_run::OfRun;
 use crate::patience::Patience;
-use base::Fault;
+use base::{Fault, Moment};
 use gates::first_of;
 use outputs::{TakeRows, take_on};
 use reports::Tallies;
@@ -50,7 +50,7 @@ pub(crate) fn write_all<'r, 'b, T: TakeRows<P>, P, K: OfRun, R: Wait>(
     } = writer;
     let mut patience = Patience::short();
     let mut so_far = T::begin(place);
-    let mut since = 0;
+    let mut since = Moment(0);
     for _ in rt.forever() {
         let turn = match next_turn(rt, alloc, &mut takers, &mut patience, since) {
             Ok(turn) => turn,

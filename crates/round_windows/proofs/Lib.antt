@@ -1,3 +1,5 @@
 mod Least
 mod Walking
 mod Dealing
+pub mod Places
+mod Ways

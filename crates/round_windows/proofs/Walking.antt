@@ -1,17 +1,14 @@
--- The least of the walks between pairs of parts, and that it lies between the parts.
-use Rattle.std.proofs.Common.{◌≡◌, ◌≢◌, ℕ, ◌+◌, ◌<◌, ◌≤◌, ◌⊎◌, inl, inr, min, [], Option, Some, None, IfSome, IfNone, refl, sym, subst, arith}
+-- The least of the walks between pairs of parts, and how long those into a part are at least.
+use Rattle.std.proofs.Common.{◌≡◌, ℕ, ◌+◌, ◌<◌, ◌≤◌, ◌⊎◌, inl, inr, min, Option, Some, None, IfSome, IfNone, refl, sym, subst, arith}
 use Rattle.std.specs.Option.{option_map_or}
 use Rattle.std.proofs.lemmas.Bool.{cases_lt}
 use Rattle.scenario.specs.Setup.{Setup, IsSound, member_count}
-use Rattle.scenario.specs.Division.{Deal}
 use Rattle.links.specs.Least.{lesser_of}
 use Rattle.windows.specs.Cluster.{IsPeopled}
 use Rattle.windows.specs.Horizon.{Walk, length_of}
-use Rattle.horizons.specs.Between.{part_number, IsLeastBetween}
+use Rattle.horizons.specs.Between.{IsLeastBetween}
 use Rattle.horizons.specs.Walks.{Table, AreWalksOf, IsLengthOfAWalk, IsNoLonger}
-use Rattle.turns.specs.Bounds.{AreHorizonsOf}
-use Rattle.rounds.specs.Starts.{LiesBetweenParts}
-use Rattle.round_windows.specs.Walks.{IsLeastAmong, IsLeastWalkAmong, IsFrom, AreBelow}
+use Rattle.round_windows.specs.Walks.{IsLeastAmong, IsLeastWalkAmong, IsFrom, IsInto, AreBelow}
 
 module _ (HasMembers : ℕ → Type 0) (between : ℕ → ℕ → ℕ) where
   abbrev Least : (ℕ → ℕ → Type 0) → Option ℕ → Type 0
@@ -90,42 +87,39 @@ module _ (table : Table) where
       (λ p q among. (omega (arith, among.0), among.1)) (λ p q is. (omega (arith, is.0), is.1))
       least here (so_far s division between are) (next s division between are)
 
--- ---- what lies between the parts
+  -- the walks from one part more into one
+  pub into_one_more : (from to : ℕ) (least here : Option ℕ) → IsLeastWalkAmong table (IsInto from to) least
+      → Always (λ HasMembers between. IfSome here (IsLengthOfAWalk HasMembers between from to)) → Always (λ HasMembers between. IfSome here (IsNoLonger HasMembers between from to))
+      → Always (λ HasMembers between. IfNone here (¬ (Walk HasMembers from to))) → IsLeastWalkAmong table (IsInto (from + 1) to) (lesser_of least here)
+  into_one_more from to least here so_far walked fewer none = λ s division between are.
+      of_all (IsPeopled s division) between (IsInto from to) (IsPair (IsPeopled s division) between from to) (IsInto (from + 1) to)
+      (λ p q among. elim (cases_lt p from) as (λ _. IsInto from to p q ⊎ ((p ≡ from) × (q ≡ to))) [ inl a ↦ inl (a, among.1) | inr b ↦ inr (omega (arith, among.0, b), among.1) ])
+      (λ p q among. (omega (arith, among.0), among.1)) (λ p q is. (omega (arith, is.0), is.1))
+      least here (so_far s division between are)
+      (of_pair (IsPeopled s division) between from to here (walked s division between are) (fewer s division between are) (none s division between are))
+
+-- ---- the ways into the parts
 
 module _ (s : Setup) (division : ℕ → ℕ) (between : ℕ → ℕ → ℕ) (sound : IsSound s) (near : IsLeastBetween s division between) where
   abbrev HasMembers : ℕ → Type 0
   HasMembers = IsPeopled s division
 
   -- each link takes a tick at least, so each walk does
-  walk_lasts : (from to n : ℕ) → IsLengthOfAWalk HasMembers between from to n → 0 < n
+  pub walk_lasts : (from to n : ℕ) → IsLengthOfAWalk HasMembers between from to n → 0 < n
   walk_lasts from to n (walk, is) =
       let first = near.reached from walk.next walk.apart.0 walk.begins walk.apart.1 in
       let delay = (sound.between first.0 first.1).delay in
       omega (arith, delay.0, first.6, is)
 
-  module _ (parts : ℕ) (below : (m : ℕ) → m < member_count s → division m < parts) (most : ℕ) (some : 0 < most) where
-    abbrev All : ℕ → ℕ → Type 0
-    All = AreBelow parts parts
+  module _ (parts to most : ℕ) (below : (m : ℕ) → m < member_count s → division m < parts) where
+    -- no walk into a part is shorter than the least of all, also where that is cut
+    pub none_shorter : (least : Option ℕ) → IsLeastAmong HasMembers between (IsInto parts to) least → (from : ℕ) (walk : Walk HasMembers from to) → option_map_or (λ d. min d most) least most ≤ length_of between walk
+    none_shorter None none from walk = let (m, low, is) = walk.begins in absurd (none from to (subst (λ p. p < parts) is (below m low), refl) walk)
+    none_shorter (Some d) (reached, fewer) from walk =
+        let (m, low, is) = walk.begins in
+        let few = fewer from to (subst (λ p. p < parts) is (below m low), refl) walk in
+        omega arith
 
-    -- a link between members of different parts is a walk
-    link : (i j : ℕ) → i < member_count s → j < member_count s → division i ≢ division j → Walk HasMembers (division i) (division j)
-    link i j here there apart = record { next = division j; rest = []; begins = (i, here, refl); apart = (apart, (j, there, refl), tt); ends = refl }
-
-    -- the least of all walks is no more than any such link
-    lies_between : (least : Option ℕ) → IsLeastAmong HasMembers between All least → LiesBetweenParts s division (Some (option_map_or (λ d. min d most) least most))
-    unfolding link
-    lies_between None none = (some, λ i j here there apart. absurd (none (division i) (division j) (below i here, below j there) (link i j here there apart)))
-    lies_between (Some d) (reached, fewer) = (
-      (let lasts = walk_lasts reached.0 reached.1 d reached.3 in omega arith),
-      λ i j here there apart.
-          let few = fewer (division i) (division j) (below i here, below j there) (link i j here there apart) in
-          let lies = near.lies i j here there apart in
-          omega arith,
-    )
-
--- so does a round's length, which is no more than the least of all walks
-pub round_lies : (s : Setup) → IsSound s → (deal : Deal) (table : Table) → ((m : ℕ) → m < member_count s → part_number deal m < deal.parts) → AreHorizonsOf table s deal → (most : ℕ) → 0 < most
-    → (least : Option ℕ) → IsLeastWalkAmong table (AreBelow table.parts table.parts) least → LiesBetweenParts s (part_number deal) (Some (option_map_or (λ d. min d most) least most))
-round_lies s sound deal table below horizons most some least walk =
-    let within : (m : ℕ) → m < member_count s → part_number deal m < table.parts = λ m low. let under = below m low in omega (arith, horizons.parts) in
-    lies_between s (part_number deal) horizons.between sound horizons.least table.parts within most some least (walk s (part_number deal) horizons.between horizons.walks)
+    pub some_ticks : (least : Option ℕ) → IsLeastAmong HasMembers between (IsInto parts to) least → 0 < most → 0 < option_map_or (λ d. min d most) least most
+    some_ticks None none some = some
+    some_ticks (Some d) (reached, fewer) some = let lasts = walk_lasts reached.0 reached.1 d reached.3 in omega arith

@@ -1,5 +1,6 @@
 -- The least of all walks, and how many ticks a round has.
-use Rattle.std.specs.Prelude.{◌≡◌, ℕ, ◌*◌, ◌/◌, ◌<◌, min, max, Option, Some, None}
+use Rattle.std.specs.Prelude.{◌≡◌, ℕ, ◌*◌, ◌/◌, ◌<◌, min, max, List, Option, Some, None}
+use Rattle.std.specs.List.{slice_get}
 use Rattle.std.specs.Option.{option_map_or}
 use Rattle.scenario.specs.Setup.{Setup, member_count}
 use Rattle.windows.specs.Cluster.{IsPeopled}
@@ -24,11 +25,20 @@ IsFrom part below from to = (from ≡ part) × (to < below)
 abbrev pub AreBelow : ℕ → ℕ → ℕ → ℕ → Type 0
 AreBelow below parts from to = (from < below) × (to < parts)
 
+-- the pairs of the parts below a number and one part
+abbrev pub IsInto : ℕ → ℕ → ℕ → ℕ → Type 0
+IsInto below part from to = (from < below) × (to ≡ part)
+
 -- In how many ticks the members are likely to handle as many events as a round is to have at most, where each pings another
 -- one each period and is answered; one at least.
 abbrev pub likely_ticks : Setup → ℕ
 likely_ticks s = max (8192 * s.swim.period / (member_count s * 2)) 1
 
--- the ticks of a round: as many as the least walk has, where there is one, and no more than are likely to have so many events
+-- how many ticks a part's window goes past the first moment: as many as the least walk into it has, where there is one, and no
+-- more than are likely to have so many events
 abbrev pub round_ticks : Setup → Option ℕ → ℕ
 round_ticks s least = option_map_or (λ length. min length (likely_ticks s)) least (likely_ticks s)
+
+-- the ways into the parts of that table
+abbrev pub AreRoundWays : Setup → Table → List ℕ → Type 0
+AreRoundWays s table ways = (part way : ℕ) → slice_get ways part ≡ Some way → (least : Option ℕ) × IsLeastWalkAmong table (IsInto table.parts part) least × (way ≡ round_ticks s least)

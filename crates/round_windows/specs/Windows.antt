@@ -27,6 +27,7 @@ IsLeastOf p out least = (t : ℕ) → (NoneIsBelow p.pending t × AllByRecursion
 -- the window of this part below the bound gave that
 pub record HasRan {Q : Type 0} (set : Q → FinMap key_cmp Event) (basis : Basis) (bound : ℕ) (before : Cluster) (ran : Ran Q) : Type 0 where
   pub out : List Event
+  pub until : ran.until ≡ bound
   pub window : RunsWindow basis.setup bound before out ran.rows.items (world_of set ran.part)
   pub dealt : AreDealt (division_of basis) basis.deal.parts out (map (λ list. list.items) ran.out.items)
   pub least : IsLeastOf (world_of set ran.part) out ran.least

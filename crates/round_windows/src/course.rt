@@ -1,8 +1,9 @@
-ghost use Rattle.std.specs.Prelude.{◌≡◌, ◌<◌, length, Some};
+ghost use Rattle.std.specs.Prelude.{◌≡◌, ◌↔◌, ◌<◌, ◌≤◌, ◌^◌, ℕ, length};
+ghost use Rattle.std.specs.List.{AllByRecursion};
 ghost use Rattle.scenario.specs.Setup.{member_count};
 ghost use Rattle.horizons.specs.Between.{part_number};
-ghost use Rattle.rounds.specs.Starts.{LiesBetweenParts};
-ghost use Rattle.round_windows.specs.Basis.{GoBy};
+ghost use Rattle.rounds.specs.Plan.{AreWaysInto};
+ghost use Rattle.round_windows.specs.Basis.{GoBy, way_at};
 
 use base::Moment;
 use scenario::Division;
@@ -17,25 +18,43 @@ pub struct Rounds<'a> {
     pub division: &'a Division,
     /// The last moment at which something happens.
     pub end: Moment,
-    /// How many ticks an event takes at least to another part. None where no two parts have members.
-    pub least_delay: Option<u64>,
+    /// For each part how many ticks an event takes at least on its way into it.
+    pub ways: &'a [u64],
+    /// The least of these.
+    pub shortest: u64,
 }
 
-/// What the rounds of the cluster's run go by, where they have so many ticks.
-pub fn rounds_of<'a>(cluster: Cluster<'a>, division: &'a Division, ticks: u64) -> Rounds<'a>
+/// What the rounds of the cluster's run go by, where these are the ways into the parts.
+pub fn rounds_of<'a>(cluster: Cluster<'a>, division: &'a Division, ways: &'a [u64]) -> Rounds<'a>
     requires divides { length division.now.part_of ≡ member_count cluster.scenario.now }
     requires below { (m : _) → m < member_count cluster.scenario.now → part_number division.now m < division.now.parts }
-    requires lies { LiesBetweenParts cluster.scenario.now (part_number division.now) (Some ticks) }
+    requires count { length ways.now ≡ division.now.parts }
+    requires into { AreWaysInto cluster.scenario.now (part_number division.now) (way_at ways.now) }
     ensures rounds { GoBy result }
     ensures cluster { result.cluster ≡ cluster.entry }
     ensures division { result.division.now ≡ division.now }
     ensures end { result.end ≡ cluster.entry.scenario.now.end }
-    ensures delay { result.least_delay ≡ Some ticks }
+    ensures ways { result.ways.now ≡ ways.now }
+
+    // The shortest is as long as each of the ways lets it be.
+    ensures shortest { (t : ℕ) → t < 2 ^ 64 → AllByRecursion (λ way. t ≤ way) ways.now ↔ (t ≤ result.shortest) }
 {
     Rounds {
         cluster,
         division,
         end: cluster.scenario.end(),
-        least_delay: Some(ticks),
+        ways,
+        shortest: shortest_of(ways),
     }
+}
+
+/// The least of these ways. Where there is none, as much as a count of ticks can be.
+fn shortest_of(ways: &[u64]) -> u64
+    ensures { (t : ℕ) → t < 2 ^ 64 → AllByRecursion (λ way. t ≤ way) ways.now ↔ (t ≤ result) }
+{
+    let mut shortest = u64::MAX;
+    for way in ways {
+        shortest = shortest.min(*way);
+    }
+    shortest
 }

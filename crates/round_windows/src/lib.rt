@@ -8,7 +8,7 @@ mod firsts;
 mod outgoing;
 mod window;
 
-pub use bounds::{least_walk, round_bound, round_length};
+pub use bounds::{least_walk, round_bound, ways_into};
 pub use course::{Rounds, rounds_of};
 pub use firsts::{first_of, lesser};
 pub use window::{Ran, run_window};

@@ -21,6 +21,8 @@ use worker_queue::EventQueue;
 pub struct Ran<Q: EventQueue<Event>> {
     /// The part after its window.
     pub part: Part<Q>,
+    /// Before which moment the window stayed.
+    pub until: Moment,
     /// The events that went out, for each part those for its members.
     pub out: Vec<Vec<Event>>,
     /// The least moment of what pends in the part, or went out.
@@ -51,6 +53,7 @@ pub fn run_window<Q: EventQueue<Event> + Drop>(
     let out = dealt(alloc, out, rounds.division)?;
     Ok(Ran {
         part,
+        until: bound,
         out,
         least,
         rows,

@@ -3,6 +3,7 @@
 use base::Moment;
 use horizons::{Horizons, horizons};
 use links::Links;
+use round_windows::{round_bound, ways_into};
 use scenario::{Division, Scenario};
 use scenario_reader::read;
 use std::alloc::Global;
@@ -214,6 +215,15 @@ const BOUNDS_OF_CHAIN: [(usize, [Option<u64>; 3], u64, u64); 3] = [
     (2, [Some(50), None, Some(500)], 1000, 70),
 ];
 
+/// For a division the way into each of its parts, and how far its window goes where something pends first at 5: each beyond
+/// the shortest way, by which all parts could go. Without a walk a way is as long as is likely to have some thousands of events.
+const WAYS: [(Divided, &[(u64, u64)]); 4] = [
+    (BY_SITES, &[(50, 55), (10, 15), (20, 25)]),
+    (IN_CHAIN, &[(100, 105), (10, 15), (10, 15)]),
+    (TWO, &[(7, 12), (3, 8)]),
+    (ONE, &[(1_024_000, 1001)]),
+];
+
 /// The moment after so many ticks, where there is one.
 fn moment(ticks: Option<u64>) -> Option<Moment> {
     Some(Moment(ticks?))
@@ -286,5 +296,27 @@ fn bounds_are_least_arrivals(rt: HostRuntime) {
     let made = horizons_of(rt.alloc(), &rt, CHAIN, 3, &[0, 1, 2]);
     for case in &BOUNDS_OF_CHAIN {
         assert_bound(&rt, &made, case);
+    }
+}
+
+/// Asserts the ways into the parts of this division, and the bounds by them.
+fn assert_ways(rt: &(impl Abort + AllocGlobal), case: &Divided, wanted: &[(u64, u64)]) {
+    let made = horizons_of(rt.alloc(), rt, case.text, case.parts, case.part_of);
+    let scenario = scenario_of(rt.alloc(), rt, case.text);
+    let ways = ways_into(rt.alloc(), &scenario, &made)
+        .ok()
+        .expect(rt, "memory");
+    assert!(rt; ways.len() == wanted.len());
+    for (part, (way, bound)) in wanted.iter().enumerate() {
+        assert_eq!(rt; ways[part], *way, "into {part}");
+        let until = round_bound(Moment(5), Moment(1000), *way);
+        assert_eq!(rt; until.ticks(), *bound, "of {part}");
+    }
+}
+
+#[test]
+fn ways_are_least_walks_into_parts(rt: HostRuntime) {
+    for (case, wanted) in &WAYS {
+        assert_ways(&rt, case, wanted);
     }
 }

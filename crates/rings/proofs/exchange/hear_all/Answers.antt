@@ -57,7 +57,7 @@ returns-clause-next g c = λ basis run.
     let told = c.args.told in
     let numbers = numbers_of c.args.peers.now.items in
     let past = none_to_come (λ (peer : Peer g.row.K.Denot). peer.number) c.loop-peer.peer-items numbers c.loop-peer.peer-index c.loop-peer.invariant.numbers (omega arith) in
-    heard_all g.Q.EventQueue.set basis told.from told.round told.least numbers (c.requires.window basis run).0 (c.requires.others basis run) c.loop-peer.part c.loop-peer.first
+    heard_all g.Q.EventQueue.set basis told.from told.round told.least numbers (c.requires.window basis run).0 (c.requires.others basis run) (c.requires.own basis run) c.loop-peer.part c.loop-peer.first
     (subst (λ ns. HasHeard g.Q.EventQueue.set basis told.from told.round told.least numbers ns c.loop-peer.part c.loop-peer.first) past (c.loop-peer.invariant.heard basis run))
 
 pub returns-in_err-word-clause-numbers : goal.returns-in_err-word-clause-numbers

@@ -7,7 +7,7 @@ use Rattle.rings.proofs.LotsNext.{turn_of_all}
 use Rattle.rings.proofs.lots.next_turn.Goals as goal
 
 pub loop-number-init : goal.loop-number-init
-loop-number-init g c = λ basis is. no_lots basis c.args.since c.args.since _ c.new.result.items c.new.ensures.items
+loop-number-init g c = λ basis is. no_lots basis c.args.since c.args.since 0 _ c.new.result.items c.new.ensures.items
 
 pub loop-number-preserved : goal.loop-number-preserved
 loop-number-preserved g c = λ basis is.
@@ -19,5 +19,5 @@ returns-clause-next g c = λ basis is.
     let known = c.requires.all basis is in
     let all : c.loop-number.number ≡ basis.deal.parts = omega (arith, known.1) in
     turn_of_all basis c.args.since _ c.loop-number.all.rows.items ghosts.cmp known.0
-    (subst (λ n. AreLotsBelow basis c.args.since n c.loop-number.all.until c.loop-number.all.last c.loop-number.all.rows.items) all (c.loop-number.invariant basis is))
+    (subst (λ n. AreLotsBelow basis c.args.since n c.loop-number.all.until c.loop-number.all.round c.loop-number.all.last c.loop-number.all.rows.items) all (c.loop-number.invariant basis is))
     (record { total = total-law; agrees = λ a b before. by_place a b _ before }) c.sort.ensures.same c.in_ok-sort.ensures.sorted

@@ -21,14 +21,14 @@ first_of_parts set basis parts slice first is stand same least t =
     let s = basis.setup in
     let here = subst (λ l. NonePendsBefore set l t ↔ IsUpTo first t) same (least t) in (
       λ none. here.0 (none_of_parts set basis.deal parts (opening s) stand t none),
-      λ up. none_of_world set basis.deal parts (opening s) stand t (λ q there. is.below q.to (receiver_low s (opening s) q (get (opening s).pending q) (opening_whole s is.sound).sound refl there)) (here.1 up),
+      λ up. none_of_world set basis.deal parts (opening s) stand t (λ q there. is.plan.below q.to (receiver_low s (opening s) q (get (opening s).pending q) (opening_whole s is.plan.sound).sound refl there)) (here.1 up),
     )
 
 pub returns-in_err-bells-clause-trace : goal.returns-in_err-bells-clause-trace
-returns-in_err-bells-clause-trace g c = no_memory c.args.rounds.now.cluster.scenario.now (g.T.TakeRows.held c.args.place.now) (g.T.TakeRows.failed c.args.place.now) c.from_residual.result c.requires.rounds.basis.sound c.from_residual.ensures.1
+returns-in_err-bells-clause-trace g c = no_memory c.args.rounds.now.cluster.scenario.now (g.T.TakeRows.held c.args.place.now) (g.T.TakeRows.failed c.args.place.now) c.from_residual.result c.requires.rounds.basis.plan.sound c.from_residual.ensures.1
 
 pub returns-in_err-workers-clause-trace : goal.returns-in_err-workers-clause-trace
-returns-in_err-workers-clause-trace g c = no_memory c.args.rounds.now.cluster.scenario.now (g.T.TakeRows.held c.args.place.now) (g.T.TakeRows.failed c.args.place.now) c.from_residual-in_err-workers.result c.requires.rounds.basis.sound c.from_residual-in_err-workers.ensures.1
+returns-in_err-workers-clause-trace g c = no_memory c.args.rounds.now.cluster.scenario.now (g.T.TakeRows.held c.args.place.now) (g.T.TakeRows.failed c.args.place.now) c.from_residual-in_err-workers.result c.requires.rounds.basis.plan.sound c.from_residual-in_err-workers.ensures.1
 
 pub workers_of-requires-clause-run : goal.workers_of-requires-clause-run
 workers_of-requires-clause-run g c = λ basis known.

@@ -1,3 +1,7 @@
+use Rattle.std.proofs.Common.{length, ap, ◌∙◌, sym, subst}
+use Rattle.horizons.specs.Between.{part_number}
+use Rattle.rounds.specs.Plan.{AreWaysInto}
+use Rattle.round_windows.specs.Basis.{way_at}
 use Rattle.outputs.proofs.Early.{no_memory}
 use Rattle.rings.proofs.run.run_into.Goals as goal
 
@@ -9,3 +13,17 @@ returns-in_err-parts-clause-trace g c = no_memory c.args.scenario.now (g.T.TakeR
 
 pub returns-in_err-walks-clause-trace : goal.returns-in_err-walks-clause-trace
 returns-in_err-walks-clause-trace g c = no_memory c.args.scenario.now (g.T.TakeRows.held c.args.place.now) (g.T.TakeRows.failed c.args.place.now) c.from_residual-in_err-walks.result c.end-end.ensures.sound c.from_residual-in_err-walks.ensures.1
+
+pub returns-in_err-ways-clause-trace : goal.returns-in_err-ways-clause-trace
+returns-in_err-ways-clause-trace g c = no_memory c.args.scenario.now (g.T.TakeRows.held c.args.place.now) (g.T.TakeRows.failed c.args.place.now) c.from_residual-in_err-ways.result c.end-end.ensures.sound c.from_residual-in_err-ways.ensures.1
+
+-- ---- the ways into the parts
+
+pub rounds_of-requires-clause-count : goal.rounds_of-requires-clause-count
+rounds_of-requires-clause-count g c = ap length c.deref.ensures.value ∙ c.in_ok-ways.ensures.count ∙ c.in_ok-walks.ensures.parts
+
+pub rounds_of-requires-clause-into : goal.rounds_of-requires-clause-into
+rounds_of-requires-clause-into g c =
+    let made = c.in_ok-walks.ensures.walks in
+    subst (λ ways. AreWaysInto c.args.scenario.now (part_number c.args.division.now) (way_at ways)) (sym c.deref.ensures.value)
+    (c.in_ok-ways.ensures.into c.args.division.now c.requires.divides c.in_ok-parts.ensures.below (record { parts = c.in_ok-walks.ensures.parts; between = made.0; least = made.1; walks = made.2 }))

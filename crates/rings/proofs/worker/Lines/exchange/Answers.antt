@@ -23,5 +23,5 @@ hear_all-requires-clause-window g c = λ basis run.
 
 pub returns-clause-gathered : goal.returns-clause-gathered
 returns-clause-gathered g c = λ basis run.
-    gathers_more basis (c.requires.basis basis run) c.args.self.now.number c.args.round g.Q.EventQueue.set c.args.came c.args.gathered.now c.add.new.self (c.requires.lines basis run).own
+    gathers_more basis (c.requires.basis basis run) c.args.self.now.number g.Q.EventQueue.set c.args.round c.args.came c.args.gathered.now c.add.new.self (c.requires.lines basis run).own
     (c.requires.came basis run) c.add.ensures.since c.in_ok-add.ensures.more (c.requires.gathered basis run)

@@ -11,7 +11,7 @@ returns-in-Err g c =
     let start = c.requires.3 in
     record {
       same = refl;
-      trace = unwritten _ _ _ _ c.in-Err.fault (subst IsSound (sym start.writes.one) start.going.basis.sound) refl c.in-Err.ensures;
+      trace = unwritten _ _ _ _ c.in-Err.fault (subst IsSound (sym start.writes.one) start.going.basis.plan.sound) refl c.in-Err.ensures;
       gathered = tt;
     }
 
