@@ -1,28 +1,27 @@
 -- The runs of a case are answered alike.
-use Rattle.std.proofs.Common.{◌≡◌, ◌∙◌, ℕ, zero, suc, ◌+◌, ◌*◌, ◌-◌, ◌<◌, ◌≤◌, ◌^◌, List, [], Option, Some, None, fold, take, drop, length, get_or, none-some, refl, sym, ap, subst, arith}
+use Rattle.std.proofs.Common.{◌≡◌, ◌∙◌, ℕ, zero, suc, ◌+◌, ◌*◌, ◌<◌, ◌≤◌, ◌^◌, List, [], Option, Some, None, fold, take, get_or, refl, sym, ap, subst, arith}
 use Rattle.std.specs.Prelude.{All, slice_get}
-use Rattle.std.specs.Option.{ForSome}
 use Rattle.std.proofs.lemmas.Nat.{mul-le}
-use Rattle.std.proofs.lemmas.Option.{same_Some, slice_get-get_or}
+use Rattle.std.proofs.lemmas.Option.{none-some, same_Some, slice_get-get_or}
 use Rattle.toml.specs.Data.{Data}
 use Rattle.cases.specs.Asked.{AsksForSeeds}
 use Rattle.cases.specs.Cases.{cases_of}
 use Rattle.cases.specs.Document.{with_choice, with_values}
-use Rattle.cases.specs.Sweep.{Sweep, case_count, run_count, seed_count}
+use Rattle.cases.specs.Sweep.{Sweep, case_count, seed_count}
 use Rattle.cases.specs.declared.choice.Choice.{Choice}
 use Rattle.cases.specs.declared.seeds.Seeds.{Seeds}
 use Rattle.sweep.specs.Judged.{AreAccepted, IsAccepted, IsAcceptedAt}
-use Rattle.sweep.specs.Runs.{IsAskedFor, IsRunAt, Planned, planned_as, runs_of, seeds_of}
+use Rattle.sweep.specs.Runs.{IsAskedFor, IsRunAt, planned_as, runs_of, seeds_of}
 use Rattle.sweep.proofs.Flat.{cases_counted, run_in, seed_there}
 use Rattle.sweep.proofs.Seeds.{accepted_with}
 use Rattle.sweep.proofs.Sizes.{some_runs}
 use Rattle.sweep.proofs.Steps.{accepted_all, accepted_more}
 
-low_seeds : (words : Option (List ℕ)) (seeds : Option Seeds) → AsksForSeeds words seeds → ForSome seeds (λ r. r.last < 2 ^ 63)
-low_seeds None None asks = tt
-low_seeds None (Some r) asks = absurd asks
-low_seeds (Some word) None asks = absurd asks
-low_seeds (Some word) (Some r) asks = asks.low
+low_seeds : (words : Option (List ℕ)) (seeds : Option Seeds) → AsksForSeeds words seeds → (r : Seeds) → seeds ≡ Some r → r.last < 2 ^ 63
+low_seeds None None asks r is = absurd (none-some r is)
+low_seeds None (Some q) asks r is = absurd asks
+low_seeds (Some word) None asks r is = absurd asks
+low_seeds (Some word) (Some q) asks r is = subst (λ z. z.last < 2 ^ 63) (same_Some q r is) asks.low
 
 -- the seed at a place
 there : (seeds : Option Seeds) (place : ℕ) → place < seed_count seeds → (seed : Option ℕ) × (slice_get (seeds_of seeds) place ≡ Some seed)
@@ -32,7 +31,7 @@ there (Some r) place low = (Some (r.first + place), seed_there r place low)
 
 module _ (tree : Data) (case : List Choice) where
   -- what is accepted with the first seed is accepted with each
-  with_each : (seeds : Option Seeds) (place : ℕ) (first seed : Option ℕ) → ForSome seeds (λ r. r.last < 2 ^ 63) → place < seed_count seeds
+  with_each : (seeds : Option Seeds) (place : ℕ) (first seed : Option ℕ) → ((r : Seeds) → seeds ≡ Some r → r.last < 2 ^ 63) → place < seed_count seeds
       → slice_get (seeds_of seeds) 0 ≡ Some first → slice_get (seeds_of seeds) place ≡ Some seed → IsAccepted tree (planned_as case first) → IsAccepted tree (planned_as case seed)
   unfolding with_values
   with_each None place first seed low within at_first at taken =
@@ -40,12 +39,13 @@ module _ (tree : Data) (case : List Choice) where
       let one : seed ≡ first = same_Some seed first (sym at ∙ ap (slice_get (seeds_of None)) same ∙ at_first) in
       subst (λ s. IsAccepted tree (planned_as case s)) (sym one) taken
   with_each (Some r) place first seed low within at_first at taken =
+      let last : r.last < 2 ^ 63 = low r refl in
       let a = r.first + 0 in
       let b = r.first + place in
       let is_first : first ≡ Some a = same_Some first (Some a) (sym at_first ∙ seed_there r 0 (omega (arith, within))) in
       let is_seed : seed ≡ Some b = same_Some seed (Some b) (sym at ∙ seed_there r place within) in
       subst (λ s. IsAccepted tree (planned_as case s)) (sym is_seed)
-      (accepted_with a b (fold with_choice tree case) (omega (arith, low, within)) (omega (arith, low, within))
+      (accepted_with a b (fold with_choice tree case) (omega (arith, last, within)) (omega (arith, last, within))
       (subst (λ s. IsAccepted tree (planned_as case s)) is_first taken))
 
 module _ (tree : Data) (sweep : Sweep) (asked : IsAskedFor sweep) where

@@ -1,12 +1,12 @@
 -- What a document is answered doesn't depend on its seed.
-use Rattle.std.proofs.Common.{◌≡◌, ◌≢◌, ◌∙◌, ℕ, ◌<◌, ◌≤◌, ◌-◌, ◌||◌, ◌&&◌, Bool, true, false, not, nat_le, List, [], ◌∷◌, map, flat_map, Option, Some, None, Result, Ok, Err, Ordering, Less, Equal, Greater, nat_cmp, true≢false, bytes_eq, refl, sym, ap, subst, arith, cond, if◌then◌else◌}
+use Rattle.std.proofs.Common.{◌≡◌, ◌≢◌, ◌∙◌, ℕ, ◌<◌, ◌-◌, ◌||◌, ◌&&◌, Bool, true, false, List, [], ◌∷◌, map, flat_map, Option, Some, None, Result, Ok, Err, Ordering, Less, Equal, Greater, nat_cmp, true≢false, bytes_eq, refl, sym, ap, subst, arith, cond, if◌then◌else◌}
 use Rattle.std.specs.Prelude.{pos, drop, ◌^◌}
 use Rattle.std.specs.Cmp.Lexicographic.{slice_cmp}
 use Rattle.std.specs.List.{list_any}
 use Rattle.std.specs.Option.{option_map_or, option_or}
 use Rattle.std.specs.Ordering.{match_ordering}
 use Rattle.toml.specs.Data.{Data, string, integer, float, boolean, datetime, array, table, Members, no_members, member, get_member}
-use Rattle.schema.specs.Schema.{spelling_of, key_rules_of, number_of}
+use Rattle.schema.specs.Schema.{spelling_of, key_rules_of}
 use Rattle.schema.specs.Tree.{SectionTable, section_table, tables_at, tables_below, tables_of, items_of, value_at, keys_in}
 use Rattle.schema.specs.Values.{whole_or, default_of, number_at}
 use Rattle.schema.specs.Shape.{is_over_0, is_absent, is_other_kind, is_outside, has_fault, table_breaks, breaks, least_broken_of_shape}

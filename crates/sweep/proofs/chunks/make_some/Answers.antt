@@ -11,7 +11,7 @@ use Rattle.sweep.proofs.Steps.{cause_fails_none, cause_handed, have_begun, line_
 use Rattle.sweep.proofs.chunks.make_some.Goals as goal
 
 pub make_side_by_side-requires-clause-within : goal.make_side_by_side-requires-clause-within
-make_side_by_side-requires-clause-within g c = within_all c.args.from c.args.till (run_count c.args.plan.now) c.args.shares.now c.requires.within c.requires.shared
+make_side_by_side-requires-clause-within g c _ _ = within_all c.args.from c.args.till (run_count c.args.plan.now) c.args.shares.now c.requires.within c.requires.shared
 
 pub returns-in_err-runs-clause-part : goal.returns-in_err-runs-clause-part
 returns-in_err-runs-clause-part g c =

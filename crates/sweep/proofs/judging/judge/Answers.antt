@@ -1,7 +1,6 @@
-use Rattle.std.proofs.Common.{◌≡◌, ◌≢◌, ◌*◌, sym, subst, arith, take}
+use Rattle.std.proofs.Common.{◌≢◌, sym, subst, arith, take}
 use Rattle.std.specs.Prelude.{All}
 use Rattle.toml.specs.View.{view}
-use Rattle.cases.specs.Sweep.{seed_count}
 use Rattle.sweep.specs.Runs.{planned_as, runs_of}
 use Rattle.sweep.specs.Judged.{IsAccepted, IsAcceptedAt, IsFirstRefused}
 use Rattle.figures.proofs.Handing.{handed}

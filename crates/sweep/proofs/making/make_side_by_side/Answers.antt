@@ -1,10 +1,12 @@
-use Rattle.std.proofs.Common.{◌≤◌, ap, ◌∙◌, map, subst}
+use Rattle.std.proofs.Common.{◌≤◌, ap, ◌∙◌, map, subst, sym}
 use Rattle.std.specs.List.{AllZip}
 use Rattle.rayon.specs.Lists.{min_len_base}
 use Rattle.rayon.proofs.ListFacts.{AllZip-through, IfOk-then}
 use Rattle.rayon.proofs.ToStd.{slice-AllZip}
 use Rattle.toml.specs.View.{view}
+use Rattle.cases.specs.Sweep.{run_count}
 use Rattle.sweep.specs.Shares.{numbers_of}
+use Rattle.sweep.specs.declared.shares.Share.{Share}
 use Rattle.sweep.specs.Table.{IsMadeLot, IsMadeOf}
 use Rattle.sweep.proofs.Sharing.{lists_of}
 use Rattle.sweep.proofs.making.make_side_by_side.Goals as goal
@@ -16,8 +18,15 @@ returns g c =
     let shares = c.args.shares.now in
     let h = c.in_ok-lots.ensures in
     let chain = rw c.map.ensures.f at h.1 in
-    let slice = ap (λ it. it.slice.now) (ap min_len_base c.map.ensures.base ∙ c.with_min_len.ensures.base) ∙ ap (λ it. it.slice.now) c.par_iter.ensures in
-    let made = rw h.2 (slice-AllZip chain.0 shares (chain.1 ∙ slice) (λ share lot. IsMadeLot tree plan (numbers_of share) lot) h.0 chain.2) in
+    let slice = ap (λ it. it.slice.now) (ap min_len_base c.map.ensures.base ∙ c.with_min_len.ensures.base) ∙ c.par_iter.ensures in
+    let made : AllZip (λ share lot. IsMadeLot tree plan (numbers_of share) lot) shares c.in_ok-lots.lots.items =
+    rw h.2 (slice-AllZip chain.0 shares (chain.1 ∙ slice) (λ share lot. IsMadeLot tree plan (numbers_of share) lot) h.0 chain.2) in
     let lots = AllZip-through numbers_of (λ share lot. IsMadeLot tree plan (numbers_of share) lot) (IsMadeLot tree plan) (λ share lot is. is) shares c.in_ok-lots.lots.items made in
     IfOk-then c.joined.result _ _ c.joined.ensures (λ runs go.
     subst (λ l. AllZip (IsMadeOf tree plan) l runs.items) (lists_of numbers_of shares) (go tree plan (map numbers_of shares) lots))
+
+-- each share has runs of the sweep
+pub collect-requires-clause-ready : goal.collect-requires-clause-ready
+collect-requires-clause-ready g c κs within =
+    rw (c.map.ensures.base, c.map.ensures.f, c.with_min_len.ensures.base, c.par_iter.ensures)
+    (λ k d lt share same. ((c.requires.asked, c.requires.judged, subst (λ (s : Share). s.till ≤ run_count c.args.plan.now) (sym same) (c.requires.within k d lt)), λ y p. tt))

@@ -2,7 +2,7 @@ use Rattle.std.proofs.Common.{◌≤◌, ◌+◌, ◌++◌, ◌∙◌, List, ap,
 use Rattle.std.specs.Io.KnownBytes.{Appends}
 use Rattle.toml.specs.View.{view}
 use Rattle.trace.specs.Sinks.{AppendsBeginning}
-use Rattle.cases.specs.Sweep.{run_count, seed_count}
+use Rattle.cases.specs.Sweep.{seed_count}
 use Rattle.figures.specs.Notes.{Note}
 use Rattle.pieces.specs.Pieces.{first_run, past_run}
 use Rattle.sweep.specs.Pieces.{piece_header}

@@ -12,7 +12,7 @@ use Rattle.sweep_until.proofs.Wide.{begins_next, begins_so, ended_before, goes_n
 use Rattle.sweep_until.proofs.lots.make_lot.Goals as goal
 
 pub make_side_by_side-requires-clause-within : goal.make_side_by_side-requires-clause-within
-make_side_by_side-requires-clause-within g c = within_all c.args.from c.args.till (run_count c.args.plan.now) c.args.shares.now c.requires.within c.requires.shared
+make_side_by_side-requires-clause-within g c _ _ = within_all c.args.from c.args.till (run_count c.args.plan.now) c.args.shares.now c.requires.within c.requires.shared
 
 pub loop-made-init : goal.loop-made-init
 loop-made-init g c =
