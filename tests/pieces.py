@@ -4,9 +4,9 @@ import json
 import random
 
 from model_sweeps import cases_text, swept, table_of
-from program import Case, DATA, expect, expect_ran
+from program import Case, DATA, Wrong, expect, expect_ran
 from scenarios import document_of
-from sweeps import FOLDER, seeds_of, settings_of, words_of
+from sweeps import FOLDER, expect_progress, seeds_of, settings_of, words_of
 from worked import text_of
 
 # into how many pieces each sweep is cut; of some there are more than runs
@@ -49,6 +49,13 @@ def check_resumed(program, sweep, piece):
         program.keep('t.csv', whole[:cut])
         expect_ran(program.call([*words, '--resume']), 0, b'', b'', f'cut at {cut}')
         expect(f'cut at {cut}', program.held('t.csv'), whole)
+    if 'until' not in sweep and len(ends) > 1:
+        # what stood counts as made
+        program.keep('t.csv', whole[:ends[0]])
+        told = program.call([*words, '--resume', '--progress']).err
+        expect_progress(told, len(ends), None)
+        if told.startswith(b'1/'):
+            raise Wrong(f'progress: {told}')
     (program.folder / 't.csv').unlink()
     expect_ran(program.call([*words, '--resume']), 0, b'', b'', 'no table')
     expect('no table', program.held('t.csv'), whole)

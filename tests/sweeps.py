@@ -2,6 +2,7 @@
 
 import itertools
 import json
+import resource
 from math import prod
 
 import texts
@@ -16,6 +17,20 @@ from worked import text_of
 FOLDER = DATA / 'sweeps'
 # a name that is no markup in the page, and of which all is seen
 NAME = '<b>\u202elmot.\u200b\x7f'
+# runs of 60 periods: with 2 members each is short, with LONG members each is more than a second of work as a sweep counts it
+LONG = 1024
+UNEVEN = '''version = 2
+seed = 1
+end = 60000
+[swim]
+period = 1000
+timeout = 500
+[link]
+delay = 10
+[[group]]
+name = "n"
+count = 2
+'''
 WORKERS = ([], ['--workers', '1'], ['--workers', '2'], ['--workers', '3'], ['--workers', '64'])
 
 
@@ -146,8 +161,35 @@ def check_page(program, words, sweep, lines, objects, spreads):
     return page_of(*shown).encode()
 
 
+def check_pace(program, counts):
+    """A sweep of short and long runs by one worker: lines are written before the first long run of a case and after each."""
+    program.keep('s.toml', UNEVEN)
+    words = ['sweep', 's.toml', '--table', 't.csv', '--workers', '1', '--progress', '--seeds', '1..3']
+    ran = program.call([*words, '--set', f'group.n.count={",".join(map(str, counts))}'])
+    made = {int(line.split(b'/')[0]) for line in ran.err.splitlines()}
+    ends = {3 * place + run for place, count in enumerate(counts) if count == LONG for run in (0, 1, 2, 3)} - {0}
+    if not ends <= made:
+        raise Wrong(f'written after {sorted(made)}, and not after {sorted(ends - made)}')
+
+
+def check_shard_begins(program):
+    """A shard of 100 runs of a million takes the time of its own runs."""
+    program.keep('s.toml', UNEVEN)
+    before = resource.getrusage(resource.RUSAGE_CHILDREN)
+    ran = program.call(['sweep', 's.toml', '--table', 't.csv', '--shard', '5000/10000', '--seeds', '1..1000000'])
+    after = resource.getrusage(resource.RUSAGE_CHILDREN)
+    expect_ran(ran, 0, b'', b'')
+    expect('lines', program.held('t.csv').count(b'\n'), 101)
+    took = after.ru_utime - before.ru_utime + after.ru_stime - before.ru_stime
+    if took > 1:
+        raise Wrong(f'took {took} seconds of a processor')
+
+
 def cases():
-    """Each sweep of the list."""
+    """Each sweep of the list, and how soon lines are written."""
+    for counts in ((2, LONG), (LONG, 2), (2, LONG, 4, LONG)):
+        yield Case(f'sweep: the pace of {counts}', check_pace, (counts,))
+    yield Case('sweep: a shard of a million runs', check_shard_begins, ())
     for sweep in json.loads((FOLDER / 'sweeps.json').read_text()):
         text = text_of(DATA / sweep['base'])
         rule = texts.rule_until_taken(text)

@@ -1,5 +1,5 @@
 -- Where a run stands among the runs of a sweep, and how many there are.
-use Rattle.std.proofs.Common.{◌≡◌, ℕ, zero, suc, ◌+◌, ◌*◌, ◌/◌, ◌%◌, ◌<◌, List, [], ◌∷◌, ◌++◌, Option, Some, None, length, length-append, map, refl, sym, ap, subst, ◌∙◌, arith, div-lt_iff_lt-mul}
+use Rattle.std.proofs.Common.{◌≡◌, ℕ, zero, suc, ◌+◌, ◌*◌, ◌/◌, ◌%◌, ◌<◌, List, [], ◌∷◌, ◌++◌, Option, Some, None, length, length-append, map, refl, ap, subst, ◌∙◌, arith, div-lt_iff_lt-mul}
 use Rattle.std.proofs.lemmas.Nat.{div-add-mod'}
 use Rattle.std.proofs.lemmas.List.{length-map}
 use Rattle.std.proofs.lemmas.List.FromFn.{length-range_with_len, get_or-range_with_len, length-map-range_with_len}
@@ -71,16 +71,23 @@ case_within sweep number lt =
     let split = div-add-mod' number (seed_count sweep.seeds) in
     (div-lt_iff_lt-mul (each_runs sweep number lt)).1 lt
 
+-- the run of a case with the seed at a place
+pub run_in : (sweep : Sweep) (case place : ℕ) (chosen : List Choice) (seed : Option ℕ)
+    → slice_get (cases_of sweep.settings) case ≡ Some chosen → slice_get (seeds_of sweep.seeds) place ≡ Some seed
+    → IsRunAt sweep (case * seed_count sweep.seeds + place) (planned_as chosen seed)
+unfolding runs_of
+run_in sweep case place chosen seed e h =
+    flat_at _ (seed_count sweep.seeds) (each_counted sweep) (cases_of sweep.settings) case place (case * seed_count sweep.seeds + place) chosen (planned_as chosen seed) e
+    (slice_get-map (planned_as chosen) (seeds_of sweep.seeds) place ∙ ap (option_map (planned_as chosen)) h) refl
+
 -- and the run of a number is that case with that seed
 pub run_at : (sweep : Sweep) (number : ℕ) (chosen : List Choice) (seed : Option ℕ)
     → slice_get (cases_of sweep.settings) (number / seed_count sweep.seeds) ≡ Some chosen
     → slice_get (seeds_of sweep.seeds) (number % seed_count sweep.seeds) ≡ Some seed
     → IsRunAt sweep number (planned_as chosen seed)
-unfolding runs_of
 run_at sweep number chosen seed e h =
-    flat_at _ (seed_count sweep.seeds) (each_counted sweep) (cases_of sweep.settings) _ _ number chosen (planned_as chosen seed) e
-    (slice_get-map (planned_as chosen) (seeds_of sweep.seeds) _ ∙ ap (option_map (planned_as chosen)) h)
-    (sym (div-add-mod' number (seed_count sweep.seeds)))
+    subst (λ n. IsRunAt sweep n (planned_as chosen seed)) (div-add-mod' number (seed_count sweep.seeds))
+    (run_in sweep (number / seed_count sweep.seeds) (number % seed_count sweep.seeds) chosen seed e h)
 
 -- the seed at a place of a range
 pub seed_there : (r : Seeds) (place : ℕ) → place < seed_count (Some r) → slice_get (seeds_of (Some r)) place ≡ Some (Some (r.first + place))

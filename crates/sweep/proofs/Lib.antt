@@ -1,6 +1,9 @@
 pub mod Flat
 pub mod Handing
 mod Lots
+pub mod Sharing
+mod Seeds
+mod CasesJudged
 pub mod Numbers
 pub mod Steps
 pub mod Gathered

@@ -1,5 +1,5 @@
 -- How many runs a case has.
-use Rattle.std.proofs.Common.{ℕ, ◌<◌, ◌≤◌, ◌*◌, ◌==◌, List, [], ◌∷◌, Option, Some, None, not, length, drop, get_or, arith}
+use Rattle.std.proofs.Common.{ℕ, suc, suc-mul, ◌+◌, ◌<◌, ◌≤◌, ◌*◌, ◌==◌, List, [], ◌∷◌, Option, Some, None, not, length, drop, get_or, arith}
 use Rattle.std.specs.Prelude.{All}
 use Rattle.std.proofs.lemmas.Nat.{mul-le}
 use Rattle.std.proofs.lemmas.List.{length-take}
@@ -36,6 +36,10 @@ pub few_runs : (sweep : Sweep) → IsAskedFor sweep → seed_count sweep.seeds �
 few_runs sweep asked =
     let each = seed_count sweep.seeds in
     omega (arith, asked.asked.few, mul-le 1 each (case_count sweep.settings) each (cases_some sweep.settings asked.asked.settings.sound) (omega arith))
+
+-- the runs of a case are among all
+pub case_inside : (cases each number : ℕ) → number < cases → number * each + each ≤ cases * each
+case_inside cases each number low = omega (arith, suc-mul number each, mul-le (suc number) each cases each (omega (arith, low)) (omega arith))
 
 -- a case that sums up few runs has few
 pub few_of : (case : CaseSummary) (runs : List Note) → length runs ≤ 1000000 → IsSummaryOf case runs → HasFewRuns case

@@ -5,3 +5,4 @@ pub mod Judged
 pub mod Pieces
 pub mod Summaries
 pub mod Resumed
+pub mod Shares

@@ -5,6 +5,7 @@ ghost use Rattle.cases.specs.Sweep.{run_count, seed_count};
 ghost use Rattle.outputs.specs.Written.{sink_failures};
 ghost use Rattle.sweep.specs.Judged.{AreAccepted};
 ghost use Rattle.sweep.specs.Runs.{IsAskedFor};
+ghost use Rattle.sweep.specs.Shares.{AreShares};
 ghost use Rattle.sweep.specs.Table.{BeginsLines, Course, HasCause};
 ghost use Rattle.sweep.specs.Pieces.{BeginsTable};
 ghost use Rattle.sweep.specs.Summaries.{MakesAll, HasCome};
@@ -14,25 +15,25 @@ use crate::gathering::{Gather, Gathering};
 use crate::making::make_side_by_side;
 use crate::piece_tables::write_table;
 use crate::progress::Progress;
-use crate::reading::read_run;
+use crate::shares::{LotSize, Share, next_lot};
+use crate::work::SECOND_OF_WORK;
 use crate::writing::write_line;
 use base::Fault;
 use cases::Plan;
 use figures::CaseSummary;
 use pieces::Piece;
-use scenario::{Scenario, Workers};
+use scenario::Workers;
 use std::alloc::Global;
 use std::marker::Sync;
 use std::thread::Threads;
 use toml::Value;
 use trace::Sink;
 
-/// The most runs that each worker makes before their lines are written.
-const MOST_RUNS_OF_A_WORKER: u64 = 256;
-
-/// How many periods of members a worker runs, about, before lines are written: some second of work. Workers that
-/// are through wait for the slowest before lines are written, so they shall be written seldom.
-const MEMBER_PERIODS: u64 = 2_000_000;
+/// How much each worker does before lines are written: about a second of work, in no more than 256 runs.
+const LOT: LotSize = LotSize {
+    work: SECOND_OF_WORK,
+    runs: 256,
+};
 
 /// Makes the runs of a sweep, and writes their table, which is that of its only piece: a header, ahead of which
 /// stands the piece's name, and a line for each run, in the order of the cases and of the seeds, each with what
@@ -82,19 +83,22 @@ pub fn sweep<S: Sink, P: Progress>(
     Ok(gathering.into_summaries())
 }
 
-/// Makes the runs from one number to before another, writes their lines, and gathers what is told of them.
+/// Makes the runs from one number to before another, writes their lines, and gathers what is told of them. Those before it, from
+/// `first` on, count as made where it is told how many were.
 pub(crate) fn make_runs<S: Sink, P: Progress, G: Gather>(
     rt: &(impl Threads + Sync),
     alloc: Global,
     plan: &Plan,
     document: &Value,
     workers: Workers,
+    first: usize,
     from: usize,
     till: usize,
     progress: &mut P,
     gathering: &mut G,
     table: &mut S,
 ) -> Result<(), Fault>
+    requires counted { first ≤ from }
     requires asked { IsAskedFor plan.now }
     requires judged { AreAccepted (view document.now) plan.now }
     requires ordered { from ≤ till }
@@ -110,39 +114,32 @@ pub(crate) fn make_runs<S: Sink, P: Progress, G: Gather>(
 {
     let mut next = from;
     while next < till {
-        let scenario = read_run(alloc, plan, document, next)?;
-        let each = runs_of_a_worker(&scenario, MEMBER_PERIODS, MOST_RUNS_OF_A_WORKER);
-        let end = till.min(next + workers.count() * each);
+        let lot = next_lot(alloc, plan, document, workers, LOT, next, till)?;
         make_some(
-            rt, alloc, plan, document, workers, next, end, gathering, table,
+            rt,
+            alloc,
+            plan,
+            document,
+            &lot.shares,
+            next,
+            lot.till,
+            gathering,
+            table,
         )?;
-        next = end;
-        progress.runs_made(next - from, till - from);
+        next = lot.till;
+        progress.runs_made(next - first, till - first);
     }
     Ok(())
 }
 
-/// How many runs like that of this scenario each worker makes before their lines are written: as many as have about
-/// so many periods of members, no more than the most, and no fewer than one. Several short ones are made, so that a
-/// worker which is through waits for the others seldom, and few long ones, so that progress is told often.
-pub fn runs_of_a_worker(scenario: &Scenario, member_periods: u64, most: u64) -> usize
-    requires { 1 ≤ most }
-    ensures least { 1 ≤ result }
-    ensures most { result ≤ most }
-{
-    let periods = scenario.end().ticks() / scenario.period().max(1);
-    let of_all = periods.saturating_mul(scenario.members() as u64).max(1);
-    (member_periods / of_all).min(most).max(1) as usize
-}
-
-/// Makes the runs from one number to before another, as many side by side as there are workers, writes their
-/// lines, and gathers what is told of them.
+/// Makes the runs from one number to before another, which are those of these shares, side by side, writes their lines, and
+/// gathers what is told of them.
 fn make_some<S: Sink, G: Gather>(
     rt: &(impl Threads + Sync),
     alloc: Global,
     plan: &Plan,
     document: &Value,
-    workers: Workers,
+    shares: &[Share],
     from: usize,
     till: usize,
     gathering: &mut G,
@@ -151,6 +148,7 @@ fn make_some<S: Sink, G: Gather>(
     requires asked { IsAskedFor plan.now }
     requires judged { AreAccepted (view document.now) plan.now }
     requires ordered { from ≤ till }
+    requires shared { AreShares from till shares.now }
     requires within { till ≤ run_count plan.now }
     requires countable { S.failed table.old < 2 ^ 63 }
     ensures whole { OnOk result ((course : Course) → HasCome (view document.now) plan.now course (S.held table.old) (G.has gathering.old (seed_count plan.now.seeds)) from
@@ -161,8 +159,7 @@ fn make_some<S: Sink, G: Gather>(
     ensures causes { IfErr result (HasCause (view document.now) plan.now) }
     ensures failures { S.failed table.new ≡ S.failed table.old + sink_failures result }
 {
-    let each = (till - from).div_ceil(workers.count()).max(1);
-    let runs = make_side_by_side(rt, alloc, plan, document, from, till, each)?;
+    let runs = make_side_by_side(rt, alloc, plan, document, shares)?;
     for made in runs {
         let run = made?;
         write_line(alloc, &run, gathering, table)?;

@@ -5,7 +5,7 @@ ghost use Rattle.cases.specs.Sweep.{run_count};
 ghost use Rattle.sweep.specs.Runs.{IsAskedFor, IsRunAt, planned_as, verdict_of};
 ghost use Rattle.sweep.specs.Judged.{AreAccepted, IsAcceptedAt, IsFirstRefused};
 
-use crate::planned::planned;
+use crate::planned::{first_run, planned};
 use base::Memory;
 use cases::{Choice, Plan, read_with};
 use scenario_reader::Refusal;
@@ -23,16 +23,16 @@ pub struct Refused {
     pub refusal: Refusal,
 }
 
-/// Reads the scenario of each run that a sweep asks for. The first that breaks a rule is told, with the
-/// least rule that it breaks.
+/// Reads the scenario of each case that a sweep asks for, with its first seed: another seed changes no verdict, so this is what
+/// reading the scenario of each run gives. The first run that breaks a rule is told, with the least rule that it breaks.
 pub fn judge(alloc: Global, plan: &Plan, document: &Value) -> Result<(), Refused>
     requires { IsAskedFor plan.now }
     ensures accepted { OnOk result (AreAccepted (view document.now) plan.now) }
     ensures refused { IfErr result (λ r. r.refusal.rule ≢ 11 → IsFirstRefused (view document.now) plan.now (planned_as r.case.items r.seed) r.refusal.rule) }
     ensures numbered { IfErr result (λ r. (1 ≤ r.refusal.rule) × (r.refusal.rule ≤ 11)) }
 {
-    for number in 0..plan.runs() {
-        judge_run(alloc, plan, document, number)?;
+    for case in 0..plan.cases() {
+        judge_run(alloc, plan, document, first_run(plan, case))?;
     }
     Ok(())
 }

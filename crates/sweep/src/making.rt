@@ -1,16 +1,18 @@
 //! The runs of a sweep, made side by side.
-ghost use Rattle.std.specs.Prelude.{◌≡◌, ◌≤◌, ◌<◌, ◌-◌, ℕ, All, List, IfOk};
-ghost use Rattle.std.specs.List.{AllZip, flat_map, range_with_len};
+ghost use Rattle.std.specs.Prelude.{◌≤◌, ◌<◌, ℕ, All, List, IfOk};
+ghost use Rattle.std.specs.List.{AllZip, flat_map};
 ghost use Rattle.toml.specs.Data.{Data};
 ghost use Rattle.toml.specs.View.{view};
 ghost use Rattle.cases.specs.Sweep.{Sweep, run_count};
 ghost use Rattle.sweep.specs.Judged.{AreAccepted};
 ghost use Rattle.sweep.specs.Runs.{IsAskedFor};
+ghost use Rattle.sweep.specs.Shares.{numbers_of};
 ghost use Rattle.sweep.specs.Table.{IsMadeLot, IsMadeOf};
 
 use crate::planned::planned;
 use crate::reading::read_run;
 use crate::revived::tells_revived;
+use crate::shares::Share;
 use crate::values::line_of;
 use base::{Fault, Memory};
 use cases::Plan;
@@ -31,66 +33,50 @@ pub struct MadeRun {
     pub note: RunNote,
 }
 
-/// The runs from one number to before another, in their order; or why there is no run of a number: `Memory`; `Worn` where a counter of that run, or a count of
-/// its tallies, would pass 2^63. The numbers are dealt out in lots of so many; as many threads as
-/// there are processors, and no more than there are lots, make the runs of the lots, side by side.
-/// Each document must have been judged to be accepted. It fails where memory is refused for the
-/// list of runs.
+/// The runs of these shares, in their order; or why there is no run of a number: `Memory`; `Worn` where a counter of that run, or
+/// a count of its tallies, would pass 2^63. As many threads as there are shares, and no more than two for each processor, make
+/// the runs of the shares, side by side. Each document must have been judged to be accepted. It fails where memory is refused
+/// for the list of runs.
 pub fn make_side_by_side(
     rt: &(impl Threads + Sync),
     alloc: Global,
     plan: &Plan,
     document: &Value,
-    from: usize,
-    till: usize,
-    each: usize,
+    shares: &[Share],
 ) -> Result<Vec<Result<MadeRun, Fault>>, Memory>
     requires asked { IsAskedFor plan.now }
     requires judged { AreAccepted (view document.now) plan.now }
-    requires within { till ≤ run_count plan.now }
-    requires some { 0 < each }
-    ensures { IfOk result (λ runs. AllZip (IsMadeOf (view document.now) plan.now) (range_with_len from (till - from)) runs.items) }
+    requires within { All (λ share. share.till ≤ run_count plan.now) shares.now }
+    ensures { IfOk result (λ runs. AllZip (IsMadeOf (view document.now) plan.now) (flat_map numbers_of shares.now) runs.items) }
 {
-    let numbers = numbers(alloc, from, till)?;
-    let lots: Vec<Result<Vec<Result<MadeRun, Fault>>, Memory>> = numbers
-        .par_chunks(each)
+    let lots: Vec<Result<Vec<Result<MadeRun, Fault>>, Memory>> = shares
+        .par_iter()
         .with_min_len(1)
         .map(
-            |lot: &[usize]| -> Result<Vec<Result<MadeRun, Fault>>, Memory>
-                requires { IsAskedFor plan.now × AreAccepted (view document.now) plan.now × All (λ number. number < run_count plan.now) lot.now }
-                ensures { IsMadeLot (view document.entry.now) plan.entry.now lot.entry.now result }
-            { make_in_turn(alloc, plan, document, lot) },
+            |share: &Share| -> Result<Vec<Result<MadeRun, Fault>>, Memory>
+                requires { IsAskedFor plan.now × AreAccepted (view document.now) plan.now × share.now.till ≤ run_count plan.now }
+                ensures { IsMadeLot (view document.entry.now) plan.entry.now (numbers_of share.entry.now) result }
+            { make_in_turn(alloc, plan, document, *share) },
         )
         .collect(rt, alloc)?;
     joined(alloc, lots)
 }
 
-/// The numbers from one to before another.
-fn numbers(alloc: Global, from: usize, till: usize) -> Result<Vec<usize>, Memory>
-    ensures { IfOk result (λ numbers. numbers.items ≡ range_with_len from (till - from)) }
-{
-    let mut numbers = Vec::new(alloc);
-    for number in from..till {
-        numbers.push(number)?;
-    }
-    Ok(numbers)
-}
-
-/// The runs of a lot, made one after the other.
+/// The runs of a share, made one after the other.
 fn make_in_turn(
     alloc: Global,
     plan: &Plan,
     document: &Value,
-    lot: &[usize],
+    share: Share,
 ) -> Result<Vec<Result<MadeRun, Fault>>, Memory>
     requires asked { IsAskedFor plan.now }
     requires judged { AreAccepted (view document.now) plan.now }
-    requires within { All (λ number. number < run_count plan.now) lot.now }
-    ensures { IsMadeLot (view document.now) plan.now lot.now result }
+    requires within { share.till ≤ run_count plan.now }
+    ensures { IsMadeLot (view document.now) plan.now (numbers_of share) result }
 {
     let mut runs = Vec::new(alloc);
-    for number in lot {
-        runs.push(make_run(alloc, plan, document, *number))?;
+    for number in share.from..share.till {
+        runs.push(make_run(alloc, plan, document, number))?;
     }
     Ok(runs)
 }

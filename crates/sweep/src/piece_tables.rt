@@ -129,7 +129,8 @@ pub(crate) fn write_table<S: Sink, P: Progress, G: Gather>(
     ensures failures { S.failed table.new ≡ S.failed table.old + sink_failures result }
 {
     let runs = plan.runs();
-    let from = piece.first(runs) + begun.runs;
+    let first = piece.first(runs);
+    let from = first + begun.runs;
     a_run_exists();
     write_begun(
         alloc,
@@ -146,6 +147,7 @@ pub(crate) fn write_table<S: Sink, P: Progress, G: Gather>(
         plan,
         document,
         workers,
+        first,
         from,
         piece.past(runs),
         progress,

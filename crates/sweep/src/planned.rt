@@ -1,8 +1,8 @@
 //! The runs that a sweep asks for, by their numbers.
-ghost use Rattle.std.specs.Prelude.{◌≡◌, ◌<◌, ◌^◌, All, Some, slice_get, IfOk};
+ghost use Rattle.std.specs.Prelude.{◌≡◌, ◌<◌, ◌≤◌, ◌+◌, ◌*◌, ◌^◌, All, Some, slice_get, IfOk};
 ghost use Rattle.std.specs.Option.{ForSome};
 ghost use Rattle.cases.specs.Values.{FitsToml};
-ghost use Rattle.cases.specs.Sweep.{run_count, seed_count};
+ghost use Rattle.cases.specs.Sweep.{case_count, run_count, seed_count};
 ghost use Rattle.sweep.specs.Runs.{IsAskedFor, IsRunAt, planned_as, seeds_of};
 
 use base::Memory;
@@ -30,6 +30,18 @@ pub(crate) fn planned(alloc: Global, plan: &Plan, number: usize) -> Result<Plann
     let case = plan.case_at(alloc, number / each)?;
     let seed = seed_at(plan.seeds(), number % each);
     Ok(PlannedRun { case, seed })
+}
+
+/// The number of the first run of a case.
+pub fn first_run(plan: &Plan, case: usize) -> usize
+    requires asked { IsAskedFor plan.now }
+    requires within { case < case_count plan.now.settings }
+    ensures first { result ≡ case * seed_count plan.now.seeds }
+    ensures within { result + seed_count plan.now.seeds ≤ run_count plan.now }
+    ensures some { result < run_count plan.now }
+    ensures few { result + seed_count plan.now.seeds ≤ 1000000 }
+{
+    case * plan.runs_of_case()
 }
 
 /// The seed at this place among those with which each case runs.

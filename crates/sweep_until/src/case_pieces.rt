@@ -130,12 +130,13 @@ pub(crate) fn write_cases<S: Sink, P: Progress>(
     ensures failures { S.failed table.new ≡ S.failed table.old + sink_failures result }
 {
     let count = plan.cases();
-    let from = piece.first(count) + begun.cases;
+    let first = piece.first(count);
+    let from = first + begun.cases;
     let till = piece.past(count);
     let mut part = PieceProgress {
         whole: progress,
-        before: from.saturating_mul(plan.runs_of_case()),
-        all: (till - from).saturating_mul(plan.runs_of_case()),
+        before: first.saturating_mul(plan.runs_of_case()),
+        all: (till - first).saturating_mul(plan.runs_of_case()),
     };
     a_run_exists();
     the_run_is_one();

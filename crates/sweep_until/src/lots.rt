@@ -5,22 +5,22 @@ ghost use Rattle.cases.specs.Sweep.{run_count};
 ghost use Rattle.outputs.specs.Written.{sink_failures};
 ghost use Rattle.sweep.specs.Judged.{AreAccepted};
 ghost use Rattle.sweep.specs.Runs.{IsAskedFor};
+ghost use Rattle.sweep.specs.Shares.{AreShares};
 ghost use Rattle.sweep.specs.Table.{Course, HasCause};
 ghost use Rattle.sweep_until.specs.Until.{BeginsWide, GoesOn, HasGone};
 
 use crate::runs::CaseRuns;
 use base::Fault;
 use cases::Plan;
-use scenario::Workers;
 use std::alloc::Global;
 use std::marker::Sync;
 use std::thread::Threads;
-use sweep::{make_side_by_side, write_line};
+use sweep::{Share, make_side_by_side, write_line};
 use toml::Value;
 use trace::Sink;
 use whole_runs::the_run_is_one;
 
-/// Makes the runs of a case from one number to before another, as many side by side as there are workers, and writes their
+/// Makes the runs of a case from one number to before another, which are those of these shares, side by side, and writes their
 /// lines up to the first run with which the interval is narrow enough. Answers the number of the run after the last that
 /// was written; what was made beyond is thrown away.
 pub(crate) fn make_lot<S: Sink>(
@@ -29,7 +29,7 @@ pub(crate) fn make_lot<S: Sink>(
     plan: &Plan,
     width: u64,
     document: &Value,
-    workers: Workers,
+    shares: &[Share],
     from: usize,
     till: usize,
     runs: &mut CaseRuns,
@@ -39,6 +39,7 @@ pub(crate) fn make_lot<S: Sink>(
     requires judged { AreAccepted (view document.now) plan.now }
     requires most { width ≤ 100 }
     requires some { from < till }
+    requires shared { AreShares from till shares.now }
     requires within { till ≤ run_count plan.now }
     requires countable { S.failed table.old < 2 ^ 63 }
     ensures whole { IfOk result (λ next. (course : Course) → GoesOn (view document.now) plan.now width course (S.held table.old) runs.old from
@@ -51,8 +52,7 @@ pub(crate) fn make_lot<S: Sink>(
     ensures failures { S.failed table.new ≡ S.failed table.old + sink_failures result }
 {
     the_run_is_one();
-    let each = (till - from).div_ceil(workers.count()).max(1);
-    let lot = make_side_by_side(rt, alloc, plan, document, from, till, each)?;
+    let lot = make_side_by_side(rt, alloc, plan, document, shares)?;
     let mut past = from;
     for made in lot {
         let run = made?;

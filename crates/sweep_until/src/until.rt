@@ -20,17 +20,17 @@ use scenario::Workers;
 use std::alloc::Global;
 use std::marker::Sync;
 use std::thread::Threads;
-use sweep::{Progress, read_run, runs_of_a_worker};
+use sweep::{LotSize, Progress, SECOND_OF_WORK, first_run, next_lot};
 use toml::Value;
 use trace::Sink;
 use whole_runs::{a_run_exists, the_run_is_one};
 
-/// The most runs that each worker makes before their lines are written.
-const MOST_RUNS_OF_A_WORKER: u64 = 32;
-
-/// How many periods of members a worker runs, about, before lines are written: some hundred milliseconds of work. What
-/// is made beyond the last run that is wanted is thrown away, so few are made at a time.
-const MEMBER_PERIODS: u64 = 200_000;
+/// How much each worker does before lines are written: some hundred milliseconds of work. What is made beyond the last run that
+/// is wanted is thrown away, so few are made at a time.
+const LOT: LotSize = LotSize {
+    work: SECOND_OF_WORK / 10,
+    runs: 32,
+};
 
 /// Makes the runs of a sweep, of each case with more and more of the seeds, in rising order, until the 95 % interval of the
 /// share of its runs in which members were thrown out, by Wilson, is at most so many hundredths wide, or with all seeds that
@@ -168,17 +168,6 @@ fn make_case<S: Sink, P: Progress>(
     Ok(case)
 }
 
-/// The number of the first run of a case.
-fn first_run(plan: &Plan, number: usize) -> usize
-    requires asked { IsAskedFor plan.now }
-    requires within { number < case_count plan.now.settings }
-    ensures first { result ≡ number * seed_count plan.now.seeds }
-    ensures within { result + seed_count plan.now.seeds ≤ run_count plan.now }
-    ensures few { result + seed_count plan.now.seeds ≤ 1000000 }
-{
-    number * plan.runs_of_case()
-}
-
 /// Makes runs of a case from one number to before another, until the interval is narrow enough, and writes their lines.
 fn make_runs_of<S: Sink, P: Progress>(
     rt: &(impl Threads + Sync),
@@ -209,11 +198,18 @@ fn make_runs_of<S: Sink, P: Progress>(
     let all = plan.runs();
     let mut next = first;
     while next < past {
-        let scenario = read_run(alloc, plan, document, next)?;
-        let each = runs_of_a_worker(&scenario, MEMBER_PERIODS, MOST_RUNS_OF_A_WORKER);
-        let end = past.min(next + workers.count() * each);
+        let lot = next_lot(alloc, plan, document, workers, LOT, next, past)?;
         let reached = make_lot(
-            rt, alloc, plan, width, document, workers, next, end, runs, table,
+            rt,
+            alloc,
+            plan,
+            width,
+            document,
+            &lot.shares,
+            next,
+            lot.till,
+            runs,
+            table,
         )?;
         if runs.is_narrow(width) {
             return Ok(());

@@ -8,8 +8,8 @@ use Rattle.sweep.proofs.chunks.make_runs.Goals as goal
 
 pub loop-next-preserved : goal.loop-next-preserved
 loop-next-preserved g c = record {
-  low = omega (arith, c.loop-next.invariant.low, c.min-end.ensures, c.loop-next-test.true);
-  within = omega (arith, c.min-end.ensures);
+  low = omega (arith, c.loop-next.invariant.low, c.in_ok-lot.ensures.further);
+  within = c.in_ok-lot.ensures.bounded;
   come = λ course come. c.in_ok-make_some.ensures.whole course (c.loop-next.invariant.come course come);
   same = search rules;
 }
@@ -21,8 +21,8 @@ returns-clause-whole g c = λ course come.
     subst (HasCome (view c.args.document.now) plan course (g.S.Sink.held c.loop-next.table) (g.G.Gather.has c.loop-next.gathering (seed_count plan.seeds))) all
     (c.loop-next.invariant.come course come)
 
-pub returns-in_err-scenario-clause-part : goal.returns-in_err-scenario-clause-part
-returns-in_err-scenario-clause-part g c =
+pub returns-in_err-lot-clause-part : goal.returns-in_err-lot-clause-part
+returns-in_err-lot-clause-part g c =
     on_err c.from_residual.result
     (λ course high come. have_begun (view c.args.document.now) c.args.plan.now course (g.S.Sink.held c.loop-next.table) c.loop-next.next
     (omega (arith, high, c.loop-next.invariant.within)) (c.loop-next.invariant.come course come).lines)
@@ -30,4 +30,4 @@ returns-in_err-scenario-clause-part g c =
 pub returns-in_err-make_some-clause-part : goal.returns-in_err-make_some-clause-part
 returns-in_err-make_some-clause-part g c =
     on_err c.from_residual-in_err-make_some.result
-    (λ course high come. c.in_err-make_some.ensures.part course (omega (arith, high, c.min-end.ensures)) (c.loop-next.invariant.come course come))
+    (λ course high come. c.in_err-make_some.ensures.part course (omega (arith, high, c.in_ok-lot.ensures.bounded)) (c.loop-next.invariant.come course come))

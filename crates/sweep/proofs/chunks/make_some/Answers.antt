@@ -1,13 +1,17 @@
 use Rattle.std.proofs.Common.{◌≡◌, ◌∙◌, ◌+◌, ◌-◌, ◌++◌, ◌∷◌, [], refl, subst, length, length-append, arith, rules}
 use Rattle.std.specs.List.{AllZip, range_with_len}
 use Rattle.toml.specs.View.{view}
-use Rattle.cases.specs.Sweep.{seed_count}
+use Rattle.cases.specs.Sweep.{run_count, seed_count}
 use Rattle.sweep.specs.Table.{IsMadeOf, IsMadeRun}
 use Rattle.sweep.specs.Summaries.{HasCome}
 use Rattle.outputs.proofs.Faults.{on_err}
 use Rattle.sweep.proofs.Numbers.{is_next, none_left}
+use Rattle.sweep.proofs.Sharing.{within_all}
 use Rattle.sweep.proofs.Steps.{cause_fails_none, cause_handed, have_begun, line_part, line_whole}
 use Rattle.sweep.proofs.chunks.make_some.Goals as goal
+
+pub make_side_by_side-requires-clause-within : goal.make_side_by_side-requires-clause-within
+make_side_by_side-requires-clause-within g c _ _ = within_all c.args.from c.args.till (run_count c.args.plan.now) c.args.shares.now c.requires.within c.requires.shared
 
 pub returns-in_err-runs-clause-part : goal.returns-in_err-runs-clause-part
 returns-in_err-runs-clause-part g c =
@@ -64,7 +68,8 @@ loop-made-init g c =
     let none : c.args.from ≡ c.args.from + 0 = omega arith in
     record {
       within = omega (arith, c.requires.ordered);
-      left = subst (λ n. AllZip R (range_with_len n (till - n)) c.into_iter-made-iterator.result.rest.items) none (search rules);
+      left = subst (λ n. AllZip R (range_with_len n (c.args.till - n)) c.into_iter-made-iterator.result.rest.items) none
+          (subst (λ l. AllZip R l c.into_iter-made-iterator.result.rest.items) c.requires.shared.whole (search rules));
       come = λ course come. subst (HasCome tree plan course (g.S.Sink.held c.args.table.now) (g.G.Gather.has c.args.gathering.now (seed_count plan.seeds))) none come;
       same = refl;
     }

@@ -1,10 +1,11 @@
-use Rattle.std.proofs.Common.{take}
+use Rattle.std.proofs.Common.{◌*◌, take}
 use Rattle.std.specs.Prelude.{All}
 use Rattle.toml.specs.View.{view}
+use Rattle.cases.specs.Sweep.{seed_count}
 use Rattle.sweep.specs.Runs.{runs_of}
 use Rattle.sweep.specs.Judged.{IsAccepted}
 use Rattle.sweep.proofs.judging.judge.Given as goal
 
--- the first runs are accepted
-abbrev pub invariant-loop-number : goal.invariant-loop-number
-invariant-loop-number l = All (IsAccepted (view l.document)) (take l.number (runs_of l.plan))
+-- the runs of the first cases are accepted
+abbrev pub invariant-loop-case : goal.invariant-loop-case
+invariant-loop-case l = All (IsAccepted (view l.document)) (take (l.case * seed_count l.plan.seeds) (runs_of l.plan))

@@ -2,7 +2,7 @@ use Rattle.std.proofs.Common.{◌≤◌, ◌+◌, ◌++◌, ◌∙◌, List, ap,
 use Rattle.std.specs.Io.KnownBytes.{Appends}
 use Rattle.toml.specs.View.{view}
 use Rattle.trace.specs.Sinks.{AppendsBeginning}
-use Rattle.cases.specs.Sweep.{run_count, seed_count}
+use Rattle.cases.specs.Sweep.{seed_count}
 use Rattle.figures.specs.Notes.{Note}
 use Rattle.pieces.specs.Pieces.{first_run, past_run}
 use Rattle.sweep.specs.Pieces.{piece_header}
@@ -16,7 +16,7 @@ use Rattle.sweep.proofs.piece_tables.write_table.Goals as goal
 
 pub make_runs-requires-clause-ordered : goal.make_runs-requires-clause-ordered
 make_runs-requires-clause-ordered g c _ _ =
-    let first = c.first.ensures.first ∙ ap (first_run c.args.piece) c.runs-runs.ensures.count in
+    let first = c.first-first.ensures.first ∙ ap (first_run c.args.piece) c.runs-runs.ensures.count in
     let past = c.past.ensures.past ∙ ap (past_run c.args.piece) c.runs-runs.ensures.count in
     omega (arith, first, past, c.requires.few)
 
@@ -50,7 +50,7 @@ returns-in_err-make_runs-clause-part g c =
     let new = g.S.Sink.held c.make_runs.new.table in
     let Fresh : List Note → Type 0 = g.G.Gather.has c.args.gathering.now (seed_count plan.seeds) in
     let course = rest_course tree c.args.mark.now plan p lines c.args.begun.runs old in
-    let first = ap (λ n. n + c.args.begun.runs) (c.first.ensures.first ∙ ap (first_run p) c.runs-runs.ensures.count) in
+    let first = ap (λ n. n + c.args.begun.runs) (c.first-first.ensures.first ∙ ap (first_run p) c.runs-runs.ensures.count) in
     let past = c.past.ensures.past ∙ ap (past_run p) c.runs-runs.ensures.count in
     let front = subst (λ b. Appends old begun (piece_header b c.args.mark.now plan p ++ lines)) c.tells_revived.ensures c.in_ok-write_begun.ensures.whole in
     let come = subst (HasCome tree plan course begun Fresh) (sym first) (front_come tree plan course begun Fresh front c.requires.fresh) in
@@ -70,7 +70,7 @@ returns-in_err-flush-clause-part g c =
     let new = g.S.Sink.held c.flush.new.sink in
     let Fresh : List Note → Type 0 = g.G.Gather.has c.args.gathering.now (seed_count plan.seeds) in
     let course = rest_course tree c.args.mark.now plan p lines c.args.begun.runs old in
-    let first = ap (λ n. n + c.args.begun.runs) (c.first.ensures.first ∙ ap (first_run p) c.runs-runs.ensures.count) in
+    let first = ap (λ n. n + c.args.begun.runs) (c.first-first.ensures.first ∙ ap (first_run p) c.runs-runs.ensures.count) in
     let past = c.past.ensures.past ∙ ap (past_run p) c.runs-runs.ensures.count in
     let front = subst (λ b. Appends old begun (piece_header b c.args.mark.now plan p ++ lines)) c.tells_revived.ensures c.in_ok-write_begun.ensures.whole in
     let come = subst (HasCome tree plan course begun Fresh) (sym first) (front_come tree plan course begun Fresh front c.requires.fresh) in
@@ -94,7 +94,7 @@ returns-clause-whole g c =
     let Fresh : List Note → Type 0 = g.G.Gather.has c.args.gathering.now (seed_count plan.seeds) in
     let Gathered : List Note → Type 0 = g.G.Gather.has c.make_runs.new.gathering (seed_count plan.seeds) in
     let course = rest_course tree c.args.mark.now plan p lines c.args.begun.runs old in
-    let first = ap (λ n. n + c.args.begun.runs) (c.first.ensures.first ∙ ap (first_run p) c.runs-runs.ensures.count) in
+    let first = ap (λ n. n + c.args.begun.runs) (c.first-first.ensures.first ∙ ap (first_run p) c.runs-runs.ensures.count) in
     let past = c.past.ensures.past ∙ ap (past_run p) c.runs-runs.ensures.count in
     let front = subst (λ b. Appends old begun (piece_header b c.args.mark.now plan p ++ lines)) c.tells_revived.ensures c.in_ok-write_begun.ensures.whole in
     let come = subst (HasCome tree plan course begun Fresh) (sym first) (front_come tree plan course begun Fresh front c.requires.fresh) in

@@ -13,11 +13,11 @@ use Rattle.sweep_until.proofs.Cases.{begins_cases, begins_front, cases_kept, no_
 use Rattle.sweep_until.proofs.PieceCases.{cases_within, few_cases, rest_within}
 use Rattle.sweep_until.proofs.case_pieces.write_cases.Goals as goal
 
-pub first-requires-clause-few : goal.first-requires-clause-few
-first-requires-clause-few g c = omega (arith, few_cases c.args.plan.now c.requires.asked, c.cases-count.ensures)
+pub first-first-requires-clause-few : goal.first-first-requires-clause-few
+first-first-requires-clause-few g c = omega (arith, few_cases c.args.plan.now c.requires.asked, c.cases-count.ensures)
 
 pub overflow_add-from : goal.overflow_add-from
-overflow_add-from g c = omega (arith, c.first.ensures.within, c.cases-count.ensures, c.requires.few, few_cases c.args.plan.now c.requires.asked, cases_within c.args.plan.now c.args.piece c.requires.piece)
+overflow_add-from g c = omega (arith, c.first-first.ensures.within, c.cases-count.ensures, c.requires.few, few_cases c.args.plan.now c.requires.asked, cases_within c.args.plan.now c.args.piece c.requires.piece)
 
 pub past-till-requires-clause-few : goal.past-till-requires-clause-few
 past-till-requires-clause-few g c = omega (arith, few_cases c.args.plan.now c.requires.asked, c.cases-count.ensures)
@@ -56,7 +56,7 @@ returns-in_err-make_cases-clause-part g c =
     let old = g.S.Sink.held c.args.table.now in
     let begun = g.S.Sink.held c.write_begun.new.table in
     let new = g.S.Sink.held c.make_cases.new.table in
-    let first : c.first.result + before ≡ first_case plan p + before = ap (λ n. n + before) (c.first.ensures.first ∙ ap (first_run p) c.cases-count.ensures) in
+    let first : c.first-first.result + before ≡ first_case plan p + before = ap (λ n. n + before) (c.first-first.ensures.first ∙ ap (first_run p) c.cases-count.ensures) in
     let past : c.past-till.result ≡ past_run p (case_count plan.settings) = c.past-till.ensures.past ∙ ap (past_run p) c.cases-count.ensures in
     let front = subst (λ b. Appends old begun (piece_header b mark plan p ++ lines)) c.tells_revived.ensures c.in_ok-write_begun.ensures.whole in
     let none = subst (HasCases tree plan width stretch old begun 0) (sym c.requires.fresh) (no_case tree plan stretch width old begun front) in
@@ -77,15 +77,15 @@ returns-in_err-flush-clause-part g c =
     let begun = g.S.Sink.held c.write_begun.new.table in
     let full = g.S.Sink.held c.make_cases.new.table in
     let new = g.S.Sink.held c.flush.new.sink in
-    let first : c.first.result + before ≡ first_case plan p + before = ap (λ n. n + before) (c.first.ensures.first ∙ ap (first_run p) c.cases-count.ensures) in
+    let first : c.first-first.result + before ≡ first_case plan p + before = ap (λ n. n + before) (c.first-first.ensures.first ∙ ap (first_run p) c.cases-count.ensures) in
     let past : c.past-till.result ≡ past_run p (case_count plan.settings) = c.past-till.ensures.past ∙ ap (past_run p) c.cases-count.ensures in
     let front = subst (λ b. Appends old begun (piece_header b mark plan p ++ lines)) c.tells_revived.ensures c.in_ok-write_begun.ensures.whole in
     let none = subst (HasCases tree plan width stretch old begun 0) (sym c.requires.fresh) (no_case tree plan stretch width old begun front) in
-    let count : c.past-till.result - (c.first.result + before) ≡ cases_in plan p - before = omega (arith, first, past) in
+    let count : c.past-till.result - (c.first-first.result + before) ≡ cases_in plan p - before = omega (arith, first, past) in
     on_err c.from_residual-in_err-flush.result
-    (begins_cases tree plan stretch width c.the_run_is_one.ensures c.a_run_exists.ensures c.requires.judged (rest_within plan p before c.requires.piece c.requires.few) old new (c.past-till.result - (c.first.result + before)) _
+    (begins_cases tree plan stretch width c.the_run_is_one.ensures c.a_run_exists.ensures c.requires.judged (rest_within plan p before c.requires.piece c.requires.few) old new (c.past-till.result - (c.first-first.result + before)) _
     (omega (arith, count))
-    (cases_kept tree plan stretch width old full new (c.past-till.result - (c.first.result + before)) _ c.flush.ensures.same (c.in_ok-make_cases.ensures.whole stretch old (sym first) none)))
+    (cases_kept tree plan stretch width old full new (c.past-till.result - (c.first-first.result + before)) _ c.flush.ensures.same (c.in_ok-make_cases.ensures.whole stretch old (sym first) none)))
 
 pub returns-in_err-flush-clause-causes : goal.returns-in_err-flush-clause-causes
 returns-in_err-flush-clause-causes g c = write_caused (view c.args.document.now) c.args.plan.now c.from_residual-in_err-flush.result _ c.from_residual-in_err-flush.ensures.1
@@ -104,10 +104,10 @@ returns-clause-whole g c =
     let begun = g.S.Sink.held c.write_begun.new.table in
     let full = g.S.Sink.held c.make_cases.new.table in
     let new = g.S.Sink.held c.flush.new.sink in
-    let first : c.first.result + before ≡ first_case plan p + before = ap (λ n. n + before) (c.first.ensures.first ∙ ap (first_run p) c.cases-count.ensures) in
+    let first : c.first-first.result + before ≡ first_case plan p + before = ap (λ n. n + before) (c.first-first.ensures.first ∙ ap (first_run p) c.cases-count.ensures) in
     let past : c.past-till.result ≡ past_run p (case_count plan.settings) = c.past-till.ensures.past ∙ ap (past_run p) c.cases-count.ensures in
     let front = subst (λ b. Appends old begun (piece_header b mark plan p ++ lines)) c.tells_revived.ensures c.in_ok-write_begun.ensures.whole in
     let none = subst (HasCases tree plan width stretch old begun 0) (sym c.requires.fresh) (no_case tree plan stretch width old begun front) in
-    let count : c.past-till.result - (c.first.result + before) ≡ cases_in plan p - before = omega (arith, first, past) in
+    let count : c.past-till.result - (c.first-first.result + before) ≡ cases_in plan p - before = omega (arith, first, past) in
     subst (λ n. HasCases tree plan width stretch old new n c.make_cases.new.cases.items) count
-    (cases_kept tree plan stretch width old full new (c.past-till.result - (c.first.result + before)) _ c.flush.ensures.same (c.in_ok-make_cases.ensures.whole stretch old (sym first) none))
+    (cases_kept tree plan stretch width old full new (c.past-till.result - (c.first-first.result + before)) _ c.flush.ensures.same (c.in_ok-make_cases.ensures.whole stretch old (sym first) none))

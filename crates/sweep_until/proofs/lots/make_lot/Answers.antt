@@ -1,12 +1,29 @@
-use Rattle.std.proofs.Common.{◌∙◌, ◌+◌, subst, arith, rules}
+use Rattle.std.proofs.Common.{◌∙◌, ◌+◌, refl, subst, arith, rules}
+use Rattle.std.specs.List.{AllZip}
 use Rattle.toml.specs.View.{view}
+use Rattle.cases.specs.Sweep.{run_count}
 use Rattle.sweep.specs.Table.{IsMadeOf, IsMadeRun}
 use Rattle.outputs.proofs.Faults.{on_err}
 use Rattle.sweep.proofs.Numbers.{is_next, none_left}
+use Rattle.sweep.proofs.Sharing.{within_all}
 use Rattle.sweep.proofs.Steps.{cause_fails_none, cause_handed, line_part, line_whole}
 use Rattle.sweep_until.specs.Kept.{AreKept}
 use Rattle.sweep_until.proofs.Wide.{begins_next, begins_so, ended_before, goes_next, goes_on, up_till}
 use Rattle.sweep_until.proofs.lots.make_lot.Goals as goal
+
+pub make_side_by_side-requires-clause-within : goal.make_side_by_side-requires-clause-within
+make_side_by_side-requires-clause-within g c _ _ = within_all c.args.from c.args.till (run_count c.args.plan.now) c.args.shares.now c.requires.within c.requires.shared
+
+pub loop-made-init : goal.loop-made-init
+loop-made-init g c =
+    let R = IsMadeOf (view c.args.document.now) c.args.plan.now in
+    record {
+      low = omega arith;
+      within = omega (arith, c.requires.some);
+      left = subst (λ l. AllZip R l c.into_iter-made-iterator.result.rest.items) c.requires.shared.whole (search rules);
+      goes = λ course goes. goes;
+      same = refl;
+    }
 
 pub returns-in_err-lot-clause-part : goal.returns-in_err-lot-clause-part
 returns-in_err-lot-clause-part g c =

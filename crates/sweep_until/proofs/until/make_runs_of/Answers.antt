@@ -7,7 +7,7 @@ use Rattle.sweep_until.proofs.until.make_runs_of.Goals as goal
 pub loop-next-preserved : goal.loop-next-preserved
 loop-next-preserved g c = record {
   low = omega (arith, c.loop-next.invariant.low, c.in_ok-reached.ensures.further);
-  within = omega (arith, c.in_ok-reached.ensures.bounded, c.min-end.ensures);
+  within = omega (arith, c.in_ok-reached.ensures.bounded, c.in_ok-lot.ensures.bounded);
   goes = λ course before.
       goes_on (view c.args.document.now) c.args.plan.now c.args.width course (g.S.Sink.held c.make_lot.new.table) c.make_lot.new.runs c.in_ok-reached.reached c.is_narrow.result c.is_narrow.ensures c.if-is_narrow.false
       (c.in_ok-reached.ensures.whole course (c.loop-next.invariant.goes course before));
@@ -17,7 +17,7 @@ loop-next-preserved g c = record {
 pub returns-then-is_narrow-clause-whole : goal.returns-then-is_narrow-clause-whole
 returns-then-is_narrow-clause-whole g c = λ course before.
     ends_here (view c.args.document.now) c.args.plan.now c.args.width course (g.S.Sink.held c.make_lot.new.table) c.make_lot.new.runs c.in_ok-reached.reached c.is_narrow.result c.is_narrow.ensures c.args.first c.args.past
-    (omega (arith, c.loop-next.invariant.low, c.in_ok-reached.ensures.further)) (omega (arith, c.in_ok-reached.ensures.bounded, c.min-end.ensures)) c.if-is_narrow.true
+    (omega (arith, c.loop-next.invariant.low, c.in_ok-reached.ensures.further)) (omega (arith, c.in_ok-reached.ensures.bounded, c.in_ok-lot.ensures.bounded)) c.if-is_narrow.true
     (c.in_ok-reached.ensures.whole course (c.loop-next.invariant.goes course before))
 
 pub returns-clause-whole : goal.returns-clause-whole
@@ -31,8 +31,8 @@ returns-clause-whole g c = λ course before.
       ends = inr all;
     }
 
-pub returns-in_err-scenario-clause-part : goal.returns-in_err-scenario-clause-part
-returns-in_err-scenario-clause-part g c =
+pub returns-in_err-lot-clause-part : goal.returns-in_err-lot-clause-part
+returns-in_err-lot-clause-part g c =
     on_err c.from_residual.result
     (λ course high before. begins_so (view c.args.document.now) c.args.plan.now c.args.width course (g.S.Sink.held c.loop-next.table) c.loop-next.runs c.loop-next.next
     (omega (arith, high, c.loop-next.invariant.within)) (c.loop-next.invariant.goes course before).gone)
@@ -40,4 +40,4 @@ returns-in_err-scenario-clause-part g c =
 pub returns-in_err-reached-clause-part : goal.returns-in_err-reached-clause-part
 returns-in_err-reached-clause-part g c =
     on_err c.from_residual-in_err-reached.result
-    (λ course high before. c.in_err-reached.ensures.part course (omega (arith, high, c.min-end.ensures)) (c.loop-next.invariant.goes course before))
+    (λ course high before. c.in_err-reached.ensures.part course (omega (arith, high, c.in_ok-lot.ensures.bounded)) (c.loop-next.invariant.goes course before))
