@@ -242,8 +242,8 @@ class Page:
         all_sent, all_lost = (sum(map(sum, counts)) for counts in (sent, lost))
         rate = all_sent * 100000 // max(1, max(1, series.end) * len(series.names))
         text = figure('traffic', 'Messages')
-        text += (f'<p class="soft">{grouped(all_sent)} were sent and {grouped(all_lost)} of them lost: {rate // 100}.{rate % 100:02} a member '
-                 'and 1,000 ticks.</p>')
+        text += (f'<p class="soft">Messages sent: {grouped(all_sent)}; lost: {grouped(all_lost)}; sent per member and 1,000 ticks: '
+                 f'{rate // 100}.{rate % 100:02}.</p>')
         text += '<ul class="legend">'
         text += ''.join(legend_entry(MESSAGE_CLASSES[kind], f'{kind} {grouped(told[kind])}') for kind in series.kinds if told[kind])
         text += (legend_entry('lost', 'lost, of all kinds') if all_lost else '') + '</ul>'
@@ -269,7 +269,7 @@ class Page:
         values = range(1, MOST_HEALTH + 1)
         heights = [series.heights(series.worse[value], series.better[value], 2**64) for value in values]
         text = figure('health', 'Members in bad health')
-        text += ('<p class="soft">A member\'s health counter (Lifeguard) rises as its own probes fail. Nobody at 0 is drawn.</p>')
+        text += ('<p class="soft">A member\'s health counter (Lifeguard) rises as its own probes fail. Members at 0 aren\'t drawn.</p>')
         text += legend(zip(HEALTH_CLASSES, ('at 1', 'at 2', 'at 3', 'at 4 and more')))
         layers = [(HEALTH_CLASSES[min(value, 4) - 1], counts) for value, counts in zip(values, heights)]
         text += self.chart('low', 'Health', 'How many members stand at each value of the health counter.', layers)

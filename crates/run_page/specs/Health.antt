@@ -42,7 +42,7 @@ health_areas s rows most = layers s most (flat (span_count s)) (map (health_laye
 -- what the plot shows
 unfoldable pub health_words : List ℕ
 health_words =
-    codes "<p class=\"soft\">A member's health counter (Lifeguard) rises as its own probes fail. " ++ codes "Nobody at 0 is drawn.</p><ul class=\"legend\">"
+    codes "<p class=\"soft\">A member's health counter (Lifeguard) rises as its own probes fail. " ++ codes "Members at 0 aren't drawn.</p><ul class=\"legend\">"
     ++ entry (codes "two") (codes "at 1") ++ entry (codes "one") (codes "at 2") ++ entry (codes "six") (codes "at 3") ++ entry (codes "dead") (codes "at 4 and more")
     ++ codes "</ul>"
 

@@ -60,7 +60,7 @@ sent s rows = min (sum_by (λ kind. count_of kind rows) (message_kinds s.version
 abbrev pub lost : Setup → List Row → ℕ
 lost s rows = min (sum_by (λ kind. losses_of kind rows) (message_kinds s.version)) (2 ^ 64 - 1)
 
--- messages a member and 1,000 ticks, in hundredths
+-- messages per member and 1,000 ticks, in hundredths
 abbrev pub hundredths : Setup → ℕ → ℕ
 hundredths s sent = sent * 100000 / max (max s.end 1 * member_count s) 1
 
@@ -71,8 +71,8 @@ two_places n = decimal (n / 100) ++ codes "." ++ decimal (n / 10 % 10) ++ decima
 -- how many messages there were
 unfoldable pub rate_words : Setup → ℕ → ℕ → List ℕ
 rate_words s sent lost =
-    codes "<p class=\"soft\">" ++ grouped sent ++ codes " were sent and " ++ grouped lost ++ codes " of them lost: "
-    ++ two_places (hundredths s sent) ++ codes " a member and 1,000 ticks.</p>"
+    codes "<p class=\"soft\">Messages sent: " ++ grouped sent ++ codes "; lost: " ++ grouped lost ++ codes "; sent per member and 1,000 ticks: "
+    ++ two_places (hundredths s sent) ++ codes ".</p>"
 
 -- a kind's entry of the legend, where there are some of it
 abbrev pub kind_entry : List Row → What → List ℕ

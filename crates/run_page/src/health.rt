@@ -121,7 +121,7 @@ fn push_words(text: &mut String) -> Result<(), AllocError>
     text.push_str(
         "<p class=\"soft\">A member's health counter (Lifeguard) rises as its own probes fail. ",
     )?;
-    text.push_str("Nobody at 0 is drawn.</p><ul class=\"legend\">")?;
+    text.push_str("Members at 0 aren't drawn.</p><ul class=\"legend\">")?;
     push_entry(text, "two", "at 1")?;
     push_entry(text, "one", "at 2")?;
     push_entry(text, "six", "at 3")?;

@@ -78,17 +78,17 @@ fn push_rate(text: &mut String, run: &Run, sent: u64, lost: u64) -> Result<(), A
     requires { IsTold run.now }
     ensures { OnOk result (string_bytes text.new ≡ string_bytes text.old ++ rate_words run.now.scenario.now sent lost) }
 {
-    text.push_str("<p class=\"soft\">")?;
+    text.push_str("<p class=\"soft\">Messages sent: ")?;
     push_grouped(text, sent)?;
-    text.push_str(" were sent and ")?;
+    text.push_str("; lost: ")?;
     push_grouped(text, lost)?;
-    text.push_str(" of them lost: ")?;
+    text.push_str("; sent per member and 1,000 ticks: ")?;
     push_hundredths(text, run, sent)?;
-    text.push_str(" a member and 1,000 ticks.</p>")?;
+    text.push_str(".</p>")?;
     Ok(())
 }
 
-/// Appends how many messages a member and 1,000 ticks that is.
+/// Appends how many messages per member and 1,000 ticks that is.
 fn push_hundredths(text: &mut String, run: &Run, sent: u64) -> Result<(), AllocError>
     requires { IsTold run.now }
     ensures { OnOk result (string_bytes text.new ≡ string_bytes text.old ++ two_places (hundredths run.now.scenario.now sent)) }
@@ -96,7 +96,7 @@ fn push_hundredths(text: &mut String, run: &Run, sent: u64) -> Result<(), AllocE
     push_two_places(text, hundredths(run, sent))
 }
 
-/// Messages a member and 1,000 ticks, in hundredths.
+/// Messages per member and 1,000 ticks, in hundredths.
 fn hundredths(run: &Run, sent: u64) -> u128
     requires { IsTold run.now }
     ensures { result ≡ hundredths run.now.scenario.now sent }

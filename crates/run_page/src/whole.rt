@@ -55,7 +55,7 @@ fn push_page(alloc: Global, text: &mut String, run: &Run, all: &[Chosen]) -> Res
     Ok(())
 }
 
-/// Appends what happened, the lanes and the table of those that were thrown out.
+/// Appends what happened, the lanes and the table of false deaths.
 #[tactic(auto, unfolding(crate::specs::Page::page_front))]
 fn push_front(alloc: Global, text: &mut String, run: &Run, all: &[Chosen]) -> Result<(), Memory>
     requires told { IsTold run.now }
