@@ -279,6 +279,28 @@ def error_stream(uses, room, whole):
     uses.judge('both streams in one file', ran.returncode == 0 and (folder / 'out').read_bytes() == b'rows 6\n', ran)
 
 
+def pieces(uses, room, whole):
+    """Pieces that are joined into one of themselves, or without room: each is left as it was."""
+    folder = folder_of(room, 'pieces')
+    for number in (1, 2):
+        uses.call(folder, ['sweep', 's.toml', '--table', f'{number}.csv', '--seeds', '1..4', '--shard', f'{number}/2'])
+    held = [(folder / f'{number}.csv').read_bytes() for number in (1, 2)]
+    joining = ['1.csv', '2.csv']
+    for words in (['join', *joining, '--table', '2.csv'], ['join', *joining, '--table', './1.csv'],
+                  ['join', *joining, '--table', 't', '--page', '2.csv'], ['page', *joining, '--out', '2.csv']):
+        left = uses.call(folder, words)
+        is_well = left[0] == 1 and [(folder / name).read_bytes() for name in joining] == held and not (folder / 't').exists()
+        uses.judge(f'{" ".join(words)}', is_well, left)
+    names = sorted(os.listdir(folder))
+    for words in (['join', *joining, '--table', 'old'], ['page', *joining, '--out', 'old']):
+        (folder / 'old').write_bytes(OLD)
+        line = 'trap "" XFSZ; ulimit -f 0; exec "$0" "$@"'
+        ran = subprocess.run(['sh', '-c', line, uses.program, *words], cwd=folder, capture_output=True)
+        is_well = ran.returncode == 5 and (folder / 'old').read_bytes() == OLD and sorted(os.listdir(folder)) == sorted([*names, 'old'])
+        uses.judge(f'{words[0]} without room over an older file', is_well, ran)
+        (folder / 'old').unlink()
+
+
 def main():
     uses = Uses(program_at(parser_of(__doc__).parse_args().program))
     with tempfile.TemporaryDirectory() as name:
@@ -288,7 +310,7 @@ def main():
         if status != 0:
             sys.exit(f'hostile: status {status} of a plain run')
         whole = (folder / 't').read_bytes()
-        for group in (names, texts, outputs, pipes, ends, words, sizes, removals, replaced, error_stream):
+        for group in (names, texts, outputs, pipes, ends, words, sizes, removals, replaced, error_stream, pieces):
             group(uses, room, whole)
     end(uses.well, uses.wrong)
 

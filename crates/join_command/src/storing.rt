@@ -24,7 +24,7 @@ pub(crate) fn store<'a, F: Files>(
     ensures done { OnOk result (Stores (F.known files.old) (F.known files.new) (F.making files.old) source.now name.entry.now text.now) }
     ensures failed { IfErr result (FailsToStore (F.refused files.old < F.refused files.new) (F.known files.old) (F.known files.new) (F.making files.old) source.now name.entry.now text.now) }
 {
-    let made = match files.make(source, name) {
+    let made = match files.make_whole(source, name) {
         Ok(made) => made,
         Err(fault) => return Err(file_failure(fault, name)),
     };
@@ -48,7 +48,7 @@ pub(crate) fn store_both<'a, F: Files>(
     ensures failed { IfErr result
         (FailsToStoreBoth (F.refused files.old < F.refused files.new) (F.known files.old) (F.known files.new) (F.making files.old) source.now name.entry.now page.entry.now table.now shown.now) }
 {
-    let (made, made_page) = match files.make_both(source, name, page) {
+    let (made, made_page) = match files.make_both_whole(source, name, page) {
         Ok(made) => made,
         Err(PairFault::First) => return Err(Failure::File(name)),
         Err(PairFault::Second) => return Err(Failure::File(page)),
