@@ -1,6 +1,6 @@
 //! What a line shows of a name.
 ghost use Rattle.std.specs.Prelude.{◌≡◌, ◌++◌, IfOk, OnOk, string_bytes};
-ghost use Rattle.command_line.specs.Shown.{breaks_line, is_unseen, is_within, shown_char, shown_name};
+ghost use Rattle.command_line.specs.Shown.{breaks_line, shown_char, shown_name};
 
 use std::alloc::{AllocError, Global};
 
@@ -30,28 +30,9 @@ fn push_shown(text: &mut String, c: char) -> Result<(), AllocError>
     }
 }
 
-/// Whether a character ends a line or changes what is seen of it.
+/// Whether a character ends a line or changes what stands there.
 fn breaks_line(c: char) -> bool
     ensures { result ≡ breaks_line c }
 {
-    c.is_control() || is_unseen(u32::from(c))
-}
-
-/// Whether the character of this number isn't seen: it has no width, separates lines, turns the direction of writing,
-/// or is a tag.
-fn is_unseen(number: u32) -> bool
-    ensures { result ≡ is_unseen number }
-{
-    is_within(0x200b, 0x200f, number)
-        || is_within(0x2028, 0x202e, number)
-        || is_within(0x2066, 0x2069, number)
-        || number == 0xfeff
-        || is_within(0xe0000, 0xe007f, number)
-}
-
-/// Whether a number is one of those from the first to the last.
-fn is_within(first: u32, last: u32, number: u32) -> bool
-    ensures { result ≡ is_within first last number }
-{
-    first <= number && number <= last
+    c.is_control() || c == '\u{2028}' || c == '\u{2029}'
 }
