@@ -139,7 +139,7 @@ fn dealt(
     requires { till ≡ from + length works.now }
     ensures { IfOk result (λ shares. AreShares from till shares.items) }
 {
-    let enough = (total(works) / workers.count() as u64).saturating_add(1);
+    let enough = total(works).div_ceil(workers.count() as u64).max(1);
     let mut shares = Vec::new(alloc);
     let mut start = from;
     let mut held = 0u64;
