@@ -8,6 +8,7 @@ whatever else this one does (stand_in.py), so that a run by several workers star
 
 - one worker starts no thread, neither for a run nor for a sweep;
 - a run of four sites by four workers starts more than two threads, of which each simulates, and a sweep too;
+- each of four long runs of a sweep is made by a thread of its own;
 - no more threads start than there are processors that other programs leave free;
 - all rows of a long run by several threads never wait in memory at once;
 - where a file takes no more, a run by several threads ends with status 5, however many rows are still to come, and the
@@ -27,6 +28,7 @@ from harness import TESTS, end, parser_of, program_at
 from long_runs import REFUSED, far
 from program import call_with_room
 from stand_in import NO_COMPILER, StandIn
+from sweeps import LONG, UNEVEN
 
 # a run of 1.3 million rows, whose text has 54 MB. A row takes at least 40 bytes of memory: they are 53 MB where all of
 # them wait there.
@@ -96,6 +98,14 @@ def sweep_by_several(bench):
         assert threads > 2, (words, threads)
 
 
+def sweep_of_long_runs(bench):
+    """Of four runs of more than a second each of four workers makes one, with a width too."""
+    text = UNEVEN.replace('end = 60000', 'end = 30000').replace('count = 2', f'count = {LONG}')
+    for words in ([], ['--until', '1']):
+        threads = bench.threads(bench.sweep(text, 4, '--seeds', '1..4', *words), 4)
+        assert threads > 2, (words, threads)
+
+
 def few_processors(bench):
     """No more threads start than there are processors, or than other programs leave."""
     for free, busy in ((1, 0), (2, 0), (1, 3), (2, 6)):
@@ -145,7 +155,7 @@ def width(bench):
     assert 3 * made < of_all, (made, of_all)
 
 
-CASES = (one_worker, several_workers, sweep_by_several, few_processors, memory, cut_off, width)
+CASES = (one_worker, several_workers, sweep_by_several, sweep_of_long_runs, few_processors, memory, cut_off, width)
 
 
 def main():
