@@ -29,7 +29,7 @@ use sweep_command::sweep_file;
 /// failed itself or gets the mistakes of a scenario. A run or a sweep that is to tell how far it has come does so on `progress`, as far as that takes
 /// its lines.
 pub fn command<S: AsStr, F: Files, O: Write, E: Write, P: Write>(
-    rt: &(impl Threads + Wait + Sync + std::rt::Files + AllocGlobal),
+    rt: &(impl Threads + Wait + Sync),
     alloc: Global,
     release: &Release<'_>,
     words: &[S],
@@ -75,7 +75,7 @@ pub fn command<S: AsStr, F: Files, O: Write, E: Write, P: Write>(
 
 /// Does what the words ask for.
 fn perform<'a, S: AsStr, F: Files, O: Write, P: Write>(
-    rt: &(impl Threads + Wait + Sync + std::rt::Files + AllocGlobal),
+    rt: &(impl Threads + Wait + Sync),
     alloc: Global,
     release: &Release<'_>,
     words: &'a [S],

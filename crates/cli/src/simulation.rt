@@ -16,7 +16,6 @@ use scenario::{Division, Scenario, Workers};
 use sharing::run_shared;
 use std::alloc::Global;
 use std::io::Write;
-use std::rt::Files;
 use std::sync::Wait;
 use std::thread::Threads;
 use trace::{Put, Sink};
@@ -29,7 +28,7 @@ pub(crate) struct ByThreads<'r, R> {
     pub(crate) rt: &'r R,
 }
 
-impl<H: Threads + Wait + Sync + Files + AllocGlobal> Simulator for ByThreads<'_, H> {
+impl<H: Threads + Wait + Sync> Simulator for ByThreads<'_, H> {
     ghost use Rattle.cli.specs.Outcomes.{EndsRunBy};
 
     ghost ready = { IsSync H.row };
@@ -74,7 +73,7 @@ impl<H: Threads + Wait + Sync + Files + AllocGlobal> Simulator for ByThreads<'_,
 /// fault they have got a beginning of that. Where there is a `watch` it is told how far the run has come, as far as it takes
 /// that.
 pub fn simulate<T: Write, R: Sink, W: Write>(
-    rt: &(impl Threads + Wait + Sync + Files + AllocGlobal),
+    rt: &(impl Threads + Wait + Sync),
     alloc: Global,
     scenario: &Scenario,
     division: &Division,
@@ -139,7 +138,7 @@ pub fn simulate<T: Write, R: Sink, W: Write>(
 /// Runs a scenario as `simulate` does, writes its page, which tells what `shown` says, to another writer once the other two
 /// are whole, and gives all three back, with the failures that were counted. After a fault they have got a beginning of that.
 pub fn simulate_with_page<T: Write, R: Sink, P: Write, W: Write>(
-    rt: &(impl Threads + Wait + Sync + Files + AllocGlobal),
+    rt: &(impl Threads + Wait + Sync),
     alloc: Global,
     scenario: &Scenario,
     division: &Division,

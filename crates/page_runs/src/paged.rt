@@ -17,7 +17,6 @@ use sharing::run_shared_gathered;
 use std::alloc::Global;
 use std::io::Write;
 use std::marker::Sync;
-use std::rt::Files;
 use std::sync::Wait;
 use std::thread::Threads;
 use trace::Sink;
@@ -29,13 +28,7 @@ use whole_runs::the_run_is_one;
 /// of that. Where there is a `watch` it is told how far the run has come, as far as it takes that.
 ///
 /// Faults: as of `run_shared`; `Write` also where the page's sink failed.
-pub fn run_with_page<
-    A: Sink,
-    B: Sink,
-    C: Sink,
-    W: Write,
-    R: Threads + Wait + Sync + Files + AllocGlobal,
->(
+pub fn run_with_page<A: Sink, B: Sink, C: Sink, W: Write, R: Threads + Wait + Sync>(
     rt: &R,
     alloc: Global,
     scenario: &Scenario,
@@ -74,7 +67,7 @@ pub fn run_with_page<
 }
 
 /// Runs the scenario, writes its trace and its report, and tells what its page goes by.
-fn run_told<A: Sink, B: Sink, W: Write, R: Threads + Wait + Sync + Files + AllocGlobal>(
+fn run_told<A: Sink, B: Sink, W: Write, R: Threads + Wait + Sync>(
     rt: &R,
     alloc: Global,
     scenario: &Scenario,
@@ -110,7 +103,7 @@ fn run_told<A: Sink, B: Sink, W: Write, R: Threads + Wait + Sync + Files + Alloc
 }
 
 /// Runs the scenario, and gathers at the place what its page goes by.
-fn run_gathering<A: Sink, B: Sink, R: Threads + Wait + Sync + Files + AllocGlobal>(
+fn run_gathering<A: Sink, B: Sink, R: Threads + Wait + Sync>(
     rt: &R,
     alloc: Global,
     scenario: &Scenario,
@@ -139,7 +132,7 @@ fn run_gathering<A: Sink, B: Sink, R: Threads + Wait + Sync + Files + AllocGloba
 }
 
 /// Runs the scenario, gathers what its page goes by, and tells on `out` how far it has come.
-fn run_watching<A: Sink, B: Sink, W: Write, R: Threads + Wait + Sync + Files + AllocGlobal>(
+fn run_watching<A: Sink, B: Sink, W: Write, R: Threads + Wait + Sync>(
     rt: &R,
     alloc: Global,
     scenario: &Scenario,

@@ -2,20 +2,18 @@
 ghost use Rattle.std.specs.Prelude.{◌≡◌, ◌≤◌, ℕ};
 ghost use Rattle.sharing.specs.Parts.{simulating_of};
 
-use crate::processors::free_processors;
 use scenario::Workers;
-use std::rt::Files;
-use std::thread::Threads;
+use std::thread::{Threads, available_parallelism};
 
-/// How many of so many workers simulate. No more start than there are free processors: a thread that
+/// How many of so many workers simulate, of whom no more go than there are processors: a thread that
 /// waits for others on a processor that they need makes a run slower.
-pub(crate) fn simulating<R: Threads + Files + AllocGlobal>(rt: &R, workers: Workers) -> usize
+pub(crate) fn simulating(rt: &impl Threads, workers: Workers) -> usize
     ensures value { (threads : ℕ) × (1 ≤ threads) × (threads ≤ workers) × (result ≡ simulating_of threads) }
     ensures few { (1 ≤ result) × (result ≤ 64) }
 {
-    match free_processors(rt) {
-        Some(processors) => hands_of(workers.count().min(processors)),
-        None => hands_of(workers.count()),
+    match available_parallelism(rt) {
+        Ok(processors) => hands_of(workers.count().min(processors.get())),
+        Err(_) => hands_of(workers.count()),
     }
 }
 

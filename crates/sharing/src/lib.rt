@@ -6,7 +6,6 @@ mod choosing;
 mod divisions;
 mod folding;
 mod hands;
-mod processors;
 mod round_length;
 mod shared;
 mod sites;

@@ -15,22 +15,21 @@ use rings::{run_by_rings, run_by_rings_gathered};
 use scenario::{Division, Scenario, Workers};
 use std::alloc::Global;
 use std::marker::Sync;
-use std::rt::Files;
 use std::sync::Wait;
 use std::thread::Threads;
 use trace::Sink;
 use whole_runs::{run_streamed, run_streamed_gathered};
 
-/// Runs the scenario by at most so many workers, in the way that is likely to take the least time. One
-/// alone simulates and writes. Of several no more start than there are free processors, and each that
+/// Runs the scenario by so many workers, in the way that is likely to take the least time. One
+/// alone simulates and writes. Of several no more go than there are processors, and each that
 /// simulates has a part of the members for itself: as the division has them, or by the cluster's
 /// sites, or in turn, whichever have the longest rounds. Where no such rounds are long enough, one
-/// worker runs all members while the calling thread writes. What is written is always the same: the
-/// trace, and once that is whole and its sink flushed the report, whose sink is flushed too. After a
-/// fault the sinks have got a beginning of that.
+/// worker runs all members while the calling thread writes. What is written is always the same: the trace, and once that is whole and its
+/// sink flushed the report, whose sink is flushed too. After a fault the sinks have got a beginning
+/// of that.
 ///
 /// Faults: as of `rings::run_by_rings`.
-pub fn run_shared<A: Sink, B: Sink, R: Threads + Wait + Sync + Files + AllocGlobal>(
+pub fn run_shared<A: Sink, B: Sink, R: Threads + Wait + Sync>(
     rt: &R,
     alloc: Global,
     scenario: &Scenario,
@@ -68,12 +67,7 @@ pub fn run_shared<A: Sink, B: Sink, R: Threads + Wait + Sync + Files + AllocGlob
 /// come: that and the tallies of the rows are whole where it succeeds.
 ///
 /// Faults: as of `run_shared`.
-pub fn run_shared_gathered<
-    A: Sink,
-    B: Sink,
-    C: GatherRows,
-    R: Threads + Wait + Sync + Files + AllocGlobal,
->(
+pub fn run_shared_gathered<A: Sink, B: Sink, C: GatherRows, R: Threads + Wait + Sync>(
     rt: &R,
     alloc: Global,
     scenario: &Scenario,

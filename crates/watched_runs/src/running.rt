@@ -12,7 +12,6 @@ use sharing::run_shared_gathered;
 use std::alloc::Global;
 use std::io::Write;
 use std::marker::Sync;
-use std::rt::Files;
 use std::sync::Wait;
 use std::thread::Threads;
 use trace::Sink;
@@ -21,7 +20,7 @@ use trace::Sink;
 /// as that takes the lines. The trace's sink is given back.
 ///
 /// Faults: as of `run_shared`. That `out` fails is none.
-pub fn run_watched<A: Sink, B: Sink, P: Write, R: Threads + Wait + Sync + Files + AllocGlobal>(
+pub fn run_watched<A: Sink, B: Sink, P: Write, R: Threads + Wait + Sync>(
     rt: &R,
     alloc: Global,
     scenario: &Scenario,
