@@ -4,7 +4,7 @@
     tests/cases.py [--program FILE] [--only WORD]
 
 Each case that fails is told with the first line that differs. The last line is `N passed, M failed`, and the
-status is 1 where M is over 0. tests/README.md tells what the data is. The program sees eight free processors, whatever
+status is 1 where M is over 0. tests/README.md tells what the data is. The program sees eight processors, whatever
 else the machine does, so that a run by several workers starts several threads. That needs a C compiler; where there is
 none the first line says so, and the program starts as many threads as it would anyhow.
 """

@@ -9,7 +9,7 @@ table and its lines. The seed is made of the sources' SHA-256 unless one is give
 tried with each change. Texts are of versions 1 to V of the format; without V to the newest that the program
 takes (NEWEST_TAKEN in tests/scenarios.py). A comparison that fails is told with its text and its first
 differing line. The last line is `N passed, M failed`, and the status is 1 where M is over 0. It needs
-Python 3.11. The program sees eight free processors, as by tests/cases.py.
+Python 3.11. The program sees eight processors, as by tests/cases.py.
 """
 
 import hashlib

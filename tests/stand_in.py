@@ -1,5 +1,5 @@
 """A C library that stands before the system's in the program under test. It refuses memory and threads, counts the
-threads that are started, and reports how many processors are free, whatever else the machine does."""
+threads that are started, and reports how many processors there are, whatever else the machine does."""
 
 import os
 import shutil
@@ -141,7 +141,7 @@ class StandIn:
         return {**os.environ, 'LD_PRELOAD': str(self.folder / 'stand_in.so'), **{name: str(value) for name, value in names.items()}}
 
     def free_processors(self):
-        """From now on all that this process calls finds eight free processors, whatever else the machine does."""
+        """From now on all that this process calls finds eight processors, whatever else the machine does."""
         if self.is_there:
             os.environ.update(self.environment(**self.processors(8)))
         else:

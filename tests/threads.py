@@ -3,13 +3,13 @@
 
     tests/threads.py [--program FILE]
 
-The program is the one that ./swimsim has built, or FILE. It sees a machine of as many free processors as a case says,
+The program is the one that ./swimsim has built, or FILE. It sees a machine of as many processors as a case says,
 whatever else this one does (stand_in.py), so that a run by several workers starts several threads. The cases:
 
 - one worker starts no thread, neither for a run nor for a sweep;
 - a run of four sites by four workers starts more than two threads, of which each simulates, and a sweep too;
 - each of four long runs of a sweep is made by a thread of its own;
-- no more threads start than there are processors that other programs leave free;
+- no more threads start than there are processors, or of two both and the one that writes;
 - all rows of a long run by several threads never wait in memory at once;
 - where a file takes no more, a run by several threads ends with status 5, however many rows are still to come, and the
   trace is a beginning;
@@ -64,9 +64,9 @@ class Bench:
         (self.folder / 's.toml').write_text(text)
         return [self.program, 'sweep', self.folder / 's.toml', '--table', self.table, '--workers', str(workers), *words]
 
-    def threads(self, words, free, busy=0):
-        """How many threads a call starts that finds so many processors free, beside some that are busy."""
-        ran, threads = self.stand_in.counted(words, **self.stand_in.processors(free + busy, busy))
+    def threads(self, words, processors):
+        """How many threads a call starts that finds so many processors."""
+        ran, threads = self.stand_in.counted(words, **self.stand_in.processors(processors))
         assert ran.status == 0, ran
         return threads
 
@@ -107,10 +107,10 @@ def sweep_of_long_runs(bench):
 
 
 def few_processors(bench):
-    """No more threads start than there are processors, or than other programs leave."""
-    for free, busy in ((1, 0), (2, 0), (1, 3), (2, 6)):
-        threads = bench.threads(bench.run(far(4, 64, 3000), 64), free, busy)
-        assert threads <= free, (free, busy, threads)
+    """No more threads start than there are processors."""
+    for processors in (1, 2, 3):
+        threads = bench.threads(bench.run(far(4, 64, 3000), 64), processors)
+        assert threads <= processors, (processors, threads)
 
 
 def memory(bench):
