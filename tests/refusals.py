@@ -7,7 +7,7 @@ The program is the one that ./swimsim has built, or FILE; nothing of it is built
 join, a crash, losses, relays, suspicions and refutations meet, or FILE. `check`, `run` by one worker, by three and with
 a page, and `sweep` with a page are called with the first allocation refused, then with the second, and so on until a
 call needs no more. Each must end well, with all that it writes without a refusal, or with status 5 and nothing on
-standard output. Then standard error has `swimsim: memory`, and no file is made and no older one has changed; or it has
+standard output. Then standard error has `swimsim: memory`, and no older file has changed, and a new one is empty; or it has
 `swimsim: run F1`, and there is a beginning of the trace, nothing of the report unless the whole trace is there, and
 nothing of the page unless both are. No other file is left. Where it was a thread that couldn't be started for it,
 there is `swimsim: run F4`, and nothing is written. Where the start of a thread is refused that the run needs, it must
@@ -135,7 +135,8 @@ def is_refusal(left, whole, older):
     if status != 5 or out != b'' or others:
         return False
     if err == MEMORY:
-        return files == [older] * len(WRITTEN)
+        # where there was no file, an empty one may be left: nothing is removed that another program may use by then
+        return all(file == older or (older is None and file == b'') for file in files)
     # an older file that the command doesn't write stays as it is
     written = [(nth, file or b'') for nth, file in enumerate(files) if whole[3 + nth] not in (None, older)]
     in_order = all(whole[3 + nth].startswith(file) and (not file or files[:nth] == list(whole[3:3 + nth]))
