@@ -1,5 +1,5 @@
--- A worker as the run begins.
-use Rattle.std.proofs.Common.{◌≡◌, ◌<◌, List, [], ◌∷◌, ◌++◌, length, Some, zero-le, refl, ap, ◌∙◌, sym, subst, arith}
+-- A process as the run begins.
+use Rattle.std.proofs.Common.{◌≡◌, ℕ, ◌<◌, Option, List, [], ◌∷◌, ◌++◌, length, Some, zero-le, refl, ap, ◌∙◌, sym, subst, arith}
 use Rattle.std.specs.List.{slice_get}
 use Rattle.std.specs.FinMap.{FinMap}
 use Rattle.std.specs.Option.{option_map}
@@ -16,9 +16,9 @@ use Rattle.rounds.specs.Messages.{BeginsRound}
 use Rattle.rounds.proofs.Worlds.{opening_before}
 use Rattle.rounds.proofs.Heard.{begins_opening}
 use Rattle.round_windows.specs.Basis.{Basis, plan_of}
-use Rattle.rings.specs.declared.worker.Worker.{Worker}
-use Rattle.rings.specs.Peers.{AreOthers, numbers_of}
-use Rattle.rings.specs.Starting.{MayWork}
+use Rattle.rings.specs.declared.lines.Lines.{Lines}
+use Rattle.rings.specs.Peers.{AreLines, AreOthers, numbers_of}
+use Rattle.rings.specs.Windows.{Begins}
 
 -- what stands behind a beginning of a list
 item_behind : {X : Type 0} (before : List X) (x : X) (rest : List X) → slice_get (before ++ x ∷ rest) (length before) ≡ Some x
@@ -26,19 +26,18 @@ item_behind [] x rest = refl
 item_behind (y ∷ before) x rest = item_behind before x rest
 
 module _ {K Q : Type 0} (set : Q → FinMap key_cmp Event) (basis : Basis) where
-  -- the worker of the next part
-  pub may_work : (parts before rest : List (Part Q)) (worker : Worker K Q) → StandFor set basis.deal parts (opening basis.setup) → IsFirstMoment (opening basis.setup) worker.first
-      → before ++ worker.part ∷ rest ≡ parts → worker.lines.number ≡ length before → AreOthers (length parts) (length before) (numbers_of worker.lines.peers.items) → MayWork set basis worker
-  may_work parts before rest worker stand first all number are =
-      let below : worker.lines.number < basis.deal.parts = omega (arith, number, ap length all, length-append before (worker.part ∷ rest), stand.count) in
-      let here : slice_get parts worker.lines.number ≡ Some worker.part = ap (slice_get parts) number ∙ ap (λ (l : List (Part Q)). slice_get l (length before)) (sym all) ∙ item_behind before worker.part rest in
-      let world = same_Some _ _ (sym (ap (option_map (world_of set)) here) ∙ stand.worlds worker.lines.number below) in
-      record {
-        begins =
-            subst (BeginsRound (plan_of basis) worker.lines.number 0 worker.first) (sym world)
-            (begins_opening (plan_of basis) worker.lines.number (opening basis.setup) worker.first ([], [], opening_before basis.setup 0 (λ q pends. zero-le)) first);
-        lines = record {
+  -- the next part, and its lines
+  pub begins_first : (parts before rest : List (Part Q)) (part : Part Q) (first : Option ℕ) (lines : Lines K) → StandFor set basis.deal parts (opening basis.setup) → IsFirstMoment (opening basis.setup) first
+      → before ++ part ∷ rest ≡ parts → lines.number ≡ length before → AreOthers (length parts) (length before) (numbers_of lines.peers.items)
+      → Begins set basis lines.number 0 first part × AreLines basis lines
+  begins_first parts before rest part first lines stand pends all number are =
+      let below : lines.number < basis.deal.parts = omega (arith, number, ap length all, length-append before (part ∷ rest), stand.count) in
+      let here : slice_get parts lines.number ≡ Some part = ap (slice_get parts) number ∙ ap (λ (l : List (Part Q)). slice_get l (length before)) (sym all) ∙ item_behind before part rest in
+      let world = same_Some _ _ (sym (ap (option_map (world_of set)) here) ∙ stand.worlds lines.number below) in (
+        subst (BeginsRound (plan_of basis) lines.number 0 first) (sym world)
+        (begins_opening (plan_of basis) lines.number (opening basis.setup) first ([], [], opening_before basis.setup 0 (λ q pends. zero-le)) pends),
+        record {
           own = below;
-          peers = subst (λ n. AreOthers n worker.lines.number (numbers_of worker.lines.peers.items)) stand.count (subst (λ n. AreOthers (length parts) n (numbers_of worker.lines.peers.items)) (sym number) are);
-        };
-      }
+          peers = subst (λ n. AreOthers n lines.number (numbers_of lines.peers.items)) stand.count (subst (λ n. AreOthers (length parts) n (numbers_of lines.peers.items)) (sym number) are);
+        },
+      )

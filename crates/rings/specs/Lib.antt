@@ -3,3 +3,6 @@ pub mod Peers
 pub mod Windows
 pub mod Writing
 pub mod Starting
+pub mod Processes
+pub mod Holding
+pub mod Closing

@@ -24,16 +24,18 @@ use std::sync::Wait;
 use windows::Part;
 use worker_queue::EventQueue;
 
-/// What a worker knows once all have told of a round.
+/// What a process knows once all have told of a round.
 #[derive(Drop)]
 pub(crate) struct Heard {
     /// The first moment that pends anywhere.
     pub(crate) first: Option<Moment>,
     /// How many rows all parts wrote.
     pub(crate) rows: u64,
+    /// How often all workers slept.
+    pub(crate) slept: u64,
 }
 
-/// Tells each other worker of a round.
+/// Tells each other process of a round.
 pub(crate) fn tell_all<'b, K: OfRun>(
     alloc: Global,
     peers: &mut Vec<Peer<'b, K>>,
@@ -53,7 +55,7 @@ pub(crate) fn tell_all<'b, K: OfRun>(
     Ok(())
 }
 
-/// Hears from each other worker of the round, and lets come to the part what they send.
+/// Hears from each other process of the round, and lets come to the part what they send.
 pub(crate) fn hear_all<'b, K: OfRun, Q: EventQueue<Event> + Drop>(
     rt: &impl Wait,
     peers: &mut Vec<Peer<'b, K>>,
@@ -72,20 +74,23 @@ pub(crate) fn hear_all<'b, K: OfRun, Q: EventQueue<Event> + Drop>(
 {
     let mut first = told.least;
     let mut rows = told.rows;
+    let mut slept = told.slept;
     for peer in peers.iter_mut() {
         let word = peer.hear(rt, patience, told.from, told.round)?;
         let Word {
             events,
             least,
             rows: theirs,
+            slept: sleeps,
             ..
         } = word;
         receive(part, &events)?;
         peer.keep(events);
         first = lesser(first, least);
         rows = rows.saturating_add(theirs);
+        slept = slept.saturating_add(sleeps);
     }
-    Ok(Heard { first, rows })
+    Ok(Heard { first, rows, slept })
 }
 
 /// Lets copies of these events come to the part. What a thread frees of another's memory keeps that

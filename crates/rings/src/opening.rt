@@ -1,27 +1,30 @@
-//! The workers of a run and their rings, as it begins.
+//! The processes of a run and their rings, as it begins.
 ghost use Rattle.std.specs.Prelude.{◌≡◌, length, Some, IfOk};
 ghost use Rattle.std.specs.List.{AllByRecursion};
 ghost use Rattle.member.specs.Opening.{opening};
 ghost use Rattle.turns.specs.Parts.{StandFor};
 ghost use Rattle.rounds.specs.Starts.{IsFirstMoment};
 ghost use Rattle.round_windows.specs.Basis.{Basis, IsBasis};
-ghost use Rattle.rings.specs.Starting.{MayWork};
+ghost use Rattle.rings.specs.Processes.{IsReady};
 
 use crate::bell::Bell;
+use crate::lines::Lines;
 use crate::lot::Delivery;
 use crate::lots::LotTaker;
 use crate::of_run::OfRun;
 use crate::peers::peers_of;
+use crate::process::Process;
 use crate::protocols::Lots;
 use crate::ring::{Sender, ring_between};
-use crate::worker::{Lines, Worker};
+use crate::rows::Gathered;
+
 use base::{Memory, Moment};
 use member::Event;
 use std::alloc::Global;
 use windows::Part;
 use worker_queue::EventQueue;
 
-/// How many lots of a worker may be on their way to who writes.
+/// How many lots of a process may be on their way to who writes.
 const LOTS_ON_THEIR_WAY: usize = 8;
 
 /// So many bells.
@@ -45,26 +48,26 @@ fn same_moment(moment: &Option<Moment>) -> Option<Moment>
     }
 }
 
-/// A worker for each of the parts, with rings between any two and to who writes, and where the lots
+/// A process for each of the parts, with rings between any two and to who writes, and where the lots
 /// come out there.
-pub(crate) fn workers_of<'b, K: OfRun, Q: EventQueue<Event> + Drop>(
+pub(crate) fn processes_of<'b, K: OfRun, Q: EventQueue<Event> + Drop>(
     alloc: Global,
     parts: Vec<Part<Q>>,
     first: Option<Moment>,
     bells: &'b [Bell],
     writers: &'b Bell,
-) -> Result<(Vec<Worker<'b, K, Q>>, Vec<LotTaker<'b, K>>), Memory>
+) -> Result<(Vec<Process<'b, K, Q>>, Vec<LotTaker<'b, K>>), Memory>
     requires run { (basis : Basis) → K.basis ≡ Some basis → IsBasis basis × StandFor Q.set basis.deal parts.items (opening basis.setup)
         × IsFirstMoment (opening basis.setup) first }
     requires bells { length bells.now ≡ length parts.items }
-    ensures workers { IfOk result (λ r. (basis : Basis) → K.basis ≡ Some basis → AllByRecursion (MayWork Q.set basis) r.0.items) }
+    ensures processes { IfOk result (λ r. (basis : Basis) → K.basis ≡ Some basis → AllByRecursion (IsReady Q.set basis) r.0.items) }
     ensures takers { IfOk result (λ r. length r.1.items ≡ length parts.items) }
 {
     let mut peers = peers_of(alloc, bells)?;
-    let mut workers = Vec::new(alloc);
+    let mut processes = Vec::new(alloc);
     let mut takers = Vec::new(alloc);
     for part in parts {
-        let number = workers.len();
+        let number = processes.len();
         let (lots, taker): (Sender<Delivery, Lots<K>>, _) = ring_between(
             alloc,
             LOTS_ON_THEIR_WAY,
@@ -72,9 +75,11 @@ pub(crate) fn workers_of<'b, K: OfRun, Q: EventQueue<Event> + Drop>(
             writers,
         )?;
         let own = std::mem::replace(&mut peers[number], Vec::new(alloc));
-        workers.push(Worker {
+        processes.push(Process {
             part,
+            round: 0,
             first: same_moment(&first),
+            gathered: Gathered::new(alloc),
             lines: Lines {
                 number,
                 peers: own,
@@ -83,5 +88,5 @@ pub(crate) fn workers_of<'b, K: OfRun, Q: EventQueue<Event> + Drop>(
         })?;
         takers.push(LotTaker::new(taker))?;
     }
-    Ok((workers, takers))
+    Ok((processes, takers))
 }

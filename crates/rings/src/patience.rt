@@ -1,3 +1,5 @@
+use std::mem;
+
 /// How often a thread looks before it sleeps: some 150 microseconds, longer than most windows take.
 const MANY_LOOKS: usize = 100_000;
 
@@ -21,6 +23,8 @@ pub(crate) struct Patience {
     caution: usize,
     // the most that it looks
     most: usize,
+    // how often it slept since that was asked last
+    slept: u64,
 }
 
 impl Patience {
@@ -30,6 +34,7 @@ impl Patience {
             cautious: 0,
             caution: FIRST_CAUTION,
             most: MANY_LOOKS,
+            slept: 0,
         }
     }
 
@@ -39,6 +44,7 @@ impl Patience {
             cautious: 0,
             caution: FIRST_CAUTION,
             most: FEW_LOOKS,
+            slept: 0,
         }
     }
 
@@ -49,6 +55,16 @@ impl Patience {
         } else {
             self.most
         }
+    }
+
+    /// The thread is about to sleep.
+    pub(crate) fn sleeps(&mut self) {
+        self.slept = self.slept.saturating_add(1);
+    }
+
+    /// How often it slept since this was asked last.
+    pub(crate) fn taken_sleeps(&mut self) -> u64 {
+        mem::replace(&mut self.slept, 0)
     }
 
     /// What was awaited came while the thread looked.

@@ -1,4 +1,4 @@
-//! A worker's rings to and from the others.
+//! A process's rings to and from the others.
 ghost use Rattle.std.specs.Prelude.{◌≡◌, ◌≢◌, ℕ, ◌+◌, ◌<◌, [], length, map, unwrap_or, Some, IfOk, IfErr};
 ghost use Rattle.std.specs.List.{slice_get};
 ghost use Rattle.member.specs.StateOf.{pair_of};
@@ -19,11 +19,11 @@ use std::alloc::Global;
 use std::mem;
 use std::sync::Wait;
 
-/// How many messages a ring has room for. A worker is no more than a round ahead of another, so
+/// How many messages a ring has room for. A process is no more than a round ahead of another, so
 /// that two words are on their way at most, and that one ended.
 const ROOM: usize = 4;
 
-/// The rings between a worker and another one.
+/// The rings between a process and another one.
 #[derive(Drop)]
 pub(crate) struct Peer<'b, K: OfRun> {
     /// The part of the other.
@@ -34,17 +34,18 @@ pub(crate) struct Peer<'b, K: OfRun> {
     spent: Vec<Event>,
 }
 
-/// What a worker tells each other of its round.
+/// What a process tells each other of its round.
 #[derive(Drop)]
 pub(crate) struct Telling {
     pub(crate) from: usize,
     pub(crate) round: u64,
     pub(crate) least: Option<Moment>,
     pub(crate) rows: u64,
+    pub(crate) slept: u64,
 }
 
-/// Rings between any two of so many workers, at the bells of each: for each worker those to the
-/// others, in the order of the workers.
+/// Rings between any two of so many processes, at the bells of each: for each process those to the
+/// others, in the order of the processes.
 pub(crate) fn peers_of<'b, K: OfRun>(
     alloc: Global,
     bells: &'b [Bell],
@@ -59,7 +60,7 @@ pub(crate) fn peers_of<'b, K: OfRun>(
     Ok(all)
 }
 
-/// Joins one more worker to those before it: its peers.
+/// Joins one more process to those before it: its peers.
 fn joined<'b, K: OfRun>(
     alloc: Global,
     before: &mut Vec<Vec<Peer<'b, K>>>,
@@ -95,7 +96,7 @@ fn joined<'b, K: OfRun>(
 }
 
 impl<'b, K: OfRun> Peer<'b, K> {
-    /// Tells the other worker of a round. False where it can't be told.
+    /// Tells the other process of a round. False where it can't be told.
     pub(crate) fn tell(
         &mut self,
         alloc: Global,
@@ -115,19 +116,20 @@ impl<'b, K: OfRun> Peer<'b, K> {
             events,
             least: telling.least,
             rows: telling.rows,
+            slept: telling.slept,
             spent: mem::replace(&mut self.spent, Vec::new(alloc)),
         };
         self.to.send_at_once(Told::Word(word))
     }
 
-    /// Keeps what the other worker sent until the next word to it.
+    /// Keeps what the other process sent until the next word to it.
     pub(crate) fn keep(&mut self, spent: Vec<Event>)
         ensures number { self.new.number ≡ self.old.number }
     {
         self.spent = spent;
     }
 
-    /// Tells the other worker that this one has ended by the fault.
+    /// Tells the other process that this one has ended by the fault.
     pub(crate) fn tell_end(&mut self, fault: Fault)
         requires { (basis : Basis) → K.basis ≡ Some basis → MayEndBy basis fault }
         ensures number { self.new.number ≡ self.old.number }
@@ -135,7 +137,7 @@ impl<'b, K: OfRun> Peer<'b, K> {
         let _ = self.to.send_at_once(Told::Ended(fault));
     }
 
-    /// What the other worker tells of the round.
+    /// What the other process tells of the round.
     ///
     /// Faults: that by which it ended, `Relay` where it tells of anything else.
     pub(crate) fn hear(

@@ -12,9 +12,9 @@ use std::sync::Wait;
 #[derive(Drop)]
 pub(crate) struct Sender<'b, T: Drop, P: Protocol<T>> {
     end: Producer<T, Global, P>,
-    // of the thread that takes
+    // of whoever takes
     theirs: &'b Bell,
-    // of this one
+    // of whoever sends
     own: &'b Bell,
 }
 
@@ -102,7 +102,7 @@ impl<'b, T: Drop, P: Protocol<T>> Taker<'b, T, P> {
             }
             None => {
                 patience.looked_in_vain();
-                self.await_next(rt)
+                self.await_next(rt, patience)
             }
         }
     }
@@ -140,7 +140,7 @@ impl<'b, T: Drop, P: Protocol<T>> Taker<'b, T, P> {
     }
 
     /// Sleeps until something comes. None where nobody sends any more.
-    fn await_next(&mut self, rt: &impl Wait) -> Option<T>
+    fn await_next(&mut self, rt: &impl Wait, patience: &mut Patience) -> Option<T>
         ensures allowed { IfSome result (λ item. (before : List T) × P.allows before item) }
     {
         for _ in rt.forever() {
@@ -152,6 +152,7 @@ impl<'b, T: Drop, P: Protocol<T>> Taker<'b, T, P> {
             if self.end.is_abandoned() {
                 return self.last();
             }
+            patience.sleeps();
             self.own.sleep(rt, heard);
         }
         unreachable!()

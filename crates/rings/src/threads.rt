@@ -1,17 +1,19 @@
-//! The threads of a run by rings, from their start to their end.
+//! The threads of a run, from their start to their end.
 ghost use Rattle.std.specs.Prelude.{◌≡◌, ◌<◌, ◌^◌, [], Some, IfOk, IfErr};
-ghost use Rattle.std.specs.List.{AllByRecursion};
 ghost use Rattle.std.specs.Thread.{IsSync, IsSend};
 ghost use Rattle.gates.specs.Gates.{KnowsAll, AwaitsAll};
 ghost use Rattle.outputs.specs.Traced.{IsEarly, KeepsTrace};
 ghost use Rattle.round_windows.specs.Basis.{basis_of, GoBy};
-ghost use Rattle.rings.specs.Starting.{MayWork, MayStart};
+ghost use Rattle.rings.specs.Starting.{MayStart};
 
-use crate::bell::Bell;
+use crate::closing::take_back;
+use crate::crew::Crew;
 use crate::of_run::OfRun;
-use crate::worker::{Worker, work};
+use crate::piece::RunPost;
+use crate::worker::{Place, clear, work};
 use crate::writer::{Writer, write_all};
-use base::Fault;
+use base::{Fault, Memory};
+use board::Site;
 use gates::Gate;
 use member::Event;
 use outputs::TakeRows;
@@ -24,97 +26,131 @@ use std::thread;
 use std::thread::{JoinHandle, Scope, Threads};
 use worker_queue::EventQueue;
 
-/// Starts a thread for each worker, takes on the calling thread the rows that they send, and
-/// returns once all have ended.
+/// How many workers there are for how many processes.
+#[derive(Clone, Copy)]
+pub(crate) struct Hands {
+    pub(crate) workers: usize,
+    pub(crate) all: usize,
+}
+
+/// Starts a thread for each worker, at one of the posts each, takes on the calling thread the rows that
+/// they send, and returns once all have ended: what came, the calling thread's own post, and the others,
+/// or `Memory` where there was none for these.
 ///
 /// Faults: as of `write_all`, and before anything is written `Relay` where a thread could not be
 /// started, `Memory` where its handle could not be kept.
 pub(crate) fn within<
     'r,
+    'p,
     'b,
     'a,
     T: TakeRows<P>,
     P,
     Q: EventQueue<Event> + Drop + Send,
     G: Gate,
+    J: Site + Send,
     K: OfRun + Send + Sync,
     R: Threads + Wait + Sync,
 >(
     rt: &R,
     alloc: Global,
-    workers: Vec<Worker<'b, K, Q>>,
-    bells: &'b [Bell],
+    mut own: RunPost<'p, 'b, K, Q, J>,
+    mut posts: Vec<RunPost<'p, 'b, K, Q, J>>,
+    hands: Hands,
+    crew: &Crew,
     rounds: &Rounds<'a>,
     gate: &G,
     writer: Writer<'r, 'b, K>,
     place: &mut P,
-) -> Result<Tallies, Fault>
-    requires start { MayStart Q.set K.basis G.knows G.awaits rounds.now workers.items writer }
+) -> (
+    Result<Tallies, Fault>,
+    RunPost<'p, 'b, K, Q, J>,
+    Result<Vec<RunPost<'p, 'b, K, Q, J>>, Memory>,
+)
+    requires start { MayStart K.basis G.knows G.awaits rounds.now hands.workers writer }
     requires countable { T.failed place.old < 2 ^ 63 }
     requires none_gathered { T.gathered place.old writer.scenario.now [] }
-    ensures trace { KeepsTrace rounds.now.cluster.scenario.now (T.held place.old) (T.held place.new) (T.failed place.old) (T.failed place.new) result }
-    ensures gathered { IfOk result (T.gathered place.new rounds.now.cluster.scenario.now) }
+    ensures trace { KeepsTrace rounds.now.cluster.scenario.now (T.held place.old) (T.held place.new) (T.failed place.old) (T.failed place.new) result.0 }
+    ensures gathered { IfOk result.0 (T.gathered place.new rounds.now.cluster.scenario.now) }
 {
-    let (ended, _place) = thread::scope(
+    let (ended, own, posts, _place) = thread::scope(
         thread::scope_env(),
         rt,
-        move |scope| -> (Result<Tallies, Fault>, &mut P)
+        move |scope| -> (
+            Result<Tallies, Fault>,
+            RunPost<K, Q, J>,
+            Result<Vec<RunPost<K, Q, J>>, Memory>,
+            &mut P,
+        )
             requires { IsSync R.row × IsSync G.row × IsSend Q.row
-                × MayStart Q.set K.basis G.knows G.awaits rounds.now workers.items writer
+                × MayStart K.basis G.knows G.awaits rounds.now hands.workers writer
                 × (T.failed place.now < 2 ^ 63) × T.gathered place.now writer.scenario.now [] }
-            ensures same { result.1.ghost_name ≡ place.entry.ghost_name }
-            ensures trace { KeepsTrace writer.entry.scenario.now (T.held place.entry.now) (T.held result.1.now) (T.failed place.entry.now) (T.failed result.1.now) result.0 }
-            ensures gathered { IfOk result.0 (T.gathered result.1.now writer.entry.scenario.now) }
+            ensures same { result.3.ghost_name ≡ place.entry.ghost_name }
+            ensures trace { KeepsTrace writer.entry.scenario.now (T.held place.entry.now) (T.held result.3.now) (T.failed place.entry.now) (T.failed result.3.now) result.0 }
+            ensures gathered { IfOk result.0 (T.gathered result.3.now writer.entry.scenario.now) }
         {
-            let threads = match start_workers(scope, rt, alloc, workers, rounds, gate) {
+            let threads = match start_workers(scope, rt, alloc, &mut posts, hands, crew, rounds, gate) {
                 Ok(threads) => threads,
                 Err(fault) => {
-                    ring_all(bells);
-                    return (Err(fault), place);
+                    crew.fail();
+                    clear(rt, &mut own, fault, rounds);
+                    return (Err(fault), own, Ok(posts), place);
                 }
             };
             let written = write_all::<T, P, K, R>(rt, alloc, writer, place);
-            join_all(rt, threads);
-            (written, place)
+            let posts = joined(rt, threads, posts);
+            take_back(rt, &mut own);
+            (written, own, posts, place)
         },
     );
-    ended
+    (ended, own, posts)
 }
 
-/// Starts a thread for each of the workers.
+/// Starts a thread for each of so many workers, each at one of the posts.
 fn start_workers<
     's,
+    'p: 's,
     'b: 's,
     'a: 's,
     E,
     Q: EventQueue<Event> + Drop + Send + 's,
     G: Gate + 's,
+    J: Site + Send + 's,
     K: OfRun + Send + Sync + 's,
     R: Wait + Sync + 's,
 >(
     scope: &Scope<'s, E>,
     rt: &'s R,
     alloc: Global,
-    workers: Vec<Worker<'b, K, Q>>,
+    posts: &mut Vec<RunPost<'p, 'b, K, Q, J>>,
+    hands: Hands,
+    crew: &'s Crew,
     rounds: &'s Rounds<'a>,
     gate: &'s G,
-) -> Result<Vec<JoinHandle<()>>, Fault>
+) -> Result<Vec<JoinHandle<RunPost<'p, 'b, K, Q, J>>>, Fault>
     requires rounds { GoBy rounds.now }
     requires run { K.basis ≡ Some (basis_of rounds.now) }
-    requires ready { AllByRecursion (MayWork Q.set (basis_of rounds.now)) workers.items }
-    requires known { KnowsAll G.knows rounds.now.division.now.parts }
+    requires known { KnowsAll G.knows hands.workers }
     requires windows { AwaitsAll G.awaits rounds.now.division.now.parts }
     ensures { IfErr result IsEarly }
 {
-    let Ok(mut threads) = Vec::with_capacity(alloc, workers.len()) else {
+    let Ok(mut threads) = Vec::with_capacity(alloc, hands.workers) else {
         return Err(Fault::Memory);
     };
-    for worker in workers {
+    for number in 0..hands.workers {
+        let Some(post) = posts.pop() else {
+            return Err(Fault::Relay);
+        };
+        let place = Place {
+            number,
+            share: share_of(hands, number),
+            all: hands.all,
+        };
         let thread = scope.spawn(
-            move ||
-                requires { GoBy rounds.now × (K.basis ≡ Some (basis_of rounds.now)) × MayWork Q.set (basis_of rounds.now) worker
-                    × KnowsAll G.knows rounds.now.division.now.parts × AwaitsAll G.awaits rounds.now.division.now.parts }
-            { work(rt, alloc, worker, rounds, gate) },
+            move || -> RunPost<K, Q, J>
+                requires { GoBy rounds.now × (K.basis ≡ Some (basis_of rounds.now)) × G.knows place.number
+                    × AwaitsAll G.awaits rounds.now.division.now.parts }
+            { work(rt, alloc, post, place, crew, rounds, gate) },
         );
         let Ok(thread) = thread else {
             return Err(Fault::Relay);
@@ -127,16 +163,22 @@ fn start_workers<
     Ok(threads)
 }
 
-/// Waits for the end of all these threads.
-fn join_all(rt: &impl Threads, mut threads: Vec<JoinHandle<()>>) {
-    while let Some(thread) = threads.pop() {
-        thread.join(rt);
-    }
+/// How many processes that worker holds while all work: all are dealt out, and no worker has two more
+/// than another.
+fn share_of(hands: Hands, number: usize) -> usize
+    requires { number < hands.workers }
+{
+    (hands.workers - 1 - number).saturating_add(hands.all) / hands.workers
 }
 
-/// Rings all bells, so that each worker sees who is there no more.
-fn ring_all(bells: &[Bell]) {
-    for bell in bells {
-        bell.ring();
+/// These posts, and those of the threads once they have ended.
+fn joined<'p, 'b, K: OfRun, Q: EventQueue<Event> + Drop, J: Site>(
+    rt: &impl Threads,
+    mut threads: Vec<JoinHandle<RunPost<'p, 'b, K, Q, J>>>,
+    mut posts: Vec<RunPost<'p, 'b, K, Q, J>>,
+) -> Result<Vec<RunPost<'p, 'b, K, Q, J>>, Memory> {
+    while let Some(thread) = threads.pop() {
+        posts.push(thread.join(rt))?;
     }
+    Ok(posts)
 }

@@ -1,10 +1,10 @@
 use base::{Fault, Moment};
 use member::Event;
 
-/// What one worker tells another of a round.
+/// What one process tells another of a round.
 #[derive(Drop)]
 pub struct Word {
-    /// The part of the worker that tells it.
+    /// The part of the process that tells it.
     pub from: usize,
     /// The part of the one that is told.
     pub to: usize,
@@ -18,12 +18,14 @@ pub struct Word {
     pub least: Option<Moment>,
     /// How many rows the window wrote.
     pub rows: u64,
+    /// How often the worker that tells it has slept since its word before, while it waited for others.
+    pub slept: u64,
 }
 
-/// What goes from worker to worker.
+/// What goes from process to process.
 #[derive(Drop)]
 pub enum Told {
     Word(Word),
-    /// The worker has ended, since it found this fault or was told of it.
+    /// The process has ended, since its worker found this fault or was told of it.
     Ended(Fault),
 }

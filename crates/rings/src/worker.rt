@@ -1,202 +1,271 @@
-//! A worker of a run: it keeps a part from the first round to the last.
-ghost use Rattle.std.specs.Prelude.{◌≡◌, ◌⊎◌, ℕ, ◌+◌, ◌<◌, ◌≤◌, true, Some, None, OnOk, IfOk, IfErr, IfSome, IfNone};
-ghost use Rattle.std.specs.Bool.{OnTrue};
-ghost use Rattle.rounds.specs.Starts.{IsUpTo};
-ghost use Rattle.rounds.specs.Lots.{HasLasted};
-ghost use Rattle.round_windows.specs.Basis.{Basis, IsBasis, basis_of, plan_of, GoBy};
-ghost use Rattle.rings.specs.Peers.{AreLines};
+//! A worker of a run: it takes its share of the processes from the board, and runs them round after round.
+ghost use Rattle.std.specs.Prelude.{◌≡◌, Some, IfErr};
+ghost use Rattle.gates.specs.Gates.{KnowsAll, AwaitsAll};
+ghost use Rattle.round_windows.specs.Basis.{Basis, basis_of, GoBy};
+ghost use Rattle.rings.specs.Holding.{Holds};
 ghost use Rattle.rings.specs.Telling.{MayEndBy};
-ghost use Rattle.rings.specs.Windows.{Begins, GathersUpTo, GathersSoFar, HasRanRound};
 
-use crate::exchange::{Heard, hear_all, tell_all};
-use crate::lot::Delivery;
+use crate::crew::Crew;
+use crate::hold::Hold;
 use crate::of_run::OfRun;
+use crate::pace::{Pace, Solo};
 use crate::patience::Patience;
-use crate::peers::{Peer, Telling};
-use crate::protocols::Lots;
-use crate::ring::Sender;
-use crate::rows::Gathered;
-use base::{Fault, Moment};
+use crate::piece::{Piece, RunPost};
+use base::Fault;
+use board::Site;
 use gates::Gate;
 use member::Event;
-use round_windows::{Ran, Rounds, round_bound, run_window};
+use round_windows::Rounds;
 use std::alloc::Global;
 use std::sync::Wait;
-use windows::Part;
 use worker_queue::EventQueue;
 
-/// A worker, and all that it takes with it into its thread.
-#[derive(Drop)]
-pub(crate) struct Worker<'b, K: OfRun, Q: EventQueue<Event>> {
-    pub(crate) part: Part<Q>,
-    /// The first moment that pends anywhere.
-    pub(crate) first: Option<Moment>,
-    pub(crate) lines: Lines<'b, K>,
-}
-
-/// A worker's rings to the others and to who writes.
-#[derive(Drop)]
-pub(crate) struct Lines<'b, K: OfRun> {
-    /// Its part.
+/// Which worker of a run it is.
+#[derive(Clone, Copy)]
+pub(crate) struct Place {
+    /// Its number, from 0.
     pub(crate) number: usize,
-    pub(crate) peers: Vec<Peer<'b, K>>,
-    pub(crate) lots: Sender<'b, Delivery, Lots<K>>,
+    /// How many processes it holds while all work.
+    pub(crate) share: usize,
+    /// How many there are.
+    pub(crate) all: usize,
 }
 
-/// Runs the rounds of a run for the worker's part. Where it ends by a fault all others are told.
-pub(crate) fn work<'b, K: OfRun, Q: EventQueue<Event> + Drop, G: Gate>(
+/// Takes its share of the run's processes from the board, and runs them up to the end. Where waiting
+/// for the others doesn't pay, worker 0 goes on alone with all of them for a while. Once the run has
+/// ended, it gives its post back.
+pub(crate) fn work<'p, 'b, K: OfRun, Q: EventQueue<Event> + Drop, J: Site, G: Gate>(
     rt: &impl Wait,
     alloc: Global,
-    worker: Worker<'b, K, Q>,
+    mut post: RunPost<'p, 'b, K, Q, J>,
+    place: Place,
+    crew: &Crew,
     rounds: &Rounds,
     gate: &G,
-)
+) -> RunPost<'p, 'b, K, Q, J>
     requires rounds { GoBy rounds.now }
     requires run { K.basis ≡ Some (basis_of rounds.now) }
-    requires begins { Begins Q.set (basis_of rounds.now) worker.lines.number 0 worker.first worker.part }
-    requires lines { AreLines (basis_of rounds.now) worker.lines }
-    requires known { G.knows worker.lines.number }
-    requires awaited { (window : ℕ) → 1 ≤ window → G.awaits window worker.lines.number }
+    requires known { G.knows place.number }
+    requires awaited { AwaitsAll G.awaits rounds.now.division.now.parts }
 {
-    let Worker {
-        part,
-        first,
-        mut lines,
-    } = worker;
-    match run_rounds(rt, alloc, part, first, &mut lines, rounds, gate) {
-        Ok(()) => {}
-        Err(fault) => lines.tell_end(rt, fault),
+    match run_share(rt, alloc, &mut post, place, crew, rounds, gate) {
+        Ok(()) => crew.end(),
+        Err(fault) => {
+            clear(rt, &mut post, fault, rounds);
+            crew.fail();
+        }
     }
+    if crew.has_failed() {
+        clear(rt, &mut post, Fault::Relay, rounds);
+    }
+    post
 }
 
-/// Runs the rounds, up to that in which nothing pends up to the end.
-fn run_rounds<'b, K: OfRun, Q: EventQueue<Event> + Drop, G: Gate>(
+/// Takes what lies on the board of a run that has failed, and tells all that it has ended by the fault.
+pub(crate) fn clear<'p, 'b, K: OfRun, Q: EventQueue<Event> + Drop, J: Site>(
     rt: &impl Wait,
-    alloc: Global,
-    mut part: Part<Q>,
-    mut first: Option<Moment>,
-    lines: &mut Lines<'b, K>,
+    post: &mut RunPost<'p, 'b, K, Q, J>,
+    fault: Fault,
     rounds: &Rounds,
-    gate: &G,
-) -> Result<(), Fault>
-    requires rounds { GoBy rounds.now }
+)
     requires run { K.basis ≡ Some (basis_of rounds.now) }
-    requires begins { Begins Q.set (basis_of rounds.now) lines.old.number 0 first part }
-    requires lines { AreLines (basis_of rounds.now) lines.old }
-    requires known { G.knows lines.old.number }
-    requires awaited { (window : ℕ) → 1 ≤ window → G.awaits window lines.old.number }
-    ensures fault { IfErr result (MayEndBy (basis_of rounds.now)) }
+    requires fault { MayEndBy (basis_of rounds.now) fault }
 {
-    let mut gathered = Gathered::new(alloc);
-    let mut patience = Patience::long();
-    let mut round = 0;
+    let _ = rounds;
     for _ in rt.forever() {
-        let Some(from) = in_time(first, rounds.end) else {
-            let until = Moment(rounds.end.ticks() + 1);
-            return lines.send_lot(rt, &mut gathered, until, round, true);
-        };
-        gate.enter(lines.number, round + 1, lines.number);
-        let bound = round_bound(from, rounds.end, rounds.ways[lines.number]);
-        let came = run_window(alloc, part, bound, rounds)?;
-        let (after, heard) = lines.exchange(rt, alloc, &mut patience, round, came, &mut gathered)?;
-        part = after;
-        first = heard.first;
-        round += 1;
-        if gathered.are_enough(heard.rows) {
-            let until = round_bound(from, rounds.end, rounds.shortest);
-            lines.send_lot(rt, &mut gathered, until, round, false)?;
+        match post.take(rt) {
+            Some(Piece::Process(process)) => {
+                let mut process = process;
+                process.lines.tell_end(rt, fault);
+            }
+            Some(Piece::Ended(_)) => {}
+            None => return,
         }
     }
     unreachable!()
 }
 
-/// The first moment that pends, where it is no later than the end.
-fn in_time(first: Option<Moment>, end: Moment) -> Option<Moment>
-    ensures some { IfSome result (λ moment. (first ≡ Some moment) × (moment ≤ end)) }
-    ensures none { IfNone result (IsUpTo first (end + 1)) }
+/// Runs the worker's share up to the end. Where it meets a fault all that it holds has told it.
+fn run_share<'p, 'b, K: OfRun, Q: EventQueue<Event> + Drop, J: Site, G: Gate>(
+    rt: &impl Wait,
+    alloc: Global,
+    post: &mut RunPost<'p, 'b, K, Q, J>,
+    place: Place,
+    crew: &Crew,
+    rounds: &Rounds,
+    gate: &G,
+) -> Result<(), Fault>
+    requires rounds { GoBy rounds.now }
+    requires run { K.basis ≡ Some (basis_of rounds.now) }
+    requires known { G.knows place.number }
+    requires awaited { AwaitsAll G.awaits rounds.now.division.now.parts }
+    ensures fault { IfErr result (MayEndBy (basis_of rounds.now)) }
 {
-    let first = first?;
-    if end.ticks() < first.ticks() {
-        return None;
+    let mut hold = Hold::new(alloc, place.all)?;
+    match run_to_end(rt, alloc, &mut hold, post, place, crew, rounds, gate) {
+        Ok(()) => Ok(()),
+        Err(fault) => {
+            hold.tell_end(rt, fault);
+            Err(fault)
+        }
     }
-    Some(first)
 }
 
-impl<'b, K: OfRun> Lines<'b, K> {
-    /// Tells the others what the window gave, and hears from them: the part as the next round begins,
-    /// and what is known then.
-    fn exchange<Q: EventQueue<Event> + Drop>(
-        &mut self,
-        rt: &impl Wait,
-        alloc: Global,
-        patience: &mut Patience,
-        round: u64,
-        came: Ran<Q>,
-        gathered: &mut Gathered,
-    ) -> Result<(Part<Q>, Heard), Fault>
-        requires run { (basis : Basis) × (K.basis ≡ Some basis) }
-        requires basis { (basis : Basis) → K.basis ≡ Some basis → IsBasis basis }
-        requires lines { (basis : Basis) → K.basis ≡ Some basis → AreLines basis self.old }
-        requires came { (basis : Basis) → K.basis ≡ Some basis → HasRanRound Q.set basis self.old.number round came }
-        requires gathered { (basis : Basis) → K.basis ≡ Some basis → GathersSoFar basis self.old.number round gathered.old }
-        ensures lines { (basis : Basis) → K.basis ≡ Some basis → AreLines basis self.new }
-        ensures own { self.new.number ≡ self.old.number }
-        ensures next { IfOk result (λ r. (basis : Basis) → K.basis ≡ Some basis → Begins Q.set basis self.old.number (round + 1) r.1.first r.0) }
-        ensures gathered { OnOk result ((basis : Basis) → K.basis ≡ Some basis → GathersUpTo basis self.old.number came.until gathered.new) }
-        ensures fault { IfErr result (λ fault. (basis : Basis) → K.basis ≡ Some basis → MayEndBy basis fault) }
-    {
-        let Ran {
-            mut part,
-            mut out,
-            least,
-            rows,
-            ..
-        } = came;
-        let telling = Telling {
-            from: self.number,
-            round,
-            least,
-            rows: rows.len() as u64,
-        };
-        tell_all(alloc, &mut self.peers, &telling, &mut out)?;
-        gathered.add(rows)?;
-        let heard = hear_all(rt, &mut self.peers, patience, &mut part, telling)?;
-        Ok((part, heard))
-    }
-
-    /// Sends to who writes, before a round, the rows before a moment.
-    fn send_lot(
-        &mut self,
-        rt: &impl Wait,
-        gathered: &mut Gathered,
-        until: Moment,
-        round: u64,
-        last: bool,
-    ) -> Result<(), Fault>
-        requires run { (basis : Basis) × (K.basis ≡ Some basis) }
-        requires basis { (basis : Basis) → K.basis ≡ Some basis → IsBasis basis }
-        requires gathered { (basis : Basis) → K.basis ≡ Some basis → (to : ℕ) × (until ≤ to) × GathersUpTo basis self.old.number to gathered.old }
-        requires lasted { OnTrue last ((basis : Basis) → K.basis ≡ Some basis → (until ≡ basis.setup.end + 1) × HasLasted (plan_of basis) self.old.number round) }
-        ensures own { self.new.number ≡ self.old.number }
-        ensures peers { self.new.peers ≡ self.old.peers }
-        ensures gathered { OnOk result ((basis : Basis) (to : ℕ) → K.basis ≡ Some basis → until ≤ to → GathersUpTo basis self.old.number to gathered.old
-            → GathersUpTo basis self.old.number to gathered.new) }
-        ensures fault { IfErr result (λ fault. (fault ≡ Fault.Memory) ⊎ (fault ≡ Fault.Relay)) }
-    {
-        let lot = gathered.lot(self.number, until, round, last)?;
-        if self.lots.send(rt, Delivery::Lot(lot)) {
+/// Runs the worker's share together with the others, and where that doesn't pay lets worker 0 go on
+/// alone for a while, again and again up to the end.
+fn run_to_end<'p, 'b, K: OfRun, Q: EventQueue<Event> + Drop, J: Site, G: Gate>(
+    rt: &impl Wait,
+    alloc: Global,
+    hold: &mut Hold<'b, K, Q>,
+    post: &mut RunPost<'p, 'b, K, Q, J>,
+    place: Place,
+    crew: &Crew,
+    rounds: &Rounds,
+    gate: &G,
+) -> Result<(), Fault>
+    requires rounds { GoBy rounds.now }
+    requires run { K.basis ≡ Some (basis_of rounds.now) }
+    requires holds { Holds Q.set (basis_of rounds.now) hold.old }
+    requires known { G.knows place.number }
+    requires awaited { AwaitsAll G.awaits rounds.now.division.now.parts }
+    ensures fault { IfErr result (MayEndBy (basis_of rounds.now)) }
+{
+    let mut solo = Solo::new();
+    let mut dealings = 0;
+    for _ in rt.forever() {
+        gather(rt, hold, post, place.number, place.share, crew, rounds)?;
+        let pace = run_together(rt, alloc, hold, post, place.number, rounds, gate)?;
+        if hold.is_empty() {
             return Ok(());
         }
-        Err(Fault::Relay)
-    }
-
-    /// Tells all that this worker has ended by the fault.
-    fn tell_end(&mut self, rt: &impl Wait, fault: Fault)
-        requires { (basis : Basis) → K.basis ≡ Some basis → MayEndBy basis fault }
-    {
-        for peer in self.peers.iter_mut() {
-            peer.tell_end(fault);
+        let goes_on = if place.number == 0 {
+            let lasts = solo.next(pace);
+            run_alone(rt, alloc, hold, post, place, lasts, crew, rounds, gate)?
+        } else {
+            step_back(rt, hold, post, place.number, &mut dealings, crew, rounds)?
+        };
+        if !goes_on {
+            return Ok(());
         }
-        let _ = self.lots.send(rt, Delivery::Ended(fault));
+    }
+    unreachable!()
+}
+
+/// Waits until the worker holds so many processes, which it takes from the board.
+fn gather<'p, 'b, K: OfRun, Q: EventQueue<Event> + Drop, J: Site>(
+    rt: &impl Wait,
+    hold: &mut Hold<'b, K, Q>,
+    post: &mut RunPost<'p, 'b, K, Q, J>,
+    worker: usize,
+    many: usize,
+    crew: &Crew,
+    rounds: &Rounds,
+) -> Result<(), Fault>
+    requires run { K.basis ≡ Some (basis_of rounds.now) }
+    requires holds { Holds Q.set (basis_of rounds.now) hold.old }
+    ensures holds { Holds Q.set (basis_of rounds.now) hold.new }
+    ensures fault { IfErr result (MayEndBy (basis_of rounds.now)) }
+{
+    for _ in rt.forever() {
+        let calls = crew.calls(worker);
+        if hold.take(rt, post, many, rounds)? {
+            return Ok(());
+        }
+        if crew.is_over() {
+            return Err(Fault::Relay);
+        }
+        crew.sleep(rt, worker, calls);
+    }
+    unreachable!()
+}
+
+/// Runs round after round, up to the end or until that doesn't pay: what all did meanwhile.
+fn run_together<'p, 'b, K: OfRun, Q: EventQueue<Event> + Drop, J: Site, G: Gate>(
+    rt: &impl Wait,
+    alloc: Global,
+    hold: &mut Hold<'b, K, Q>,
+    post: &mut RunPost<'p, 'b, K, Q, J>,
+    worker: usize,
+    rounds: &Rounds,
+    gate: &G,
+) -> Result<Pace, Fault>
+    requires rounds { GoBy rounds.now }
+    requires run { K.basis ≡ Some (basis_of rounds.now) }
+    requires holds { Holds Q.set (basis_of rounds.now) hold.old }
+    requires known { G.knows worker }
+    requires awaited { AwaitsAll G.awaits rounds.now.division.now.parts }
+    ensures holds { Holds Q.set (basis_of rounds.now) hold.new }
+    ensures fault { IfErr result (MayEndBy (basis_of rounds.now)) }
+{
+    let mut patience = Patience::long();
+    let mut pace = Pace::new();
+    for _ in rt.forever() {
+        let counts = hold.run_round(rt, alloc, worker, &mut patience, post, rounds, gate)?;
+        pace.add(counts);
+        if hold.is_empty() || pace.is_slow() {
+            return Ok(pace);
+        }
+    }
+    unreachable!()
+}
+
+/// Takes the processes of all others from the board, runs them so many rounds, and deals them back.
+/// False where they have come to the end.
+fn run_alone<'p, 'b, K: OfRun, Q: EventQueue<Event> + Drop, J: Site, G: Gate>(
+    rt: &impl Wait,
+    alloc: Global,
+    hold: &mut Hold<'b, K, Q>,
+    post: &mut RunPost<'p, 'b, K, Q, J>,
+    place: Place,
+    lasts: u64,
+    crew: &Crew,
+    rounds: &Rounds,
+    gate: &G,
+) -> Result<bool, Fault>
+    requires rounds { GoBy rounds.now }
+    requires run { K.basis ≡ Some (basis_of rounds.now) }
+    requires holds { Holds Q.set (basis_of rounds.now) hold.old }
+    requires known { G.knows place.number }
+    requires awaited { AwaitsAll G.awaits rounds.now.division.now.parts }
+    ensures holds { Holds Q.set (basis_of rounds.now) hold.new }
+    ensures fault { IfErr result (MayEndBy (basis_of rounds.now)) }
+{
+    gather(rt, hold, post, place.number, place.all, crew, rounds)?;
+    let mut patience = Patience::long();
+    for _ in 0..lasts {
+        hold.run_round(rt, alloc, place.number, &mut patience, post, rounds, gate)?;
+        if hold.is_empty() {
+            return Ok(false);
+        }
+    }
+    hold.deal_back(rt, post, place.share, rounds)?;
+    crew.deal();
+    Ok(true)
+}
+
+/// Deals all that the worker holds onto the board for worker 0, and sleeps until that one deals it out
+/// again. False where the run has ended meanwhile.
+fn step_back<'p, 'b, K: OfRun, Q: EventQueue<Event> + Drop, J: Site>(
+    rt: &impl Wait,
+    hold: &mut Hold<'b, K, Q>,
+    post: &mut RunPost<'p, 'b, K, Q, J>,
+    worker: usize,
+    dealings: &mut u64,
+    crew: &Crew,
+    rounds: &Rounds,
+) -> Result<bool, Fault>
+    requires run { K.basis ≡ Some (basis_of rounds.now) }
+    requires holds { Holds Q.set (basis_of rounds.now) hold.old }
+    ensures holds { Holds Q.set (basis_of rounds.now) hold.new }
+    ensures fault { IfErr result (MayEndBy (basis_of rounds.now)) }
+{
+    hold.deal_back(rt, post, 0, rounds)?;
+    crew.call(0);
+    match crew.await_dealing(rt, worker, *dealings) {
+        Some(now) => {
+            *dealings = now;
+            Ok(true)
+        }
+        None => Ok(false),
     }
 }

@@ -58,7 +58,9 @@ pub fn run_shared<A: Sink, B: Sink, R: Threads + Wait + Sync>(
         return run_streamed(alloc, scenario, trace, report);
     }
     match chosen_parts(alloc, scenario, division, simulating(rt, workers)) {
-        Ok(parts) => run_by_rings(rt, alloc, scenario, &parts, &OpenGate, trace, report),
+        Ok(parts) => run_by_rings(
+            rt, alloc, scenario, &parts, workers, &OpenGate, trace, report,
+        ),
         Err(Memory) => end_run(alloc, Err(Fault::Memory), scenario, trace, report),
     }
 }
@@ -102,7 +104,9 @@ pub fn run_shared_gathered<A: Sink, B: Sink, C: GatherRows, R: Threads + Wait + 
         return run_streamed_gathered(alloc, scenario, place, report);
     }
     match chosen_parts(alloc, scenario, division, simulating(rt, workers)) {
-        Ok(parts) => run_by_rings_gathered(rt, alloc, scenario, &parts, &OpenGate, place, report),
+        Ok(parts) => run_by_rings_gathered(
+            rt, alloc, scenario, &parts, workers, &OpenGate, place, report,
+        ),
         Err(Memory) => end_tallied(
             alloc,
             Err(Fault::Memory),

@@ -1,5 +1,5 @@
 use Rattle.rings.proofs.WorkerEndings.{may_deliver, on_true, lot_of_run, later_gathered, gathered_rise}
-use Rattle.rings.proofs.worker.Lines.send_lot.Goals as goal
+use Rattle.rings.proofs.lines.Lines.send_lot.Goals as goal
 
 pub lot-requires : goal.lot-requires
 lot-requires g c =

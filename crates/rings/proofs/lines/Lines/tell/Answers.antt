@@ -1,8 +1,6 @@
-use Rattle.std.proofs.Common.{sym, subst}
-use Rattle.rings.specs.Peers.{AreOthers}
 use Rattle.rings.proofs.TellingWindows.{can_tell, after_window}
 use Rattle.rings.proofs.WorkerRounds.{gathers_more}
-use Rattle.rings.proofs.worker.Lines.exchange.Goals as goal
+use Rattle.rings.proofs.lines.Lines.tell.Goals as goal
 
 pub tell_all-requires-clause-others : goal.tell_all-requires-clause-others
 tell_all-requires-clause-others g c = λ basis run. (c.requires.lines basis run).peers
@@ -10,16 +8,8 @@ tell_all-requires-clause-others g c = λ basis run. (c.requires.lines basis run)
 pub tell_all-requires-clause-known : goal.tell_all-requires-clause-known
 tell_all-requires-clause-known g c = λ basis run. can_tell g.Q.EventQueue.set basis c.args.self.now.number c.args.round c.args.came (c.requires.came basis run)
 
-pub hear_all-requires-clause-own : goal.hear_all-requires-clause-own
-hear_all-requires-clause-own g c = λ basis run. (c.requires.lines basis run).own
-
-pub hear_all-requires-clause-others : goal.hear_all-requires-clause-others
-hear_all-requires-clause-others g c = λ basis run.
-    subst (AreOthers basis.deal.parts c.args.self.now.number) (sym c.tell_all.ensures.numbers) (c.requires.lines basis run).peers
-
-pub hear_all-requires-clause-window : goal.hear_all-requires-clause-window
-hear_all-requires-clause-window g c = λ basis run.
-    (c.requires.basis basis run, after_window g.Q.EventQueue.set basis c.args.self.now.number c.args.round c.args.came (c.requires.came basis run))
+pub returns-clause-window : goal.returns-clause-window
+returns-clause-window g c = λ basis run. after_window g.Q.EventQueue.set basis c.args.self.now.number c.args.round c.args.came (c.requires.came basis run)
 
 pub returns-clause-gathered : goal.returns-clause-gathered
 returns-clause-gathered g c = λ basis run.

@@ -1,5 +1,5 @@
 use Rattle.std.proofs.Common.{vec_len}
-use Rattle.rings.proofs.threads.join_all.Given as goal
+use Rattle.rings.proofs.threads.joined.Given as goal
 
 abbrev pub invariant-loop-thread : goal.invariant-loop-thread
 invariant-loop-thread g l = Unit {0}

@@ -6,13 +6,15 @@ use Rattle.member.specs.Opening.{opening}
 use Rattle.rounds.specs.Starts.{IsFirstMoment}
 use Rattle.turns.proofs.Coming.{same_count, elsewhere}
 use Rattle.rings.specs.declared.peers.Peer.{Peer}
-use Rattle.rings.specs.declared.worker.Worker.{Worker}
+use Rattle.rings.specs.declared.process.Process.{Process}
+use Rattle.rings.specs.declared.lines.Lines.{Lines}
 use Rattle.rings.specs.Peers.{AreJoined, AreOthers, numbers_of}
-use Rattle.rings.specs.Starting.{MayWork}
+use Rattle.rings.specs.Processes.{IsReady}
 use Rattle.rings.proofs.Joining.{rings_of, joined_there}
 use Rattle.rings.proofs.JoiningPlaces.{all_with_one}
-use Rattle.rings.proofs.PeersOpening.{may_work}
-use Rattle.rings.proofs.opening.workers_of.Goals as goal
+use Rattle.rings.proofs.PeersOpening.{begins_first}
+use Rattle.rings.proofs.WorkerRounds.{gathers_none}
+use Rattle.rings.proofs.opening.processes_of.Goals as goal
 
 pub loop-part-init : goal.loop-part-init
 loop-part-init g c =
@@ -21,11 +23,11 @@ loop-part-init g c =
     let are = subst (λ n. AreJoined n (map rings_of peers)) c.requires.bells c.in_ok-peers.ensures in
     record {
       left = c.into_iter-part-iterator.ensures.into_iter_gives.0;
-      count = ap length c.new-workers.ensures.items;
+      count = ap length c.new-processes.ensures.items;
       takers = ap length c.new-takers.ensures.items;
       rings = sym (length-map peers rings_of) ∙ are.counted;
       others = λ i own low here. joined_there (length parts) i peers own are here;
-      workers = λ basis is. subst (AllByRecursion (MayWork g.Q.EventQueue.set basis)) (sym c.new-workers.ensures.items) tt;
+      processes = λ basis is. subst (AllByRecursion (IsReady g.Q.EventQueue.set basis)) (sym c.new-processes.ensures.items) tt;
     }
 
 pub loop-part-preserved : goal.loop-part-preserved
@@ -47,15 +49,17 @@ loop-part-preserved g c =
     let others =
     subst (λ n. AreOthers (length c.args.parts.items) n (numbers_of own.items)) is_next
     (subst (λ (v : Vec (Peer g.row.K.Denot) Global). AreOthers (length c.args.parts.items) number (numbers_of v.items)) (sym c.replace-own.ensures.value) (so_far.others number c.index_mut.result.now (omega arith) there)) in
-    let worker : Worker g.row.K.Denot g.row.Q.Denot = record { part = part; first = c.same_moment.result; lines = record { number = number; peers = own; lots = c.in_ok-lots.lots } } in
+    let lines : Lines g.row.K.Denot = record { number = number; peers = own; lots = c.in_ok-lots.lots } in
+    let process : Process g.row.K.Denot g.row.Q.Denot = record { part = part; round = 0; first = c.same_moment.result; gathered = c.new-3.result; lines = lines } in
     record {
       left = append_assoc yielded (part ∷ []) rest ∙ all;
       count = omega (arith, c.in_ok-push.ensures.len, more, so_far.count);
       takers = omega (arith, c.in_ok-push-2.ensures.len, more, so_far.takers);
       rings = same_count peers number c.replace-own.new.dest ∙ so_far.rings;
       others = λ i peers low here. so_far.others i peers (omega (arith, more)) (sym (elsewhere c.loop-part.peers.items number i c.replace-own.new.dest (λ same. omega (arith, more))) ∙ here);
-      workers = λ basis is.
+      processes = λ basis is.
           let given = c.requires.run basis is in
-          all_with_one (MayWork g.Q.EventQueue.set basis) c.loop-part.workers.items c.push.new.self.items worker c.in_ok-push.ensures.items (so_far.workers basis is)
-          (may_work g.Q.EventQueue.set basis c.args.parts.items yielded rest worker given.1 (subst (IsFirstMoment (opening basis.setup)) (sym c.same_moment.ensures) given.2) all is_next others);
+          let begun = begins_first g.Q.EventQueue.set basis c.args.parts.items yielded rest part c.same_moment.result lines given.1 (subst (IsFirstMoment (opening basis.setup)) (sym c.same_moment.ensures) given.2) all is_next others in
+          all_with_one (IsReady g.Q.EventQueue.set basis) c.loop-part.processes.items c.push.new.self.items process c.in_ok-push.ensures.items (so_far.processes basis is)
+          (record { begins = begun.0; gathered = gathers_none basis given.0 number c.new-3.result c.new-3.ensures.since c.new-3.ensures.none; lines = begun.1 });
     }
