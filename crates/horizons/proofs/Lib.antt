@@ -4,5 +4,4 @@ pub mod Joining
 pub mod Shortening
 pub mod Shortest
 pub mod Linking
-pub mod Bounding
 pub mod Progress

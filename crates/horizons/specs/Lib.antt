@@ -4,4 +4,3 @@ pub mod Between
 pub mod Walks
 pub mod TableOf
 pub mod Direct
-pub mod Bounds

@@ -1,5 +1,5 @@
-//! How far each part of a cluster may run by itself: the least lengths of walks of links from part
-//! to part, and from them a bound for each part.
+//! How long a message needs at least from each part of a cluster to each: the least lengths of walks of
+//! links from part to part.
 #![tactic(auto)]
 
 mod direct;
@@ -11,8 +11,6 @@ mod settle;
 mod table;
 mod twins;
 
-pub use laws::{
-    bounds_are_horizons, bounds_are_past_the_first_moment, parts_with_members_have_walks,
-};
+pub use laws::parts_with_members_have_walks;
 pub use making::horizons;
 pub use table::Horizons;

@@ -14,7 +14,6 @@ use Rattle.std.proofs.lemmas.List.Elements.{recursion_from_All, All-from_recursi
 use Rattle.base.specs.declared.key.Key.{Key}
 use Rattle.base.specs.Order.{key_cmp, key_total, key_exact}
 use Rattle.base.specs.World.{IsPending, IsOver, Run}
-use Rattle.base.specs.Run.{handled, trace, run-exists}
 use Rattle.base.specs.Rising.{IsRising, IsPlaceBefore}
 use Rattle.base.proofs.Rising.{all_weaker, rows_rise, all_front, all_back}
 use Rattle.member.proofs.Fair.{steps_later, steps_counted}
@@ -52,7 +51,6 @@ use Rattle.turns.specs.Parts.{is_before, IsUpTo, NonePendsBefore, StandFor, MayT
 use Rattle.turns.specs.Bounds.{IsFirstMoment}
 use Rattle.turns.specs.declared.turns.Course.{Course}
 use Rattle.turns.specs.Course.{IsCourse}
-use Rattle.windows.specs.Play.{IsBeginning}
 use Rattle.turns.specs.Beginning.{BeginsRun}
 use Rattle.turns.proofs.Coming.{behind}
 use Rattle.turns.proofs.Releasing.{IsAmong, AreItemsOf, at_one, own_items, items_moved, no_items, rest_in_two, items_left}
@@ -282,14 +280,6 @@ module _ {Q : Type 0} (set : Q → FinMap key_cmp Event) (course : Course) (is :
         after_front [] x ys = refl
         after_front (y ∷ xs) x ys = after_front xs x ys
 
-  -- the rows so far are the first of the run
-  pub begins : BeginsRun s rows
-  begins =
-      let later = steps_later s is.sound in
-      let left = run-exists (step s) later s.end so_far.world in
-      let all = so_far.follows (handled (step s) later s.end so_far.world) (trace (step s) later s.end so_far.world) left.last left.run left.over in
-      (rows ++ all.1, (all.0, record { last = left.last; run = all.2; over = left.over }), (all.1, refl))
-
   -- where nothing is left up to the end, the run is whole, and wore no counter out
   is_over : NonePendsBefore set parts (s.end + 1) → IsOver s.end so_far.world
   is_over none q here = let low = none_of_it (s.end + 1) none q here in omega arith
@@ -346,17 +336,3 @@ module _ (s : Setup) (sound : IsSound s) where
 
   pub names_run : (rows : List Row) → IsRunOf s rows → All (NamesMembers s) rows
   names_run rows run = names_next [] rows (rows, run, ([], sym (append-nil rows)))
-
-  pub begins_with : (front rows : List Row) → IsBeginning front rows → BeginsRun s rows → BeginsRun s front
-  begins_with front rows front_of begun =
-      (begun.0, begun.1, (front_of.0 ++ begun.2.0, begun.2.1 ∙ ap (λ l. l ++ begun.2.0) front_of.1 ∙ append_assoc front front_of.0 begun.2.0))
-
--- ---- the rows of one turn more
-
-module _ {Q : Type 0} (set : Q → FinMap key_cmp Event) (course : Course) (is : IsCourse course) (rows made kept : List Row) (from : ℕ) (after : List (Part Q))
-    (on : IsUnderWay set course.cluster.scenario.now course.division.now from after (rows ++ made) kept) where
-  pub names_on : All (NamesMembers course.cluster.scenario.now) made
-  names_on = names_next course.cluster.scenario.now is.sound rows made (begins set course is after (rows ++ made) kept from on)
-
-  pub begins_on : (front : List Row) → IsBeginning front (rows ++ made) → BeginsRun course.cluster.scenario.now front
-  begins_on front first = begins_with course.cluster.scenario.now is.sound front (rows ++ made) first (begins set course is after (rows ++ made) kept from on)

@@ -1,16 +1,13 @@
 -- How far the next windows may reach.
-use Rattle.std.specs.Prelude.{◌≡◌, ℕ, ◌≤◌, min, List, Option, Some}
-use Rattle.std.specs.List.{slice_get}
+use Rattle.std.specs.Prelude.{◌≡◌, ℕ, ◌≤◌, List}
 use Rattle.std.specs.FinMap.{FinMap}
 use Rattle.base.specs.Order.{key_cmp}
 use Rattle.member.specs.declared.event.Event.{Event}
-use Rattle.windows.specs.declared.bounded.Bounded.{Bounded}
 use Rattle.windows.specs.declared.part.Part.{Part}
 use Rattle.scenario.specs.Setup.{Setup}
 use Rattle.scenario.specs.Division.{Deal}
 use Rattle.horizons.specs.Between.{part_number, IsLeastBetween}
 use Rattle.horizons.specs.Walks.{Table, AreWalksOf}
-use Rattle.horizons.specs.Bounds.{IsHorizon}
 use Rattle.turns.specs.Parts.{NonePendsBefore}
 
 -- the first moment at which something pends in these parts, no later than the end
@@ -18,11 +15,6 @@ pub record IsFirstMoment {Q : Type 0} (set : Q → FinMap key_cmp Event) (parts 
   pub none : NonePendsBefore set parts first
   pub some : (t : ℕ) → NonePendsBefore set parts t → t ≤ first
   pub in_time : first ≤ end
-
--- each bound is the horizon of the part at its place, or the limit where that is less
-abbrev pub AreLimitedHorizons : {Q : Type 0} → (ℕ → Type 0) → (ℕ → ℕ → ℕ) → List (Option ℕ) → ℕ → ℕ → List (Bounded Q) → Type 0
-AreLimitedHorizons {Q} HasMembers between firsts end limit bounded =
-    (i : ℕ) (b : Bounded Q) → slice_get bounded i ≡ Some b → (horizon : ℕ) × IsHorizon HasMembers between firsts end i horizon × (b.bound ≡ min horizon limit)
 
 -- the table has the least walks among the parts of this division of the scenario's members
 pub record AreHorizonsOf (table : Table) (s : Setup) (deal : Deal) : Type 0 where

@@ -56,16 +56,6 @@ CountFrom n [] = Unit {0}
 CountFrom n (m ∷ ms) = (m ≡ n) × CountFrom (n + 1) ms
 
 module _ {Q : Type 0} (set : Q → FinMap key_cmp Event) where
-  -- just before moments up to this one nothing pends in the part
-  abbrev pub PendsFrom : Part Q → Option ℕ → Type 0
-  PendsFrom p first = (t : ℕ) → NoneIsBelow (world_of set p).pending t ↔ IsUpTo first t
-
-  -- these are the first moments that pend in each of the parts
-  abbrev pub AreFirstMoments : List (Part Q) → List (Option ℕ) → Type 0
-  AreFirstMoments [] [] = Unit {0}
-  AreFirstMoments (p ∷ ps) (first ∷ firsts) = PendsFrom p first × AreFirstMoments ps firsts
-  AreFirstMoments _ _ = ⊥
-
   -- nothing pends in these parts before the moment
   abbrev pub NonePendsBefore : List (Part Q) → ℕ → Type 0
   NonePendsBefore parts t = AllByRecursion (λ (p : Part Q). NoneIsBelow (world_of set p).pending t) parts

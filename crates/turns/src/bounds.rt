@@ -1,19 +1,16 @@
 //! How far the next windows of a run's parts may go.
-ghost use Rattle.std.specs.Prelude.{◌≡◌, ◌+◌, ◌<◌, ◌≤◌, ◌^◌, ℕ, length, IfOk, IfSome, IfNone};
+ghost use Rattle.std.specs.Prelude.{◌≡◌, ◌+◌, ◌<◌, ◌≤◌, ◌^◌, IfOk, IfSome, IfNone};
 ghost use Rattle.std.specs.List.{AllByRecursion};
-ghost use Rattle.scenario.specs.Setup.{Setup};
-ghost use Rattle.windows.specs.Cluster.{IsLeastDelay, IsPeopled};
+ghost use Rattle.windows.specs.Cluster.{IsLeastDelay};
 ghost use Rattle.windows.specs.declared.bounded.Bounded.{Bounded as ABounded};
 ghost use Rattle.windows.specs.Several.{parts_of};
-ghost use Rattle.horizons.specs.Walks.{AreWalksOf};
-ghost use Rattle.turns.specs.Parts.{NonePendsBefore, PendsFrom, AreFirstMoments, AreBounded};
+ghost use Rattle.turns.specs.Parts.{NonePendsBefore, AreBounded};
 ghost use Rattle.turns.specs.Course.{IsCourse};
-ghost use Rattle.turns.specs.Bounds.{IsFirstMoment, AreLimitedHorizons, AreHorizonsOf};
+ghost use Rattle.turns.specs.Bounds.{IsFirstMoment};
 
 use crate::parts::least_moment;
 use crate::turns::Course;
 use base::{Memory, Moment};
-use horizons::Horizons;
 use member::Event;
 use std::alloc::Global;
 use windows::{Bounded, Part};
@@ -85,76 +82,6 @@ fn bound_all<Q: EventQueue<Event> + Drop>(
 {
     let mut bounded = Vec::new(alloc);
     for part in parts {
-        bounded.push(Bounded { part, bound })?;
-    }
-    Ok(bounded)
-}
-
-/// The parts, each with a bound of its own: its horizon, up to which nothing can come to it from what pends
-/// now in others, or the limit where that is less.
-pub fn bounded_by_horizons<Q: EventQueue<Event> + Drop>(
-    alloc: Global,
-    parts: Vec<Part<Q>>,
-    first: Moment,
-    limit: Moment,
-    horizons: &Horizons,
-    course: &Course,
-) -> Result<Vec<Bounded<Q>>, Memory>
-    requires course { IsCourse course.now }
-    requires count { length parts.items ≡ course.now.division.now.parts }
-    requires first { IsFirstMoment Q.set parts.items course.now.end first }
-    requires limit { first < limit }
-    requires horizons { AreHorizonsOf horizons.now course.now.cluster.scenario.now course.now.division.now }
-    ensures { IfOk result (λ bounded. AreBounded Q.set course.now.cluster.scenario.now course.now.division.now parts.items first bounded.items) }
-{
-    let firsts = first_moments(alloc, &parts)?;
-    bound_each(alloc, parts, &firsts, limit, horizons, course.end)
-}
-
-/// The first moment that pends in each part: None where nothing does.
-fn first_moments<Q: EventQueue<Event> + Drop>(
-    alloc: Global,
-    parts: &[Part<Q>],
-) -> Result<Vec<Option<Moment>>, Memory>
-    ensures { IfOk result (λ firsts. AreFirstMoments Q.set parts.now firsts.items) }
-{
-    let mut firsts = Vec::new(alloc);
-    for part in parts {
-        firsts.push(first_of(part))?;
-    }
-    Ok(firsts)
-}
-
-/// The first moment that pends in the part.
-fn first_of<Q: EventQueue<Event> + Drop>(part: &Part<Q>) -> Option<Moment>
-    ensures { PendsFrom Q.set part.now result }
-{
-    match part.least() {
-        Some(key) => Some(key.at),
-        None => None,
-    }
-}
-
-/// The parts, each with its horizon, or the limit where that is less.
-fn bound_each<Q: EventQueue<Event> + Drop>(
-    alloc: Global,
-    parts: Vec<Part<Q>>,
-    firsts: &[Option<Moment>],
-    limit: Moment,
-    horizons: &Horizons,
-    end: Moment,
-) -> Result<Vec<Bounded<Q>>, Memory>
-    requires parts { length parts.items ≡ horizons.now.parts }
-    requires one_each { length firsts.now ≡ horizons.now.parts }
-    requires end { end ≤ 2 ^ 40 }
-    ensures parts { IfOk result (λ bounded. parts_of bounded.items ≡ parts.items) }
-    ensures bounds { IfOk result (λ bounded. (s : Setup) (division : ℕ → ℕ) (between : ℕ → ℕ → ℕ) → AreWalksOf horizons.now s division between
-        → AreLimitedHorizons (IsPeopled s division) between firsts.now end limit bounded.items) }
-{
-    let mut bounded = Vec::new(alloc);
-    for part in parts {
-        let horizon = horizons.bound(bounded.len(), firsts, end);
-        let bound = Moment(horizon.ticks().min(limit.ticks()));
         bounded.push(Bounded { part, bound })?;
     }
     Ok(bounded)

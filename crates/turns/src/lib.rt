@@ -9,7 +9,7 @@ mod rows;
 mod turn_limit;
 mod turns;
 
-pub use bounds::{bounded_by_horizons, bounded_in_common, first_moment};
+pub use bounds::{bounded_in_common, first_moment};
 pub use opening::{open_parts, open_wheels};
 pub use rows::join;
 pub use turn_limit::TurnLimit;

@@ -1,4 +1,0 @@
-mod Faults
-mod Endings
-mod Sent
-mod Batching

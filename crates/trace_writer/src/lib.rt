@@ -1,6 +1,0 @@
-//! What writes the trace of a run whose rows come from another thread.
-#![tactic(auto)]
-
-mod stream_writer;
-
-pub use stream_writer::{lost, write_stream};

@@ -1,4 +1,0 @@
-pub mod Answering
-mod Dealing
-pub mod Gathered
-pub mod Sent
