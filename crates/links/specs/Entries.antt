@@ -9,9 +9,8 @@ use Rattle.std.specs.BTreeMap.{is_at}
 use Rattle.std.specs.declared.alloc.Global.{Global}
 use Rattle.scenario.specs.declared.settings.Link.{Link}
 use Rattle.scenario.specs.declared.settings.Slow.{Slow}
-use Rattle.scenario.specs.declared.settings.Cut.{Cut}
+use Rattle.scenario.specs.declared.spells.Spell.{Spell}
 use Rattle.links.specs.declared.spans.SlowSpan.{SlowSpan}
-use Rattle.links.specs.declared.outages.Outage.{Outage}
 
 -- pairs of groups are in order of the sender's, then of the receiver's
 abbrev pub pair_cmp : ℕ × ℕ → ℕ × ℕ → Ordering
@@ -44,22 +43,11 @@ covers t span = nat_le span.from t && nat_lt t span.until
 abbrev pub extra_in : List SlowSpan → ℕ → ℕ
 extra_in spans t = option_map_or (λ span. span.extra) (find (covers t) spans) 0
 
--- when an entry says that its link is cut
-abbrev pub outage_of : Cut → Outage
-outage_of c = record { from = c.at; until = c.until }
-
--- the times in which all entries cut the link from one group to another
-abbrev pub outages_between : ℕ → ℕ → List Cut → List Outage
-outages_between from to cs = map outage_of (filter (λ c. nat_eq c.from from && nat_eq c.to to) cs)
-
 -- the times of two groups in the table
-abbrev pub outages_in : List ((ℕ × ℕ) × Vec Outage Global) → ℕ → ℕ → List Outage
-outages_in table from to = option_map_or (λ v. v.items) (lookup (is_at (pair_cmp (from, to))) table) []
+abbrev pub outages_in : List ((ℕ × ℕ) × List Spell) → ℕ → ℕ → List Spell
+outages_in table from to = unwrap_or (lookup (is_at (pair_cmp (from, to))) table) []
 
 -- the times in which the link from one member to another is cut, by the numbers of their groups
-abbrev pub outages_of_pair : List ℕ → List ((ℕ × ℕ) × Vec Outage Global) → ℕ → ℕ → List Outage
+abbrev pub outages_of_pair : List ℕ → List ((ℕ × ℕ) × List Spell) → ℕ → ℕ → List Spell
 outages_of_pair groups table i j =
-    option_map_or (λ v. v.items) (option_and_then (λ from. option_and_then (λ to. lookup (is_at (pair_cmp (from, to))) table) (slice_get groups j)) (slice_get groups i)) []
-
-abbrev pub is_during : ℕ → Outage → Bool
-is_during t outage = nat_le outage.from t && nat_lt t outage.until
+    unwrap_or (option_and_then (λ from. option_and_then (λ to. lookup (is_at (pair_cmp (from, to))) table) (slice_get groups j)) (slice_get groups i)) []

@@ -2,10 +2,9 @@ ghost use Rattle.std.specs.Prelude.{ℕ, ◌≤◌, ◌^◌};
 ghost use Rattle.scenario.specs.Setup.{IsSoundLink};
 ghost use Rattle.links.specs.Entries.{link_of_pair, spans_in, extra_in};
 
-use crate::outages::Outage;
 use crate::spans::SlowSpan;
 use base::MemberId;
-use scenario::Link;
+use scenario::{Link, Spells};
 use std::collections::BTreeMap;
 
 /// How messages travel among the members of a scenario: by the link of their groups, unless it is
@@ -21,7 +20,7 @@ pub struct Links {
     /// The times in which members are slow.
     pub(crate) spans: BTreeMap<MemberId, Vec<SlowSpan>>,
     /// The times in which the link from one group to another is cut.
-    pub(crate) outages: BTreeMap<(usize, usize), Vec<Outage>>,
+    pub(crate) outages: BTreeMap<(usize, usize), Spells>,
     /// After how many ticks a call is begun again that was lost.
     pub(crate) connect: u64,
     /// After how many ticks is sent again what was lost of a stream.
