@@ -1,13 +1,13 @@
 -- The maps of the table, entry by entry: routes by the paths so far, times by the slow entries and by the cuts so far.
-use Rattle.std.proofs.Common.{◌≡◌, ℕ, ◌+◌, ◌<◌, ◌≤◌, ◌⊎◌, inl, inr, subst, nat_le, nat_lt, Bool, true, false, cond, ◌&&◌, ◌||◌, nat_eq, if◌then◌else◌, List, [], ◌∷◌, ◌++◌, map, length, take, get_or, Option, Some, None, Result, Ok, Err, OnOk, refl, sym, ap, ◌∙◌, append-nil, arith, Vec, Global}
+use Rattle.std.proofs.Common.{◌≡◌, ℕ, ◌+◌, ◌<◌, ◌≤◌, ◌⊎◌, inl, inr, subst, nat_le, nat_lt, Bool, true, false, cond, ◌&&◌, ◌||◌, nat_eq, if◌then◌else◌, List, [], ◌∷◌, ◌++◌, map, length, take, get_or, set, Option, Some, None, Result, Ok, Err, OnOk, refl, sym, ap, ◌∙◌, append-nil, arith, Vec, Global}
 use Rattle.std.specs.Option.{unwrap_or, option_map_or}
 use Rattle.std.specs.List.{filter, find, list_any}
 use Rattle.std.specs.Map.{lookup}
 use Rattle.std.specs.Ordering.{nat_cmp, ordering_then, is_eq, MatchOrdering}
 use Rattle.std.specs.Cmp.{ranks}
 use Rattle.std.proofs.lemmas.Bool.Decides.{nat_tests}
-use Rattle.std.proofs.lemmas.Bool.{eqb-true, eq-eqb, cases_eq, false≢true}
-use Rattle.std.proofs.lemmas.List.{get_or_read}
+use Rattle.std.proofs.lemmas.Bool.{eqb-true, eq-eqb, ne_eqb, cases_eq, cases_lt, false≢true}
+use Rattle.std.proofs.lemmas.List.{get_or_read, get_or_append_left, get_or_push, get_or_past, get_or-set_same, get_or-set_other, length-append}
 use Rattle.std.proofs.lemmas.List.Folds.{list_any_more}
 use Rattle.std.specs.declared.cmp.Ordering.{Ordering}
 use Rattle.std.specs.declared.cmp.Ordering.TheVariants.{Less, Equal, Greater}
@@ -21,7 +21,7 @@ use Rattle.scenario.proofs.Between.{last_more}
 use Rattle.links.specs.Entries.{pair_cmp, route, slow_spans, spans_in, span_of, covers, extra_in, outages_in}
 use Rattle.scenario.specs.Spells.{is_in_any, HaveBegun}
 use Rattle.scenario.specs.declared.spells.Spell.{Spell}
-use Rattle.links.specs.declared.spans.SlowSpan.{SlowSpan}
+use Rattle.links.specs.declared.spans.times.SlowSpan.{SlowSpan}
 
 both_eq : (o r : Ordering) → is_eq (ordering_then o r) ≡ (is_eq o && is_eq r)
 both_eq Less r = refl
@@ -57,24 +57,27 @@ routes_more old new ps i d link from to within put_in before =
     ∙ ap (λ l. if leads from to p then p.link else l) before
     ∙ sym (last_more link (leads from to) ps i d (leads from to p) within refl)
 
--- what a key has of a map of lists
-abbrev pub items_of : {T : Type 0} → Option (Vec T Global) → List T
-items_of o = option_map_or (λ v. v.items) o []
+-- a place without times is as good as none
+pub place_more : (spans : List (List SlowSpan)) (m : ℕ) → spans_in (spans ++ [] ∷ []) m ≡ spans_in spans m
+place_more spans m = elim (cases_lt m (length spans)) as (λ _. spans_in (spans ++ [] ∷ []) m ≡ spans_in spans m) [
+  | inl a ↦ get_or_append_left spans ([] ∷ []) [] m a
+  | inr b ↦ elim (cases_eq (length spans) m) as (λ _. spans_in (spans ++ [] ∷ []) m ≡ spans_in spans m) [
+    | inl same ↦ get_or_push spans [] [] m same ∙ sym (get_or_past spans m [] b)
+    | inr other ↦ get_or_past (spans ++ [] ∷ []) m [] (let all = length-append spans ([] ∷ []) in omega (arith, all, b, other)) ∙ sym (get_or_past spans m [] b)
+  ]
+]
 
--- where a list with one item more is put, that item is new
-one_more : {T : Type 0} (b : Bool) (old new : Option (Vec T Global)) (v : Vec T Global) (item : T) → (b ≡ true → v.items ≡ items_of old ++ item ∷ []) → new ≡ cond b (Some v) old
-    → items_of new ≡ items_of old ++ cond b (item ∷ []) []
-one_more true old new v item more is = ap items_of is ∙ more refl
-one_more false old new v item more is = ap items_of is ∙ sym (append-nil (items_of old))
-
--- the first time of a member
-pub spans_first : (old same new : List (ℕ × Vec SlowSpan Global)) (k : ℕ) (v : Vec SlowSpan Global) (span : SlowSpan) → same ≡ old → None ≡ lookup (is_at (nat_cmp k)) old → v.items ≡ span ∷ []
-    → ((q : ℕ) → lookup (is_at (nat_cmp q)) new ≡ cond (is_at (nat_cmp k) q) (Some v) (lookup (is_at (nat_cmp q)) same))
+-- a time more at a place
+pub span_more : (old new : List (List SlowSpan)) (k : ℕ) (v : List SlowSpan) (span : SlowSpan) → k < length old → new ≡ set old k v → v ≡ spans_in old k ++ span ∷ []
     → (m : ℕ) → spans_in new m ≡ spans_in old m ++ cond (nat_eq k m) (span ∷ []) []
-spans_first old same new k v span kept none only put_in m =
-    one_more (nat_eq k m) (lookup (is_at (nat_cmp m)) old) _ v span
-    (λ here. only ∙ ap (λ o. items_of o ++ span ∷ []) (none ∙ ap (λ q. lookup (is_at (nat_cmp q)) old) (eqb-true k m here)))
-    (put_in m ∙ ap (λ b. cond b (Some v) (lookup (is_at (nat_cmp m)) same)) (same_number k m) ∙ ap (λ es. cond (nat_eq k m) (Some v) (lookup (is_at (nat_cmp m)) es)) kept)
+span_more old new k v span within is more m = elim (cases_eq m k) as (λ _. spans_in new m ≡ spans_in old m ++ cond (nat_eq k m) (span ∷ []) []) [
+  | inl a ↦
+      ap (λ t. spans_in t m) is ∙ ap (spans_in (set old k v)) a ∙ get_or-set_same old k v [] within ∙ more ∙ ap (λ n. spans_in old n ++ span ∷ []) (sym a)
+      ∙ ap (λ b. spans_in old m ++ cond b (span ∷ []) []) (sym (eq-eqb k m (sym a)))
+  | inr b ↦
+      ap (λ t. spans_in t m) is ∙ get_or-set_other old k m v [] b ∙ sym (append-nil (spans_in old m))
+      ∙ ap (λ c. spans_in old m ++ cond c (span ∷ []) []) (sym (ne_eqb k m (λ same. b (sym same))))
+]
 
 -- where these spells were put
 put_in_place : (b : Bool) (old new : Option (List Spell)) (v : List Spell) → b ≡ true → new ≡ cond b (Some v) old → unwrap_or new [] ≡ v

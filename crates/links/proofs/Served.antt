@@ -17,7 +17,7 @@ use Rattle.scenario.specs.declared.settings.Path.{Path}
 use Rattle.scenario.specs.declared.settings.Slow.{Slow}
 use Rattle.scenario.specs.declared.settings.Cut.{Cut}
 use Rattle.links.specs.Entries.{pair_cmp, route, link_of_pair, spans_in, slow_spans, extra_in, outages_in, outages_of_pair}
-use Rattle.links.specs.declared.spans.SlowSpan.{SlowSpan}
+use Rattle.links.specs.declared.spans.times.SlowSpan.{SlowSpan}
 use Rattle.links.proofs.Maps.{extra_is}
 
 -- the numbers of the groups of the first members
@@ -51,7 +51,7 @@ pub routes_of_all : (s : Setup) (ps : List Path) (routes : List ((ℕ × ℕ) ×
     → (l : Link) (from to : ℕ) → unwrap_or (route routes from to) l ≡ last_link l (map (λ p. p.link) (filter (leads from to) s.paths))
 routes_of_all s ps routes same last l from to = last l from to ∙ ap (λ (qs : List Path). last_link l (map (λ (p : Path). p.link) (filter (leads from to) qs))) same
 
-pub spans_of_all : (s : Setup) (es : List Slow) (spans : List (ℕ × Vec SlowSpan Global)) → es ≡ s.slows → ((m : ℕ) → spans_in spans m ≡ slow_spans m es)
+pub spans_of_all : (s : Setup) (es : List Slow) (spans : List (List SlowSpan)) → es ≡ s.slows → ((m : ℕ) → spans_in spans m ≡ slow_spans m es)
     → (m : ℕ) → spans_in spans m ≡ slow_spans m s.slows
 spans_of_all s es spans same kept m = kept m ∙ ap (slow_spans m) same
 
@@ -110,7 +110,7 @@ module _ (s : Setup) (groups : List ℕ) (link : Link) (routes : List ((ℕ × �
   pub links_sound : IsSound s → (i j : ℕ) → IsSoundLink (link_of_pair groups link routes i j)
   links_sound sound i j = sound_by sound i j (cases_lt i (member_count s)) (cases_lt j (member_count s))
 
-module _ (s : Setup) (spans : List (ℕ × Vec SlowSpan Global)) (kept : (m : ℕ) → spans_in spans m ≡ slow_spans m s.slows) where
+module _ (s : Setup) (spans : List (List SlowSpan)) (kept : (m : ℕ) → spans_in spans m ≡ slow_spans m s.slows) where
   pub extras_are : (m t : ℕ) → extra_in (spans_in spans m) t ≡ extra_of s m t
   extras_are m t = ap (λ xs. extra_in xs t) (kept m) ∙ extra_is m t s.slows
 

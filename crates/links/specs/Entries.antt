@@ -1,7 +1,7 @@
 -- What the maps of the table of links give.
 use Rattle.std.specs.Prelude.{ℕ, Bool, ◌&&◌, nat_le, nat_lt, nat_eq, List, [], map, filter, Option, unwrap_or, slice_get, Vec}
 use Rattle.std.specs.Option.{option_map_or, option_and_then}
-use Rattle.std.specs.List.{find}
+use Rattle.std.specs.List.{find, slice_index_or}
 use Rattle.std.specs.Map.{lookup}
 use Rattle.std.specs.Ordering.{nat_cmp, ordering_then}
 use Rattle.std.specs.declared.cmp.Ordering.{Ordering}
@@ -10,7 +10,7 @@ use Rattle.std.specs.declared.alloc.Global.{Global}
 use Rattle.scenario.specs.declared.settings.Link.{Link}
 use Rattle.scenario.specs.declared.settings.Slow.{Slow}
 use Rattle.scenario.specs.declared.spells.Spell.{Spell}
-use Rattle.links.specs.declared.spans.SlowSpan.{SlowSpan}
+use Rattle.links.specs.declared.spans.times.SlowSpan.{SlowSpan}
 
 -- pairs of groups are in order of the sender's, then of the receiver's
 abbrev pub pair_cmp : ℕ × ℕ → ℕ × ℕ → Ordering
@@ -32,9 +32,9 @@ span_of e = record { from = e.from; until = e.until; extra = e.extra }
 abbrev pub slow_spans : ℕ → List Slow → List SlowSpan
 slow_spans m es = map span_of (filter (λ e. nat_eq e.member m) es)
 
--- the times of a member in the table
-abbrev pub spans_in : List (ℕ × Vec SlowSpan Global) → ℕ → List SlowSpan
-spans_in table m = option_map_or (λ v. v.items) (lookup (is_at (nat_cmp m)) table) []
+-- the times of a member in the table: none for whom there is no place
+abbrev pub spans_in : List (List SlowSpan) → ℕ → List SlowSpan
+spans_in table m = slice_index_or table m []
 
 abbrev pub covers : ℕ → SlowSpan → Bool
 covers t span = nat_le span.from t && nat_lt t span.until

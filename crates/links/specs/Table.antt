@@ -11,7 +11,7 @@ link_at l i j = link_of_pair l.groups.items l.link l.routes.entries i j
 
 -- by how many ticks the table says that a member is slow at a moment
 abbrev pub extra_at : Links → ℕ → ℕ → ℕ
-extra_at l m t = extra_in (spans_in l.spans.entries m) t
+extra_at l m t = extra_in (spans_in l.spans.items m) t
 
 -- the table says that the link from one member to another is cut at a moment
 abbrev pub is_cut_at : Links → ℕ → ℕ → ℕ → Bool

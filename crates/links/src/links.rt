@@ -11,7 +11,7 @@ ghost use Rattle.links.specs.Least.{IsDelayOfAPair, IsNoGreater};
 use crate::least::least_delay;
 use crate::outages::outages_of;
 use crate::routes::routes_of;
-use crate::spans::{extra_in, spans_of};
+use crate::spans::spans_of;
 use crate::table::Links;
 use base::{MemberId, Memory, Moment};
 use scenario::{Link, Scenario, Spells};
@@ -132,8 +132,8 @@ impl Links {
         ensures value { result ≡ extra_at self.now member at }
         ensures extra_fits { result ≤ 2 ^ 24 }
     {
-        match self.spans.get(&member) {
-            Some(spans) => extra_in(spans.as_slice(), at),
+        match self.spans.get(member.index()) {
+            Some(times) => times.extra(at),
             None => 0,
         }
     }
