@@ -5,3 +5,4 @@ pub mod Pairs
 pub mod Search
 pub mod Cuts
 pub mod Tries
+pub mod SlowOnes

@@ -1,12 +1,14 @@
 -- The maps of the table, entry by entry: routes by the paths so far, times by the slow entries and by the cuts so far.
-use Rattle.std.proofs.Common.{◌≡◌, ℕ, ◌+◌, ◌<◌, Bool, true, false, cond, ◌&&◌, ◌||◌, nat_eq, if◌then◌else◌, List, [], ◌∷◌, ◌++◌, map, length, take, get_or, Option, Some, None, refl, sym, ap, ◌∙◌, append-nil, arith, Vec, Global}
+use Rattle.std.proofs.Common.{◌≡◌, ℕ, ◌+◌, ◌<◌, ◌≤◌, ◌⊎◌, inl, inr, subst, nat_le, nat_lt, Bool, true, false, cond, ◌&&◌, ◌||◌, nat_eq, if◌then◌else◌, List, [], ◌∷◌, ◌++◌, map, length, take, get_or, set, Option, Some, None, Result, Ok, Err, OnOk, refl, sym, ap, ◌∙◌, append-nil, arith, Vec, Global}
 use Rattle.std.specs.Option.{unwrap_or, option_map_or}
 use Rattle.std.specs.List.{filter, find, list_any}
 use Rattle.std.specs.Map.{lookup}
 use Rattle.std.specs.Ordering.{nat_cmp, ordering_then, is_eq, MatchOrdering}
 use Rattle.std.specs.Cmp.{ranks}
 use Rattle.std.proofs.lemmas.Bool.Decides.{nat_tests}
-use Rattle.std.proofs.lemmas.Bool.{eqb-true, and_parts}
+use Rattle.std.proofs.lemmas.Bool.{eqb-true, eq-eqb, ne_eqb, cases_eq, cases_lt, false≢true}
+use Rattle.std.proofs.lemmas.List.{get_or_read, get_or_append_left, get_or_push, get_or_past, get_or-set_same, get_or-set_other, length-append}
+use Rattle.std.proofs.lemmas.List.Folds.{list_any_more}
 use Rattle.std.specs.declared.cmp.Ordering.{Ordering}
 use Rattle.std.specs.declared.cmp.Ordering.TheVariants.{Less, Equal, Greater}
 use Rattle.std.specs.BTreeMap.{is_at}
@@ -16,9 +18,10 @@ use Rattle.scenario.specs.declared.settings.Path.{Path}
 use Rattle.scenario.specs.declared.settings.Slow.{Slow}
 use Rattle.scenario.specs.declared.settings.Cut.{Cut}
 use Rattle.scenario.proofs.Between.{last_more}
-use Rattle.links.specs.Entries.{pair_cmp, route, slow_spans, spans_in, span_of, covers, extra_in, outage_of, outages_between, outages_in, is_during}
-use Rattle.links.specs.declared.spans.SlowSpan.{SlowSpan}
-use Rattle.links.specs.declared.outages.Outage.{Outage}
+use Rattle.links.specs.Entries.{pair_cmp, route, slow_spans, spans_in, span_of, covers, extra_in, outages_in}
+use Rattle.scenario.specs.Spells.{is_in_any, HaveBegun}
+use Rattle.scenario.specs.declared.spells.Spell.{Spell}
+use Rattle.links.specs.declared.spans.times.SlowSpan.{SlowSpan}
 
 both_eq : (o r : Ordering) → is_eq (ordering_then o r) ≡ (is_eq o && is_eq r)
 both_eq Less r = refl
@@ -54,42 +57,63 @@ routes_more old new ps i d link from to within put_in before =
     ∙ ap (λ l. if leads from to p then p.link else l) before
     ∙ sym (last_more link (leads from to) ps i d (leads from to p) within refl)
 
--- what a key has of a map of lists
-abbrev pub items_of : {T : Type 0} → Option (Vec T Global) → List T
-items_of o = option_map_or (λ v. v.items) o []
+-- a place without times is as good as none
+pub place_more : (spans : List (List SlowSpan)) (m : ℕ) → spans_in (spans ++ [] ∷ []) m ≡ spans_in spans m
+place_more spans m = elim (cases_lt m (length spans)) as (λ _. spans_in (spans ++ [] ∷ []) m ≡ spans_in spans m) [
+  | inl a ↦ get_or_append_left spans ([] ∷ []) [] m a
+  | inr b ↦ elim (cases_eq (length spans) m) as (λ _. spans_in (spans ++ [] ∷ []) m ≡ spans_in spans m) [
+    | inl same ↦ get_or_push spans [] [] m same ∙ sym (get_or_past spans m [] b)
+    | inr other ↦ get_or_past (spans ++ [] ∷ []) m [] (let all = length-append spans ([] ∷ []) in omega (arith, all, b, other)) ∙ sym (get_or_past spans m [] b)
+  ]
+]
 
--- where a list with one item more is put, that item is new
-one_more : {T : Type 0} (b : Bool) (old new : Option (Vec T Global)) (v : Vec T Global) (item : T) → (b ≡ true → v.items ≡ items_of old ++ item ∷ []) → new ≡ cond b (Some v) old
-    → items_of new ≡ items_of old ++ cond b (item ∷ []) []
-one_more true old new v item more is = ap items_of is ∙ more refl
-one_more false old new v item more is = ap items_of is ∙ sym (append-nil (items_of old))
-
--- the first time of a member
-pub spans_first : (old same new : List (ℕ × Vec SlowSpan Global)) (k : ℕ) (v : Vec SlowSpan Global) (span : SlowSpan) → same ≡ old → None ≡ lookup (is_at (nat_cmp k)) old → v.items ≡ span ∷ []
-    → ((q : ℕ) → lookup (is_at (nat_cmp q)) new ≡ cond (is_at (nat_cmp k) q) (Some v) (lookup (is_at (nat_cmp q)) same))
+-- a time more at a place
+pub span_more : (old new : List (List SlowSpan)) (k : ℕ) (v : List SlowSpan) (span : SlowSpan) → k < length old → new ≡ set old k v → v ≡ spans_in old k ++ span ∷ []
     → (m : ℕ) → spans_in new m ≡ spans_in old m ++ cond (nat_eq k m) (span ∷ []) []
-spans_first old same new k v span kept none only put_in m =
-    one_more (nat_eq k m) (lookup (is_at (nat_cmp m)) old) _ v span
-    (λ here. only ∙ ap (λ o. items_of o ++ span ∷ []) (none ∙ ap (λ q. lookup (is_at (nat_cmp q)) old) (eqb-true k m here)))
-    (put_in m ∙ ap (λ b. cond b (Some v) (lookup (is_at (nat_cmp m)) same)) (same_number k m) ∙ ap (λ es. cond (nat_eq k m) (Some v) (lookup (is_at (nat_cmp m)) es)) kept)
+span_more old new k v span within is more m = elim (cases_eq m k) as (λ _. spans_in new m ≡ spans_in old m ++ cond (nat_eq k m) (span ∷ []) []) [
+  | inl a ↦
+      ap (λ t. spans_in t m) is ∙ ap (spans_in (set old k v)) a ∙ get_or-set_same old k v [] within ∙ more ∙ ap (λ n. spans_in old n ++ span ∷ []) (sym a)
+      ∙ ap (λ b. spans_in old m ++ cond b (span ∷ []) []) (sym (eq-eqb k m (sym a)))
+  | inr b ↦
+      ap (λ t. spans_in t m) is ∙ get_or-set_other old k m v [] b ∙ sym (append-nil (spans_in old m))
+      ∙ ap (λ c. spans_in old m ++ cond c (span ∷ []) []) (sym (ne_eqb k m (λ same. b (sym same))))
+]
 
--- a further time of two groups
-pub outages_more : (old new : List ((ℕ × ℕ) × Vec Outage Global)) (k : ℕ × ℕ) (v : Vec Outage Global) (outage : Outage) → v.items ≡ outages_in old k.0 k.1 ++ outage ∷ []
-    → ((q : ℕ × ℕ) → lookup (is_at (pair_cmp q)) new ≡ cond (is_at (pair_cmp k) q) (Some v) (lookup (is_at (pair_cmp q)) old))
-    → (from to : ℕ) → outages_in new from to ≡ outages_in old from to ++ cond (nat_eq k.0 from && nat_eq k.1 to) (outage ∷ []) []
-outages_more old new k v outage more put_in from to =
-    one_more (nat_eq k.0 from && nat_eq k.1 to) (lookup (is_at (pair_cmp (from, to))) old) _ v outage
-    (λ here.
-    let both = and_parts (nat_eq k.0 from) (nat_eq k.1 to) here in
-    more ∙ ap (λ i. outages_in old i k.1 ++ outage ∷ []) (eqb-true k.0 from both.0) ∙ ap (λ j. outages_in old from j ++ outage ∷ []) (eqb-true k.1 to both.1))
-    (put_in (from, to) ∙ ap (λ b. cond b (Some v) (lookup (is_at (pair_cmp (from, to))) old)) (same_pair k.0 k.1 from to))
+-- where these spells were put
+put_in_place : (b : Bool) (old new : Option (List Spell)) (v : List Spell) → b ≡ true → new ≡ cond b (Some v) old → unwrap_or new [] ≡ v
+put_in_place true old new v here is = ap (λ o. unwrap_or o []) is
+put_in_place false old new v here is = absurd (false≢true here)
+
+left_in_place : (b : Bool) (old new : Option (List Spell)) (v : List Spell) → b ≡ false → new ≡ cond b (Some v) old → unwrap_or new [] ≡ unwrap_or old []
+left_in_place true old new v here is = absurd (false≢true (sym here))
+left_in_place false old new v here is = ap (λ o. unwrap_or o []) is
+
+apart_by : (a b c d : ℕ) (x y : Bool) → ¬ ((a ≡ c) × (b ≡ d)) → nat_eq c a ≡ x → nat_eq d b ≡ y → (x && y) ≡ false
+apart_by a b c d true true apart one two = absurd (apart (sym (eqb-true c a one), sym (eqb-true d b two)))
+apart_by a b c d true false apart one two = refl
+apart_by a b c d false y apart one two = refl
+
+-- the times of two groups are written
+module _ (old new : List ((ℕ × ℕ) × List Spell)) (k : ℕ × ℕ) (v : List Spell) (put : (q : ℕ × ℕ) → lookup (is_at (pair_cmp q)) new ≡ cond (is_at (pair_cmp k) q) (Some v) (lookup (is_at (pair_cmp q)) old)) where
+  pub written_here : outages_in new k.0 k.1 ≡ v
+  written_here =
+      put_in_place (is_at (pair_cmp k) (k.0, k.1)) (lookup (is_at (pair_cmp (k.0, k.1))) old) (lookup (is_at (pair_cmp (k.0, k.1))) new) v
+      (same_pair k.0 k.1 k.0 k.1 ∙ ap (λ b. b && nat_eq k.1 k.1) (eq-eqb k.0 k.0 refl) ∙ eq-eqb k.1 k.1 refl) (put (k.0, k.1))
+
+  pub others_kept : (a b : ℕ) → ¬ ((a ≡ k.0) × (b ≡ k.1)) → outages_in new a b ≡ outages_in old a b
+  others_kept a b apart =
+      left_in_place (is_at (pair_cmp k) (a, b)) (lookup (is_at (pair_cmp (a, b))) old) (lookup (is_at (pair_cmp (a, b))) new) v
+      (same_pair k.0 k.1 a b ∙ apart_by a b k.0 k.1 (nat_eq k.0 a) (nat_eq k.1 b) apart refl refl) (put (a, b))
 
 -- the first time of two groups
-pub outages_first : (old same new : List ((ℕ × ℕ) × Vec Outage Global)) (k : ℕ × ℕ) (v : Vec Outage Global) (outage : Outage) → same ≡ old → None ≡ lookup (is_at (pair_cmp k)) old → v.items ≡ outage ∷ []
+pub others_first : (old same new : List ((ℕ × ℕ) × List Spell)) (k : ℕ × ℕ) (v : List Spell) → same ≡ old
     → ((q : ℕ × ℕ) → lookup (is_at (pair_cmp q)) new ≡ cond (is_at (pair_cmp k) q) (Some v) (lookup (is_at (pair_cmp q)) same))
-    → (from to : ℕ) → outages_in new from to ≡ outages_in old from to ++ cond (nat_eq k.0 from && nat_eq k.1 to) (outage ∷ []) []
-outages_first old same new k v outage kept none only put_in =
-    outages_more old new k v outage (only ∙ ap (λ o. items_of o ++ outage ∷ []) none) (λ q. put_in q ∙ ap (λ es. cond (is_at (pair_cmp k) q) (Some v) (lookup (is_at (pair_cmp q)) es)) kept)
+    → (a b : ℕ) → ¬ ((a ≡ k.0) × (b ≡ k.1)) → outages_in new a b ≡ outages_in old a b
+others_first old same new k v kept put = others_kept old new k v (λ q. put q ∙ ap (λ es. cond (is_at (pair_cmp k) q) (Some v) (lookup (is_at (pair_cmp q)) es)) kept)
+
+pub always : {X Y : Type 0} (r : Result X Y) (P : Type 0) → P → OnOk r P
+always (Ok x) P is = is
+always (Err y) P is = tt
 
 extra_now : (a b : Bool) (t : ℕ) (e : Slow) (rest : List SlowSpan) (o : Option Slow) → covers t (span_of e) ≡ b → extra_in rest t ≡ option_map_or (λ (f : Slow). f.extra) o 0
     → extra_in (cond a (span_of e ∷ rest) rest) t ≡ option_map_or (λ (f : Slow). f.extra) (cond (a && b) (Some e) o) 0
@@ -108,13 +132,52 @@ extra_is m t (e ∷ es) =
     ap (λ spans. extra_in spans t) (map-cond (nat_eq e.member m) e (filter (λ (f : Slow). nat_eq f.member m) es))
     ∙ extra_now (nat_eq e.member m) (covers t (span_of e)) t e (slow_spans m es) (find (is_slow m t) es) refl (extra_is m t es)
 
-cut_now : (a b : Bool) (t : ℕ) (c : Cut) (cs : List Cut) → is_during t (outage_of c) ≡ b → list_any (is_during t) (map outage_of (cond a (c ∷ cs) cs)) ≡ (a && b || list_any (is_during t) (map outage_of cs))
-cut_now true b t c cs is = ap (λ v. v || list_any (is_during t) (map outage_of cs)) is
-cut_now false b t c cs is = refl
+or_false : (b : Bool) → (b || false) ≡ b
+or_false true = refl
+or_false false = refl
 
--- a link is cut in one of the times of its two groups
-pub cut_is : (from to t : ℕ) (cs : List Cut) → list_any (is_during t) (outages_between from to cs) ≡ list_any (cuts_off from to t) cs
-cut_is from to t [] = refl
-cut_is from to t (c ∷ cs) =
-    cut_now (nat_eq c.from from && nat_eq c.to to) (is_during t (outage_of c)) t c (filter (λ (d : Cut). nat_eq d.from from && nat_eq d.to to) cs) refl
-    ∙ ap (λ v. cuts_off from to t c || v) (cut_is from to t cs)
+module _ (old new : List ((ℕ × ℕ) × List Spell)) (cs : List Cut) (i from until : ℕ) (k : ℕ × ℕ) (c : Cut) (within : i < length cs) (here : c ≡ get_or cs i c) (sender : k.0 ≡ c.from) (receiver : k.1 ≡ c.to)
+    (begins : from ≡ c.at) (ends : until ≡ c.until)
+    (added : (t : ℕ) → is_in_any (outages_in new k.0 k.1) t ≡ (is_in_any (outages_in old k.0 k.1) t || (nat_le from t && nat_lt t until)))
+    (others : (a b : ℕ) → ¬ ((a ≡ k.0) × (b ≡ k.1)) → outages_in new a b ≡ outages_in old a b) (begun : HaveBegun (outages_in new k.0 k.1) from) where
+  -- this cut's groups, or others
+  abbrev Case : ℕ → ℕ → Type 0
+  Case a b = ((a ≡ k.0) × (b ≡ k.1)) ⊎ (¬ ((a ≡ k.0) × (b ≡ k.1)))
+
+  which : (a b : ℕ) → Case a b
+  which a b = elim (cases_eq a k.0) as (λ _. Case a b) [
+    | inl x ↦ elim (cases_eq b k.1) as (λ _. Case a b) [
+      | inl y ↦ inl (x, y)
+      | inr y ↦ inr (λ both. y both.1)
+    ]
+    | inr x ↦ inr (λ both. x both.0)
+  ]
+
+  one : (a b t : ℕ) → is_in_any (outages_in new a b) t ≡ (is_in_any (outages_in old a b) t || cuts_off a b t c)
+  one a b t = elim (which a b) as (λ _. is_in_any (outages_in new a b) t ≡ (is_in_any (outages_in old a b) t || cuts_off a b t c)) [
+    | inl x ↦
+        (λ i. is_in_any (outages_in new (x.0 i) (x.1 i)) t) ∙ added t ∙ (λ i. is_in_any (outages_in old (sym x.0 i) (sym x.1 i)) t || (nat_le (begins i) t && nat_lt t (ends i)))
+        ∙ ap (λ v. is_in_any (outages_in old a b) t || (v && (nat_le c.at t && nat_lt t c.until)))
+        (sym (ap (λ v. v && nat_eq c.to b) (eq-eqb c.from a (sym (x.0 ∙ sender))) ∙ eq-eqb c.to b (sym (x.1 ∙ receiver))))
+    | inr x ↦
+        ap (λ xs. is_in_any xs t) (others a b x) ∙ sym (or_false (is_in_any (outages_in old a b) t))
+        ∙ ap (λ v. is_in_any (outages_in old a b) t || (v && (nat_le c.at t && nat_lt t c.until)))
+        (sym (apart_by a b c.from c.to (nat_eq c.from a) (nat_eq c.to b) (λ both. x (both.0 ∙ sym sender, both.1 ∙ sym receiver)) refl refl))
+  ]
+
+  -- one cut more
+  pub cut_more : ((a b t : ℕ) → is_in_any (outages_in old a b) t ≡ list_any (cuts_off a b t) (take i cs)) → (a b t : ℕ) → is_in_any (outages_in new a b) t ≡ list_any (cuts_off a b t) (take (i + 1) cs)
+  cut_more before a b t =
+      one a b t ∙ ap (λ v. v || cuts_off a b t c) (before a b t) ∙ ap (λ e. list_any (cuts_off a b t) (take i cs) || cuts_off a b t e) here
+      ∙ sym (list_any_more (cuts_off a b t) cs i c within)
+
+  pub begun_more : ((x y : ℕ) (d : Cut) → x ≤ y → y < length cs → (get_or cs x d).at ≤ (get_or cs y d).at)
+      → ((a b j : ℕ) (d : Cut) → i ≤ j → j < length cs → HaveBegun (outages_in old a b) (get_or cs j d).at)
+      → (a b j : ℕ) (d : Cut) → i + 1 ≤ j → j < length cs → HaveBegun (outages_in new a b) (get_or cs j d).at
+  begun_more rising before a b j d later below = elim (which a b) as (λ _. HaveBegun (outages_in new a b) (get_or cs j d).at) [
+    | inl x ↦ subst (λ m. HaveBegun (outages_in new m b) (get_or cs j d).at) (sym x.0) (subst (λ m. HaveBegun (outages_in new k.0 m) (get_or cs j d).at) (sym x.1) (λ n e inside.
+        let first = begun n e inside in
+        let next : from ≤ (get_or cs j d).at = subst (λ y. y ≤ (get_or cs j d).at) (ap (λ (q : Cut). q.at) (sym (get_or_read cs i c within here d)) ∙ sym begins) (rising i j d (omega (arith, later)) below) in
+        omega (arith, first, next)))
+    | inr x ↦ subst (λ xs. HaveBegun xs (get_or cs j d).at) (sym (others a b x)) (before a b j d (omega (arith, later)) below)
+  ]

@@ -1,8 +1,9 @@
 -- The first two members of each group have the delays of all pairs.
-use Rattle.std.proofs.Common.{◌≡◌, ℕ, ◌+◌, ◌-◌, ◌<◌, ◌≤◌, ◌⊎◌, inl, inr, Bool, true, false, not, ◌&&◌, nat_le, nat_eq, List, length, get_or, Option, Some, None, refl, sym, ap, ◌∙◌, subst, arith, zero, suc}
+use Rattle.std.proofs.Common.{◌≡◌, ℕ, ◌+◌, ◌-◌, ◌<◌, ◌≤◌, ◌⊎◌, inl, inr, Bool, true, false, not, ◌&&◌, nat_le, nat_eq, List, [], length, get_or, Option, Some, None, refl, sym, ap, ◌∙◌, subst, arith, zero, suc}
 use Rattle.std.specs.Option.{unwrap_or, option_and_then}
 use Rattle.std.specs.List.{slice_get}
 use Rattle.std.proofs.lemmas.Bool.{and_parts, eqb-true, eq-eqb, ne_eqb, leb-true, cases_eq, false≢true}
+use Rattle.std.proofs.lemmas.List.{nil_from_length}
 use Rattle.std.proofs.lemmas.Option.{slice_get-get_or}
 use Rattle.scenario.specs.declared.settings.Link.{Link}
 use Rattle.links.specs.Entries.{route, link_of_pair}
@@ -108,4 +109,24 @@ module _ (groups : List ℕ) (link : Link) (routes : List ((ℕ × ℕ) × Link)
         let s = stands (suc (i + j)) i j (omega arith) apart in
         let within : s.sender < k = omega (arith, all, s.apart.sender) in
         subst (λ n. d ≤ n) s.same (no_greater s.sender s.receiver within s.sender_kept s.apart.receiver (other_taken s.sender s.receiver s.apart s.receiver_kept)),
+  )
+
+-- ---- where no path is named
+
+pub no_pair : (delay : ℕ → ℕ → ℕ) (n : ℕ) → n < 2 → IsLeast delay n None
+no_pair delay n few = λ i j apart. apart.different (let s = apart.sender in let r = apart.receiver in omega (arith, s, r, few))
+
+nobody_named : (link : Link) (from to : Option ℕ) → unwrap_or (option_and_then (λ f. option_and_then (λ t. route [] f t) to) from) link ≡ link
+nobody_named link None to = refl
+nobody_named link (Some f) None = refl
+nobody_named link (Some f) (Some t) = refl
+
+module _ (groups : List ℕ) (link : Link) (routes : List ((ℕ × ℕ) × Link)) (empty : length routes ≡ 0) where
+  common : (i j : ℕ) → link_of_pair groups link routes i j ≡ link
+  common i j = ap (λ rs. link_of_pair groups link rs i j) (nil_from_length routes empty) ∙ nobody_named link (slice_get groups i) (slice_get groups j)
+
+  pub one_delay : 1 < length groups → IsLeast (λ i j. (link_of_pair groups link routes i j).delay) (length groups) (Some link.delay)
+  one_delay several = (
+    (0, 1, record { sender = omega (arith, several); receiver = several; different = λ same. absurd (omega (arith, same)) }, ap (λ (l : Link). l.delay) (common 0 1)),
+    λ i j apart. subst (λ (l : Link). link.delay ≤ l.delay) (sym (common i j)) (let e : link.delay ≤ link.delay = omega arith in e),
   )

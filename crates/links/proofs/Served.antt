@@ -9,15 +9,16 @@ use Rattle.std.proofs.lemmas.Bool.{cases_lt}
 use Rattle.std.proofs.lemmas.List.{nil_from_length}
 use Rattle.std.proofs.lemmas.List.FromFn.{length-map-range_with_len, get_or-map-range_with_len, map-range_with_len_more}
 use Rattle.std.proofs.lemmas.Option.{slice_get-get_or, slice_get_past}
-use Rattle.scenario.specs.Setup.{Setup, Group, group_at, member_count, leads, last_link, link_between, extra_of, is_cut, IsSound, IsSoundLink}
+use Rattle.scenario.specs.Setup.{Setup, Group, group_at, member_count, leads, last_link, link_between, extra_of, cuts_off, is_cut, IsSound, IsSoundLink}
+use Rattle.scenario.specs.Spells.{is_in_any}
+use Rattle.scenario.specs.declared.spells.Spell.{Spell}
 use Rattle.scenario.specs.declared.settings.Link.{Link}
 use Rattle.scenario.specs.declared.settings.Path.{Path}
 use Rattle.scenario.specs.declared.settings.Slow.{Slow}
 use Rattle.scenario.specs.declared.settings.Cut.{Cut}
-use Rattle.links.specs.Entries.{pair_cmp, route, link_of_pair, spans_in, slow_spans, extra_in, outages_in, outages_between, outages_of_pair, is_during}
-use Rattle.links.specs.declared.spans.SlowSpan.{SlowSpan}
-use Rattle.links.specs.declared.outages.Outage.{Outage}
-use Rattle.links.proofs.Maps.{extra_is, cut_is}
+use Rattle.links.specs.Entries.{pair_cmp, route, link_of_pair, spans_in, slow_spans, extra_in, outages_in, outages_of_pair}
+use Rattle.links.specs.declared.spans.times.SlowSpan.{SlowSpan}
+use Rattle.links.proofs.Maps.{extra_is}
 
 -- the numbers of the groups of the first members
 abbrev pub groups_below : List Group → ℕ → List ℕ
@@ -50,36 +51,35 @@ pub routes_of_all : (s : Setup) (ps : List Path) (routes : List ((ℕ × ℕ) ×
     → (l : Link) (from to : ℕ) → unwrap_or (route routes from to) l ≡ last_link l (map (λ p. p.link) (filter (leads from to) s.paths))
 routes_of_all s ps routes same last l from to = last l from to ∙ ap (λ (qs : List Path). last_link l (map (λ (p : Path). p.link) (filter (leads from to) qs))) same
 
-pub spans_of_all : (s : Setup) (es : List Slow) (spans : List (ℕ × Vec SlowSpan Global)) → es ≡ s.slows → ((m : ℕ) → spans_in spans m ≡ slow_spans m es)
+pub spans_of_all : (s : Setup) (es : List Slow) (spans : List (List SlowSpan)) → es ≡ s.slows → ((m : ℕ) → spans_in spans m ≡ slow_spans m es)
     → (m : ℕ) → spans_in spans m ≡ slow_spans m s.slows
 spans_of_all s es spans same kept m = kept m ∙ ap (slow_spans m) same
 
-pub outages_of_all : (s : Setup) (cs : List Cut) (outages : List ((ℕ × ℕ) × Vec Outage Global)) → cs ≡ s.cuts → ((from to : ℕ) → outages_in outages from to ≡ outages_between from to cs)
-    → (from to : ℕ) → outages_in outages from to ≡ outages_between from to s.cuts
-outages_of_all s cs outages same kept from to = kept from to ∙ ap (outages_between from to) same
+pub outages_of_all : (s : Setup) (cs : List Cut) (outages : List ((ℕ × ℕ) × List Spell)) → cs ≡ s.cuts → ((from to t : ℕ) → is_in_any (outages_in outages from to) t ≡ list_any (cuts_off from to t) cs)
+    → (from to t : ℕ) → is_in_any (outages_in outages from to) t ≡ list_any (cuts_off from to t) s.cuts
+outages_of_all s cs outages same kept from to t = kept from to t ∙ ap (list_any (cuts_off from to t)) same
 
 -- the times by the groups of two members, where they have one
-abbrev outages_by_groups : List ((ℕ × ℕ) × Vec Outage Global) → Option ℕ → Option ℕ → List Outage
-outages_by_groups table from to = option_map_or (λ v. v.items) (option_and_then (λ f. option_and_then (λ t. lookup (is_at (pair_cmp (f, t))) table) to) from) []
+abbrev outages_by_groups : List ((ℕ × ℕ) × List Spell) → Option ℕ → Option ℕ → List Spell
+outages_by_groups table from to = unwrap_or (option_and_then (λ f. option_and_then (λ t. lookup (is_at (pair_cmp (f, t))) table) to) from) []
 
-none_by_groups : (t : ℕ) (from to : Option ℕ) → list_any (is_during t) (outages_by_groups [] from to) ≡ false
+none_by_groups : (t : ℕ) (from to : Option ℕ) → is_in_any (outages_by_groups [] from to) t ≡ false
 none_by_groups t None to = refl
 none_by_groups t (Some f) None = refl
 none_by_groups t (Some f) (Some g) = refl
 
 -- an empty table cuts no link
-pub never_cut : (groups : List ℕ) (outages : List ((ℕ × ℕ) × Vec Outage Global)) (i j t : ℕ) → length outages ≡ 0 → list_any (is_during t) (outages_of_pair groups outages i j) ≡ false
-never_cut groups outages i j t empty = ap (λ table. list_any (is_during t) (outages_of_pair groups table i j)) (nil_from_length outages empty) ∙ none_by_groups t (slice_get groups i) (slice_get groups j)
+pub never_cut : (groups : List ℕ) (outages : List ((ℕ × ℕ) × List Spell)) (i j t : ℕ) → length outages ≡ 0 → is_in_any (outages_of_pair groups outages i j) t ≡ false
+never_cut groups outages i j t empty = ap (λ table. is_in_any (outages_of_pair groups table i j) t) (nil_from_length outages empty) ∙ none_by_groups t (slice_get groups i) (slice_get groups j)
 
-module _ (s : Setup) (groups : List ℕ) (outages : List ((ℕ × ℕ) × Vec Outage Global)) (grouped : groups ≡ groups_below s.groups (member_count s))
-    (kept : (from to : ℕ) → outages_in outages from to ≡ outages_between from to s.cuts) where
-  pub cuts_are : (i j t : ℕ) → i < member_count s → j < member_count s → list_any (is_during t) (outages_of_pair groups outages i j) ≡ is_cut s i j t
+module _ (s : Setup) (groups : List ℕ) (outages : List ((ℕ × ℕ) × List Spell)) (grouped : groups ≡ groups_below s.groups (member_count s))
+    (kept : (from to t : ℕ) → is_in_any (outages_in outages from to) t ≡ list_any (cuts_off from to t) s.cuts) where
+  pub cuts_are : (i j t : ℕ) → i < member_count s → j < member_count s → is_in_any (outages_of_pair groups outages i j) t ≡ is_cut s i j t
   cuts_are i j t sender receiver =
-      ap (λ gs. list_any (is_during t) (outages_of_pair gs outages i j)) grouped
-      ∙ ap (λ o. list_any (is_during t) (outages_by_groups outages o (slice_get (groups_below s.groups (member_count s)) j))) (group_within s.groups (member_count s) i sender)
-      ∙ ap (λ o. list_any (is_during t) (outages_by_groups outages (Some (group_at s.groups i)) o)) (group_within s.groups (member_count s) j receiver)
-      ∙ ap (list_any (is_during t)) (kept (group_at s.groups i) (group_at s.groups j))
-      ∙ cut_is (group_at s.groups i) (group_at s.groups j) t s.cuts
+      ap (λ gs. is_in_any (outages_of_pair gs outages i j) t) grouped
+      ∙ ap (λ o. is_in_any (outages_by_groups outages o (slice_get (groups_below s.groups (member_count s)) j)) t) (group_within s.groups (member_count s) i sender)
+      ∙ ap (λ o. is_in_any (outages_by_groups outages (Some (group_at s.groups i)) o) t) (group_within s.groups (member_count s) j receiver)
+      ∙ kept (group_at s.groups i) (group_at s.groups j) t
 
 module _ (s : Setup) (groups : List ℕ) (link : Link) (routes : List ((ℕ × ℕ) × Link)) (grouped : groups ≡ groups_below s.groups (member_count s)) (all : link ≡ s.link)
     (last : (l : Link) (from to : ℕ) → unwrap_or (route routes from to) l ≡ last_link l (map (λ p. p.link) (filter (leads from to) s.paths))) where
@@ -110,7 +110,7 @@ module _ (s : Setup) (groups : List ℕ) (link : Link) (routes : List ((ℕ × �
   pub links_sound : IsSound s → (i j : ℕ) → IsSoundLink (link_of_pair groups link routes i j)
   links_sound sound i j = sound_by sound i j (cases_lt i (member_count s)) (cases_lt j (member_count s))
 
-module _ (s : Setup) (spans : List (ℕ × Vec SlowSpan Global)) (kept : (m : ℕ) → spans_in spans m ≡ slow_spans m s.slows) where
+module _ (s : Setup) (spans : List (List SlowSpan)) (kept : (m : ℕ) → spans_in spans m ≡ slow_spans m s.slows) where
   pub extras_are : (m t : ℕ) → extra_in (spans_in spans m) t ≡ extra_of s m t
   extras_are m t = ap (λ xs. extra_in xs t) (kept m) ∙ extra_is m t s.slows
 

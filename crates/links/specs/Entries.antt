@@ -1,7 +1,7 @@
 -- What the maps of the table of links give.
 use Rattle.std.specs.Prelude.{ℕ, Bool, ◌&&◌, nat_le, nat_lt, nat_eq, List, [], map, filter, Option, unwrap_or, slice_get, Vec}
 use Rattle.std.specs.Option.{option_map_or, option_and_then}
-use Rattle.std.specs.List.{find}
+use Rattle.std.specs.List.{find, slice_index_or}
 use Rattle.std.specs.Map.{lookup}
 use Rattle.std.specs.Ordering.{nat_cmp, ordering_then}
 use Rattle.std.specs.declared.cmp.Ordering.{Ordering}
@@ -9,9 +9,8 @@ use Rattle.std.specs.BTreeMap.{is_at}
 use Rattle.std.specs.declared.alloc.Global.{Global}
 use Rattle.scenario.specs.declared.settings.Link.{Link}
 use Rattle.scenario.specs.declared.settings.Slow.{Slow}
-use Rattle.scenario.specs.declared.settings.Cut.{Cut}
-use Rattle.links.specs.declared.spans.SlowSpan.{SlowSpan}
-use Rattle.links.specs.declared.outages.Outage.{Outage}
+use Rattle.scenario.specs.declared.spells.Spell.{Spell}
+use Rattle.links.specs.declared.spans.times.SlowSpan.{SlowSpan}
 
 -- pairs of groups are in order of the sender's, then of the receiver's
 abbrev pub pair_cmp : ℕ × ℕ → ℕ × ℕ → Ordering
@@ -33,9 +32,9 @@ span_of e = record { from = e.from; until = e.until; extra = e.extra }
 abbrev pub slow_spans : ℕ → List Slow → List SlowSpan
 slow_spans m es = map span_of (filter (λ e. nat_eq e.member m) es)
 
--- the times of a member in the table
-abbrev pub spans_in : List (ℕ × Vec SlowSpan Global) → ℕ → List SlowSpan
-spans_in table m = option_map_or (λ v. v.items) (lookup (is_at (nat_cmp m)) table) []
+-- the times of a member in the table: none for whom there is no place
+abbrev pub spans_in : List (List SlowSpan) → ℕ → List SlowSpan
+spans_in table m = slice_index_or table m []
 
 abbrev pub covers : ℕ → SlowSpan → Bool
 covers t span = nat_le span.from t && nat_lt t span.until
@@ -44,22 +43,11 @@ covers t span = nat_le span.from t && nat_lt t span.until
 abbrev pub extra_in : List SlowSpan → ℕ → ℕ
 extra_in spans t = option_map_or (λ span. span.extra) (find (covers t) spans) 0
 
--- when an entry says that its link is cut
-abbrev pub outage_of : Cut → Outage
-outage_of c = record { from = c.at; until = c.until }
-
--- the times in which all entries cut the link from one group to another
-abbrev pub outages_between : ℕ → ℕ → List Cut → List Outage
-outages_between from to cs = map outage_of (filter (λ c. nat_eq c.from from && nat_eq c.to to) cs)
-
 -- the times of two groups in the table
-abbrev pub outages_in : List ((ℕ × ℕ) × Vec Outage Global) → ℕ → ℕ → List Outage
-outages_in table from to = option_map_or (λ v. v.items) (lookup (is_at (pair_cmp (from, to))) table) []
+abbrev pub outages_in : List ((ℕ × ℕ) × List Spell) → ℕ → ℕ → List Spell
+outages_in table from to = unwrap_or (lookup (is_at (pair_cmp (from, to))) table) []
 
 -- the times in which the link from one member to another is cut, by the numbers of their groups
-abbrev pub outages_of_pair : List ℕ → List ((ℕ × ℕ) × Vec Outage Global) → ℕ → ℕ → List Outage
+abbrev pub outages_of_pair : List ℕ → List ((ℕ × ℕ) × List Spell) → ℕ → ℕ → List Spell
 outages_of_pair groups table i j =
-    option_map_or (λ v. v.items) (option_and_then (λ from. option_and_then (λ to. lookup (is_at (pair_cmp (from, to))) table) (slice_get groups j)) (slice_get groups i)) []
-
-abbrev pub is_during : ℕ → Outage → Bool
-is_during t outage = nat_le outage.from t && nat_lt t outage.until
+    unwrap_or (option_and_then (λ from. option_and_then (λ to. lookup (is_at (pair_cmp (from, to))) table) (slice_get groups j)) (slice_get groups i)) []

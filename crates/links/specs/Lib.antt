@@ -3,3 +3,5 @@ pub mod Entries
 pub mod Table
 pub mod Least
 pub mod Trips
+pub mod SlowTimes
+pub mod SlowTimesOf

@@ -9,6 +9,9 @@ use crate::table::Links;
 pub(crate) fn least_delay(links: &Links) -> Option<u64>
     ensures { IsLeast (λ i j. (link_at links.now i j).delay) (length links.now.groups.items) result }
 {
+    if links.routes.is_empty() {
+        return common_delay(links);
+    }
     let mut least = None;
     for from in 0..links.groups.len() {
         if !is_third(links.groups.as_slice(), from) {
@@ -16,6 +19,17 @@ pub(crate) fn least_delay(links: &Links) -> Option<u64>
         }
     }
     least
+}
+
+/// The delay of all pairs where no path is named, if there is a pair.
+fn common_delay(links: &Links) -> Option<u64>
+    requires { length links.now.routes.entries ≡ 0 }
+    ensures { IsLeast (λ i j. (link_at links.now i j).delay) (length links.now.groups.items) result }
+{
+    if links.groups.len() < 2 {
+        return None;
+    }
+    Some(links.link.delay)
 }
 
 /// The least delay from this member to the first two others of each group.

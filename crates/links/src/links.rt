@@ -1,5 +1,5 @@
 ghost use Rattle.std.specs.Prelude.{◌≡◌, ℕ, ◌+◌, ◌^◌, ◌<◌, ◌≤◌, ◌↔◌, [], length, map, None, IfOk, IfSome, unwrap_or};
-ghost use Rattle.std.specs.Option.{option_copied, option_map_or};
+ghost use Rattle.std.specs.Option.{option_copied};
 ghost use Rattle.std.specs.List.{range_with_len};
 ghost use Rattle.streams.specs.Draw.{words_of};
 ghost use Rattle.scenario.specs.Setup.{Setup, member_count, group_at, link_between, IsSoundLink};
@@ -9,12 +9,12 @@ ghost use Rattle.links.specs.Table.{link_at, extra_at, is_cut_at};
 ghost use Rattle.links.specs.Least.{IsDelayOfAPair, IsNoGreater};
 
 use crate::least::least_delay;
-use crate::outages::{Outage, is_any_during, outages_of};
+use crate::outages::outages_of;
 use crate::routes::routes_of;
-use crate::spans::{extra_in, spans_of};
+use crate::spans::spans_of;
 use crate::table::Links;
 use base::{MemberId, Memory, Moment};
-use scenario::{Link, Scenario};
+use scenario::{Link, Scenario, Spells};
 use std::alloc::Global;
 use streams::Stream;
 
@@ -113,14 +113,14 @@ impl Links {
             return false;
         }
         match self.outages(from, to) {
-            Some(outages) => is_any_during(outages.as_slice(), at),
+            Some(outages) => outages.covers(at),
             None => false,
         }
     }
 
     /// The times in which the link from one member's group to the other's is cut.
-    fn outages(&self, from: usize, to: usize) -> Option<&Vec<Outage>>
-        ensures { option_map_or (λ v. v.items) (option_copied result) [] ≡ outages_of_pair self.now.groups.items self.now.outages.entries from to }
+    fn outages(&self, from: usize, to: usize) -> Option<&Spells>
+        ensures { unwrap_or (option_copied result) [] ≡ outages_of_pair self.now.groups.items self.now.outages.entries from to }
     {
         let from = self.groups.get(from)?;
         let to = self.groups.get(to)?;
@@ -132,8 +132,8 @@ impl Links {
         ensures value { result ≡ extra_at self.now member at }
         ensures extra_fits { result ≤ 2 ^ 24 }
     {
-        match self.spans.get(&member) {
-            Some(spans) => extra_in(spans.as_slice(), at),
+        match self.spans.get(member.index()) {
+            Some(times) => times.extra(at),
             None => 0,
         }
     }

@@ -1,77 +1,75 @@
-ghost use Rattle.std.specs.Prelude.{◌≡◌, ℕ, ◌++◌, ◌&&◌, cond, nat_eq, [], ◌∷◌, IfOk, OnOk};
+ghost use Rattle.std.specs.Prelude.{◌≡◌, ℕ, ◌<◌, ◌≤◌, ◌||◌, ◌&&◌, length, nat_le, nat_lt, slice_index_or, IfOk, OnOk};
 ghost use Rattle.std.specs.List.{list_any};
-ghost use Rattle.links.specs.Entries.{outages_in, is_during, outage_of, outages_between};
+ghost use Rattle.std.specs.List.Sorted.{IsPermutation};
+ghost use Rattle.scenario.specs.Setup.{cuts_off};
+ghost use Rattle.scenario.specs.Spells.{is_in_any, HaveBegun};
+ghost use Rattle.scenario.specs.declared.settings.Cut.{Cut as ACut};
+ghost use Rattle.links.specs.Entries.{outages_in};
 
 use base::Memory;
-use scenario::Cut;
+use scenario::{Cut, Spells};
 use std::alloc::Global;
 use std::collections::BTreeMap;
 
-/// A time in which a link is cut, in ticks: from its first moment on, until before its last.
-#[derive(Clone, Copy)]
-pub(crate) struct Outage {
-    pub(crate) from: u64,
-    pub(crate) until: u64,
-}
-
-impl Outage {
-    fn of(cut: &Cut) -> Self
-        ensures { result ≡ outage_of cut.now }
-    {
-        Outage {
-            from: cut.at.ticks(),
-            until: cut.until.ticks(),
-        }
-    }
-
-    fn is_during(&self, at: u64) -> bool
-        ensures { result ≡ is_during at self.now }
-    {
-        self.from <= at && at < self.until
-    }
-}
-
-/// The times in which the link from one group to another is cut, in the order of the text.
+/// The times in which the link from one group to another is cut.
 pub(crate) fn outages_of(
     alloc: Global,
     cuts: &[Cut],
-) -> Result<BTreeMap<(usize, usize), Vec<Outage>>, Memory>
-    ensures { IfOk result (λ outages. (from to : ℕ) → outages_in outages.entries from to ≡ outages_between from to cuts.now) }
+) -> Result<BTreeMap<(usize, usize), Spells>, Memory>
+    ensures { IfOk result (λ outages. (from to t : ℕ) → is_in_any (outages_in outages.entries from to) t ≡ list_any (cuts_off from to t) cuts.now) }
+{
+    let sorted = sorted(alloc, cuts)?;
+    list_outages(alloc, sorted.as_slice())
+}
+
+/// The cuts by when they begin.
+fn sorted(alloc: Global, cuts: &[Cut]) -> Result<Vec<Cut>, Memory>
+    ensures same { IfOk result (λ sorted. IsPermutation cuts.now sorted.items) }
+    ensures rising { IfOk result (λ sorted. (i j : ℕ) (d : ACut) → i ≤ j → j < length sorted.items
+        → (slice_index_or sorted.items i d).at ≤ (slice_index_or sorted.items j d).at) }
+{
+    let mut sorted = Vec::from_slice(alloc, cuts)?;
+    sorted.sort_by_key(|cut| cut.at.ticks())?;
+    Ok(sorted)
+}
+
+/// The times of cuts that come in their order.
+fn list_outages(alloc: Global, cuts: &[Cut]) -> Result<BTreeMap<(usize, usize), Spells>, Memory>
+    requires rising { (i j : ℕ) (d : ACut) → i ≤ j → j < length cuts.now
+        → (slice_index_or cuts.now i d).at ≤ (slice_index_or cuts.now j d).at }
+    ensures { IfOk result (λ outages. (from to t : ℕ) → is_in_any (outages_in outages.entries from to) t ≡ list_any (cuts_off from to t) cuts.now) }
 {
     let mut outages = BTreeMap::new(alloc);
     for cut in cuts {
-        append(alloc, &mut outages, (cut.from, cut.to), Outage::of(cut))?;
+        let from = cut.at.ticks();
+        let until = cut.until.ticks();
+        add(alloc, &mut outages, (cut.from, cut.to), from, until)?;
     }
     Ok(outages)
 }
 
-/// Puts a time after the others of its two groups.
-fn append(
+/// Adds a time to those of its two groups.
+fn add(
     alloc: Global,
-    outages: &mut BTreeMap<(usize, usize), Vec<Outage>>,
+    outages: &mut BTreeMap<(usize, usize), Spells>,
     groups: (usize, usize),
-    outage: Outage,
+    from: u64,
+    until: u64,
 ) -> Result<(), Memory>
-    ensures { OnOk result ((from to : ℕ) → outages_in outages.new.entries from to
-        ≡ outages_in outages.old.entries from to ++ cond (nat_eq groups.0 from && nat_eq groups.1 to) (outage ∷ []) []) }
+    requires begun { HaveBegun (outages_in outages.old.entries groups.0 groups.1) from }
+    ensures here { OnOk result ((t : ℕ) → is_in_any (outages_in outages.new.entries groups.0 groups.1) t
+        ≡ (is_in_any (outages_in outages.old.entries groups.0 groups.1) t || (nat_le from t && nat_lt t until))) }
+    ensures others { OnOk result ((a b : ℕ) → ¬ ((a ≡ groups.0) × (b ≡ groups.1))
+        → outages_in outages.new.entries a b ≡ outages_in outages.old.entries a b) }
+    ensures begun { OnOk result (HaveBegun (outages_in outages.new.entries groups.0 groups.1) from) }
 {
     if let Some(others) = outages.get_mut(&groups) {
-        return match others.push(outage) {
-            Ok(()) => Ok(()),
-            Err(_) => Err(Memory),
-        };
+        return others.add(from, until);
     }
-    let mut first = Vec::new(alloc);
-    first.push(outage)?;
+    let mut first = Spells::new(alloc);
+    first.add(from, until)?;
     match outages.insert(groups, first) {
         Ok(_) => Ok(()),
         Err(_) => Err(Memory),
     }
-}
-
-/// Whether one of these times is at a moment.
-pub(crate) fn is_any_during(outages: &[Outage], at: u64) -> bool
-    ensures { result ≡ list_any (is_during at) outages.now }
-{
-    outages.iter().any(|outage| outage.is_during(at))
 }

@@ -2,10 +2,8 @@ ghost use Rattle.std.specs.Prelude.{ℕ, ◌≤◌, ◌^◌};
 ghost use Rattle.scenario.specs.Setup.{IsSoundLink};
 ghost use Rattle.links.specs.Entries.{link_of_pair, spans_in, extra_in};
 
-use crate::outages::Outage;
-use crate::spans::SlowSpan;
-use base::MemberId;
-use scenario::Link;
+use crate::spans::SlowTimes;
+use scenario::{Link, Spells};
 use std::collections::BTreeMap;
 
 /// How messages travel among the members of a scenario: by the link of their groups, unless it is
@@ -18,15 +16,15 @@ pub struct Links {
     pub(crate) link: Link,
     /// The link from one group to another, by the last path that names them.
     pub(crate) routes: BTreeMap<(usize, usize), Link>,
-    /// The times in which members are slow.
-    pub(crate) spans: BTreeMap<MemberId, Vec<SlowSpan>>,
+    /// The times in which each member is slow. Members past the last slow one have no place.
+    pub(crate) spans: Vec<SlowTimes>,
     /// The times in which the link from one group to another is cut.
-    pub(crate) outages: BTreeMap<(usize, usize), Vec<Outage>>,
+    pub(crate) outages: BTreeMap<(usize, usize), Spells>,
     /// After how many ticks a call is begun again that was lost.
     pub(crate) connect: u64,
     /// After how many ticks is sent again what was lost of a stream.
     pub(crate) again: u64,
     ghost waits_sound: { (connect ≤ 2 ^ 24) × (again ≤ 2 ^ 24) },
     ghost links_sound: { (i j : ℕ) → IsSoundLink (link_of_pair groups.items link routes.entries i j) },
-    ghost extras_sound: { (m t : ℕ) → extra_in (spans_in spans.entries m) t ≤ 2 ^ 24 },
+    ghost extras_sound: { (m t : ℕ) → extra_in (spans_in spans.items m) t ≤ 2 ^ 24 },
 }

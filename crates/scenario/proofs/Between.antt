@@ -1,9 +1,10 @@
 -- The number of a member's group, found group by group, and the last path of two groups, path by path.
-use Rattle.std.proofs.Common.{◌≡◌, ℕ, ◌+◌, ◌-◌, ◌<◌, List, [], ◌∷◌, ◌++◌, cond, length, take, refl, Bool, true, false, map, drop, get_or, nat_lt, if◌then◌else◌, ap, ◌∙◌}
-use Rattle.std.specs.List.{filter}
+use Rattle.std.proofs.Common.{◌≡◌, zero-add, sym, arith, ℕ, ◌+◌, ◌-◌, ◌<◌, List, [], ◌∷◌, ◌++◌, cond, length, take, refl, Bool, true, false, map, drop, get_or, nat_lt, if◌then◌else◌, ap, ◌∙◌}
+use Rattle.std.specs.List.{filter, range_with_len}
 use Rattle.std.proofs.lemmas.List.{drop_more, take_more, map-append}
 use Rattle.std.proofs.lemmas.List.Elements.{filter-append}
-use Rattle.scenario.specs.Setup.{group_at, last_link}
+use Rattle.std.proofs.lemmas.List.FromFn.{length-map-range_with_len, get_or-map-range_with_len, map-range_with_len_more}
+use Rattle.scenario.specs.Setup.{Group, group_at, last_link}
 use Rattle.scenario.specs.declared.settings.Link.{Link}
 use Rattle.scenario.specs.declared.settings.Path.{Path}
 use Rattle.scenario.specs.SetupOf.{group_of}
@@ -21,6 +22,22 @@ module _ (gs : List Stored) (i before : ℕ) (g : Stored) (within : i < length g
 
   pub group_passed : nat_lt before g.count ≡ false → group_at (map group_of (drop i gs)) before ≡ 1 + group_at (map group_of (drop (i + 1) gs)) (before - g.count)
   group_passed past = group_step ∙ ap (λ b. if b then 0 else 1 + group_at (map group_of (drop (i + 1) gs)) (before - g.count)) past
+
+-- the numbers of the groups of the first members
+abbrev pub numbers_below : List Group → ℕ → List ℕ
+numbers_below gs n = map (group_at gs) (range_with_len 0 n)
+
+-- one member more
+pub numbers_more : (gs : List Group) (old new : List ℕ) (m x : ℕ) → old ≡ numbers_below gs m → x ≡ group_at gs m → new ≡ old ++ x ∷ [] → new ≡ numbers_below gs (m + 1)
+numbers_more gs old new m x before is more =
+    more ∙ ap (λ xs. xs ++ x ∷ []) before ∙ ap (λ y. numbers_below gs m ++ y ∷ []) is ∙ sym (map-range_with_len_more (group_at gs) 0 m m (zero-add m))
+
+pub length-numbers : (gs : List Group) (n : ℕ) (numbers : List ℕ) → numbers ≡ numbers_below gs n → length numbers ≡ n
+length-numbers gs n numbers are = ap length are ∙ length-map-range_with_len (group_at gs) 0 n
+
+-- what stands at a member's place
+pub number_at : (gs : List Group) (n m x : ℕ) (numbers : List ℕ) → numbers ≡ numbers_below gs n → m < n → x ≡ get_or numbers m x → x ≡ group_at gs m
+number_at gs n m x numbers are within here = here ∙ ap (λ xs. get_or xs m x) are ∙ get_or-map-range_with_len (group_at gs) 0 n m m x within (zero-add m)
 
 last_link-append : (link : Link) (xs ys : List Link) → last_link link (xs ++ ys) ≡ last_link (last_link link xs) ys
 last_link-append link [] ys = refl

@@ -3,3 +3,5 @@ pub mod Between
 pub mod Members
 pub mod Pauses
 pub mod Turns
+pub mod Apart
+pub mod Napping

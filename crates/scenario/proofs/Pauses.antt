@@ -7,6 +7,8 @@ use Rattle.std.proofs.lemmas.List.Sums.{sum_by-cons}
 use Rattle.schema.specs.declared.schema.Version.TheVariants.{Three}
 use Rattle.scenario.specs.Setup.{Setup, is_in_pause, is_paused, ends_of, awake, IsSound}
 use Rattle.scenario.specs.declared.settings.Pause.{Pause}
+use Rattle.scenario.specs.declared.spells.Spell.{Spell}
+use Rattle.scenario.specs.Spells.{is_in_any}
 
 -- ---- one pause, and a list of them
 
@@ -21,69 +23,8 @@ is_in m t p inside =
     let times = and_parts (nat_le p.from t) (nat_lt t p.until) both.1 in
     record { its = both.0; begun = leb-true p.from t times.0; lasts = ltb-true t p.until times.1 }
 
--- who is in a pause is in it until its end
-goes_on : (m a t : ℕ) (p : Pause) → is_in_pause m a p ≡ true → a ≤ t → t < p.until → is_in_pause m t p ≡ true
-goes_on m a t p inside later within =
-    let was = is_in m a p inside in
-    let begun : p.from ≤ t = omega (arith, was.begun, later) in
-    and_from (nat_eq p.member m) (nat_le p.from t && nat_lt t p.until) was.its (and_from (nat_le p.from t) (nat_lt t p.until) (le-leb p.from t begun) (lt-ltb t p.until within))
-
-same_some : {A : Type 0} (x y : A) → Some x ≡ Some y → x ≡ y
-same_some x y same = ap (λ o. unwrap_or o x) same
-
--- a pause that was found in a list: the member is in it, it isn't past all ends, and it covers all until its end
-pub record IsFound (m a : ℕ) (p : Pause) (ps : List Pause) : Type 0 where
-  pub lasts : a < p.until
-  pub ends : p.until ≤ ends_of ps
-  pub covers : (t : ℕ) → a ≤ t → t < p.until → list_any (is_in_pause m t) ps ≡ true
-
 ends_more : (q : Pause) (qs : List Pause) → ends_of (q ∷ qs) ≡ q.until + ends_of qs
 ends_more q qs = sum_by-cons (λ (e : Pause). e.until) q qs
-
-module _ (m a : ℕ) (p : Pause) where
-  found_by : (q : Pause) (qs : List Pause) (b : Bool) → is_in_pause m a q ≡ b → cond b (Some q) (find (is_in_pause m a) qs) ≡ Some p → (find (is_in_pause m a) qs ≡ Some p → IsFound m a p qs)
-      → IsFound m a p (q ∷ qs)
-  found_by q qs true inside found rest =
-      let same : q ≡ p = same_some q p found in
-      let inside_p : is_in_pause m a p ≡ true = ap (is_in_pause m a) (sym same) ∙ inside in
-      let ends : p.until ≡ q.until = ap (λ (e : Pause). e.until) (sym same) in
-      let was = is_in m a p inside_p in
-      record {
-        lasts = was.lasts;
-        ends = omega (arith, ends_more q qs, ends);
-        covers = λ t later within. or_left (is_in_pause m t q) (list_any (is_in_pause m t) qs) (ap (is_in_pause m t) same ∙ goes_on m a t p inside_p later within);
-      }
-  found_by q qs false outside found rest =
-      let later = rest found in
-      let ends = later.ends in
-      record {
-        lasts = later.lasts;
-        ends = omega (arith, ends_more q qs, ends);
-        covers = λ t from within. or_right (is_in_pause m t q) (list_any (is_in_pause m t) qs) (later.covers t from within);
-      }
-
-  pub found : (ps : List Pause) → find (is_in_pause m a) ps ≡ Some p → IsFound m a p ps
-  found [] is = absurd (let no : None ≡ Some p = is in cc)
-  found (q ∷ qs) is = found_by q qs (is_in_pause m a q) refl is (found qs)
-
--- where no pause was found the member is in none
-none_by : (m a : ℕ) (q : Pause) (qs : List Pause) (b : Bool) → is_in_pause m a q ≡ b → cond b (Some q) (find (is_in_pause m a) qs) ≡ None
-    → (find (is_in_pause m a) qs ≡ None → list_any (is_in_pause m a) qs ≡ false) → list_any (is_in_pause m a) (q ∷ qs) ≡ false
-none_by m a q qs true inside is rest = absurd (let other : Some q ≡ None = is in cc)
-none_by m a q qs false outside is rest = ap (λ b. b || list_any (is_in_pause m a) qs) outside ∙ rest is
-
-pub none_found : (m a : ℕ) (ps : List Pause) → find (is_in_pause m a) ps ≡ None → list_any (is_in_pause m a) ps ≡ false
-none_found m a [] is = refl
-none_found m a (q ∷ qs) is = none_by m a q qs (is_in_pause m a q) refl is (none_found m a qs)
-
--- a member that is paused up to a moment at which a pause of it was found is paused until that ends
-pub paused_on : (m moment at : ℕ) (p : Pause) (ps : List Pause) → IsFound m at p ps → ((t : ℕ) → moment ≤ t → t < at → list_any (is_in_pause m t) ps ≡ true)
-    → (t : ℕ) → moment ≤ t → t < p.until → list_any (is_in_pause m t) ps ≡ true
-paused_on m moment at p ps is before t from early = by_place (nat_lt t at) refl
-  where
-    by_place : (b : Bool) → nat_lt t at ≡ b → list_any (is_in_pause m t) ps ≡ true
-    by_place true earlier = before t from (ltb-true t at earlier)
-    by_place false later = is.covers t (ltb-false t at later) early
 
 -- a moment in a pause is before some number that all ends keep to
 before_by : (m t n : ℕ) (p : Pause) (rest : Bool) (b : Bool) → is_in_pause m t p ≡ b → (b || rest) ≡ true → p.until ≤ n → (rest ≡ true → t < n) → t < n
@@ -223,17 +164,17 @@ pub awake_at_once : (s : Setup) (m t : ℕ) → s.pauses ≡ [] → awake s m t 
 awake_at_once s m t none =
     awake_is s m t t (record { later = omega arith; before = λ v from early. absurd (omega (arith, from, early)); free = ap (λ (ps : List Pause). list_any (is_in_pause m t) ps) none })
 
--- what a search in a list says of the scenario whose pauses these are
-pub as_found : (s : Setup) (ps : List Pause) (m n t r u : ℕ) → ps ≡ s.pauses → n ≡ m → r ≡ t → r ≤ u
-    → ((v : ℕ) → r ≤ v → v < u → list_any (is_in_pause n v) ps ≡ true) → list_any (is_in_pause n u) ps ≡ false → IsAwakeAt s m t u
-as_found s ps m n t r u pauses member moment later before free = record {
+-- what a search in the member's times says of the scenario that they are of
+pub as_found : (s : Setup) (spells : List Spell) (m n t r u : ℕ) → ((v : ℕ) → is_in_any spells v ≡ is_paused s n v) → n ≡ m → r ≡ t → r ≤ u
+    → ((v : ℕ) → r ≤ v → v < u → is_in_any spells v ≡ true) → is_in_any spells u ≡ false → IsAwakeAt s m t u
+as_found s spells m n t r u are member moment later before free = record {
   later = omega (arith, later, moment);
   before = λ v from early. sym (same v) ∙ before v (omega (arith, from, moment)) early;
   free = sym (same u) ∙ free;
 }
   where
-    same : (v : ℕ) → list_any (is_in_pause n v) ps ≡ is_paused s m v
-    same v = ap (λ k. list_any (is_in_pause k v) ps) member ∙ ap (list_any (is_in_pause m v)) pauses
+    same : (v : ℕ) → is_in_any spells v ≡ is_paused s m v
+    same v = are v ∙ ap (λ k. is_paused s k v) member
 
 -- the moment at which a member is awake is the least one that there may be
 pub awake_least : (s : Setup) (m t : ℕ) → (t ≤ awake s m t) × (is_paused s m (awake s m t) ≡ false) × ((u : ℕ) → t ≤ u → is_paused s m u ≡ false → awake s m t ≤ u)

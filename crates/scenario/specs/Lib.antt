@@ -3,3 +3,6 @@ pub mod Setup
 pub mod Profile
 pub mod SetupOf
 pub mod Division
+pub mod Spells
+pub mod SpellsOf
+pub mod Naps

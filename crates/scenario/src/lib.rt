@@ -3,9 +3,11 @@
 
 mod division;
 pub mod laws;
+mod naps;
 mod profile;
 mod scenario;
 mod settings;
+mod spells;
 
 pub use division::{Division, DivisionFault, Workers};
 pub use scenario::{Contents, Scenario};
@@ -13,3 +15,4 @@ pub use schema::Version;
 pub use settings::{
     Crash, Cut, Gossip, Group, Leave, Lifeguard, Link, Path, Pause, Slow, Stream, Suspicion, Swim,
 };
+pub use spells::{Spell, Spells};

@@ -1,15 +1,20 @@
 ghost use Rattle.std.specs.Prelude.{◌≡◌, ◌<◌, ◌≤◌, ◌^◌, ℕ, true, false};
-ghost use Rattle.std.specs.Prelude.{string_bytes, map, filter, find, nat_eq, slice_get, option_map, option_and_then, option_copied, IfSome};
-ghost use Rattle.std.specs.List.{list_any};
+ghost use Rattle.std.specs.Prelude.{string_bytes, map, filter, find, nat_eq, slice_get, option_map, option_and_then, option_copied, IfOk, IfSome, IfNone};
+ghost use Rattle.std.specs.List.{list_any, range_with_len};
 ghost use Rattle.std.specs.Option.{option_map_or};
 ghost use Rattle.scenario.specs.SetupOf.{group_of, setup_in};
-ghost use Rattle.scenario.specs.Setup.{member_count, member_names, name_of, group_at, leads, last_link, link_between, start_of, contact_of, crash_of, leave_of, is_slow, extra_of, cuts_off, is_cut, is_in_pause, awake, IsSound, IsSoundLink};
+ghost use Rattle.scenario.specs.Spells.{is_in_any, IsEndFrom};
+ghost use Rattle.scenario.specs.Naps.{naps_at};
+ghost use Rattle.scenario.specs.Setup.{member_count, member_names, name_of, group_at, leads, last_link, link_between, start_of, contact_of, crash_of, leave_of, is_slow, extra_of, cuts_off, is_cut, awake, IsSound, IsSoundLink};
 
+use crate::naps::naps_of;
 use crate::settings::{
     Crash, Cut, Gossip, Group, Leave, Lifeguard, Link, Path, Pause, Slow, Stream, Suspicion, Swim,
 };
-use base::{MemberId, Moment};
+use crate::spells::Spells;
+use base::{MemberId, Memory, Moment};
 use schema::Version;
+use std::alloc::Global;
 use std::marker::Model;
 
 /// What a scenario's text says, field by field.
@@ -46,6 +51,10 @@ pub struct Contents {
 #[derive(Drop)]
 pub struct Scenario {
     contents: Contents,
+    /// The number of each member's group.
+    numbers: Vec<usize>,
+    /// When each member is paused. Members past the last one that is have no place.
+    naps: Vec<Spells>,
 }
 
 impl Model for Scenario {
@@ -61,14 +70,21 @@ impl Model for Scenario {
 }
 
 impl Scenario {
-    /// The scenario with these contents. Whoever made them sees to it that they keep the format's rules,
-    /// as the reader of a text does by its checks.
-    pub fn of(contents: Contents) -> Scenario
+    /// The scenario with these contents, or `Memory` where it was refused. Whoever made them sees to it
+    /// that they keep the format's rules, as the reader of a text does by its checks.
+    pub fn of(alloc: Global, contents: Contents) -> Result<Scenario, Memory>
         requires named { map string_bytes contents.names.items ≡ member_names (setup_in contents) }
         requires sound { IsSound (setup_in contents) }
-        ensures { result ≡ setup_in contents }
+        ensures { IfOk result (λ scenario. scenario ≡ setup_in contents) }
     {
-        Scenario { contents }
+        let members = contents.names.len();
+        let numbers = numbers_of(alloc, contents.groups.as_slice(), members)?;
+        let naps = naps_of(alloc, contents.pauses.as_slice())?;
+        Ok(Scenario {
+            contents,
+            numbers,
+            naps,
+        })
     }
 
     /// The version of the text's format.
@@ -152,8 +168,8 @@ impl Scenario {
         ensures value { result ≡ link_between self.now from to }
         ensures sound { IsSoundLink result }
     {
-        let from = group_at(self.contents.groups.as_slice(), from.index());
-        let to = group_at(self.contents.groups.as_slice(), to.index());
+        let from = self.number(from.index());
+        let to = self.number(to.index());
         last_link(self.contents.link, self.contents.paths.as_slice(), from, to)
     }
 
@@ -164,8 +180,7 @@ impl Scenario {
         ensures small { result ≤ 2 ^ 40 }
         ensures sound { IsSound self.now }
     {
-        let groups = self.contents.groups.as_slice();
-        start_at(groups, group_at(groups, member.index()))
+        start_at(self.contents.groups.as_slice(), self.number(member.index()))
     }
 
     /// Whom the member asks to let it join; none where it starts at moment 0.
@@ -175,8 +190,7 @@ impl Scenario {
         ensures member { IfSome result (λ c. c < member_count self.now) }
         ensures sound { IsSound self.now }
     {
-        let groups = self.contents.groups.as_slice();
-        contact_at(groups, group_at(groups, member.index()))
+        contact_at(self.contents.groups.as_slice(), self.number(member.index()))
     }
 
     /// When the member crashes, in ticks, if it does.
@@ -215,8 +229,8 @@ impl Scenario {
         requires receiver { to < member_count self.now }
         ensures { result ≡ is_cut self.now from to at }
     {
-        let from = group_at(self.contents.groups.as_slice(), from.index());
-        let to = group_at(self.contents.groups.as_slice(), to.index());
+        let from = self.number(from.index());
+        let to = self.number(to.index());
         is_any_cut(self.contents.cuts.as_slice(), from, to, at.ticks())
     }
 
@@ -225,7 +239,15 @@ impl Scenario {
         requires { member < member_count self.now }
         ensures { result ≡ group_at self.now.groups member }
     {
-        group_at(self.contents.groups.as_slice(), member.index())
+        self.number(member.index())
+    }
+
+    /// The number of a member's group, out of the table of all members.
+    fn number(&self, member: usize) -> usize
+        requires { member < member_count self.now }
+        ensures { result ≡ group_at self.now.groups member }
+    {
+        self.numbers[member]
     }
 
     /// The groups, in the order of the text: members are numbered in this order.
@@ -300,11 +322,7 @@ impl Scenario {
         ensures put_off { moment < result → result ≤ 2 ^ 40 }
         ensures sound { IsSound self.now }
     {
-        Moment(awake_at(
-            self.contents.pauses.as_slice(),
-            member.index(),
-            moment.ticks(),
-        ))
+        Moment(awake_at(self.naps.as_slice(), member.index(), moment.ticks()))
     }
 
     /// The link of every pair of members whose groups no path names.
@@ -314,6 +332,17 @@ impl Scenario {
     {
         self.contents.link
     }
+}
+
+/// The number of each member's group.
+fn numbers_of(alloc: Global, groups: &[Group], members: usize) -> Result<Vec<usize>, Memory>
+    ensures { IfOk result (λ numbers. numbers.items ≡ map (group_at (map group_of groups.now)) (range_with_len 0 members)) }
+{
+    let mut numbers = Vec::new(alloc);
+    for member in 0..members {
+        numbers.push(group_at(groups, member))?;
+    }
+    Ok(numbers)
 }
 
 /// The number of a member's group.
@@ -409,30 +438,24 @@ fn cuts_off(cut: &Cut, from: usize, to: usize, at: u64) -> bool
 }
 
 /// The first moment, from the given one on, at which the member isn't paused.
-fn awake_at(pauses: &[Pause], member: usize, moment: u64) -> u64
+fn awake_at(naps: &[Spells], member: usize, moment: u64) -> u64
     ensures later { moment ≤ result }
-    ensures before { (t : ℕ) → moment ≤ t → t < result → list_any (is_in_pause member t) pauses.now ≡ true }
-    ensures there { list_any (is_in_pause member result) pauses.now ≡ false }
+    ensures before { (t : ℕ) → moment ≤ t → t < result → is_in_any (naps_at naps.now member) t ≡ true }
+    ensures there { is_in_any (naps_at naps.now member) result ≡ false }
 {
-    let mut at = moment;
-    while let Some(pause) = pause_at(pauses, member, at) {
-        at = pause.until.ticks();
+    match end_of_nap(naps, member, moment) {
+        Some(end) => end,
+        None => moment,
     }
-    at
 }
 
-/// The first pause in which the member is at the moment.
-fn pause_at(pauses: &[Pause], member: usize, at: u64) -> Option<&Pause>
-    ensures { option_copied result ≡ find (is_in_pause member at) pauses.now }
+/// The end of the time at the moment in which the member is paused.
+fn end_of_nap(naps: &[Spells], member: usize, moment: u64) -> Option<u64>
+    ensures end { IfSome result (IsEndFrom (naps_at naps.now member) moment) }
+    ensures none { IfNone result (is_in_any (naps_at naps.now member) moment ≡ false) }
 {
-    pauses.iter().find(|pause| is_in_pause(pause, member, at))
-}
-
-/// Whether the member is in this pause at the moment.
-fn is_in_pause(pause: &Pause, member: usize, at: u64) -> bool
-    ensures { result ≡ is_in_pause member at pause.now }
-{
-    pause.member.index() == member && pause.from.ticks() <= at && at < pause.until.ticks()
+    let naps = naps.get(member)?;
+    naps.end_from(moment)
 }
 
 /// The link of the last path from one group to another, else the link that is given.

@@ -178,7 +178,7 @@ fn decide(alloc: Global, roster: &Roster, tree: &Value) -> Result<Scenario, Memo
         pauses: script.pauses,
         names,
     };
-    Ok(Scenario::of(contents))
+    Scenario::of(alloc, contents)
 }
 
 /// Whether the groups have more members than there may be.

@@ -1,6 +1,7 @@
 use Rattle.std.proofs.Common.{◌≡◌, ◌≤◌, List, map, subst, ap, sym, ◌∙◌, arith}
 use Rattle.std.specs.List.{flat_map, sum_by}
 use Rattle.std.proofs.lemmas.Bool.{ltb-false}
+use Rattle.std.proofs.lemmas.Result.{IfOk-weaker}
 use Rattle.std.proofs.lemmas.List.Folds.{flat_map-map}
 use Rattle.toml.specs.Data.{Data}
 use Rattle.toml.specs.View.{view}
@@ -9,7 +10,7 @@ use Rattle.schema.specs.Tree.{items_at}
 use Rattle.schema.specs.Schema.{most_members}
 use Rattle.schema.specs.declared.schema.Version.{Version}
 use Rattle.schema.specs.declared.schema.FormatKey.TheVariants as key
-use Rattle.scenario.specs.Setup.{Group, names_in, member_count, IsSound}
+use Rattle.scenario.specs.Setup.{Setup, Group, names_in, member_count, IsSound}
 use Rattle.scenario_reader.specs.Reading.{version_of, plain_groups, group_in, path_in, slows_in, crashes_in, leaves_in, cuts_in, pauses_in, setup_of_tree}
 use Rattle.scenario_reader.specs.Rules.{KeepsValues}
 use Rattle.scenario.specs.SetupOf.{group_of}
@@ -93,8 +94,7 @@ returns c =
     let tree = view c.args.tree.now in
     let gs = c.args.roster.now in
     let link = c.read_link-link.result in
-    c.of.ensures
-    ∙ same_setup (setup_of_tree tree) c.version_of-version.result c.number.result c.number-2.result c.read_swim.result c.read_suspicion.result c.read_lifeguard.result link
+    let same = same_setup (setup_of_tree tree) c.version_of-version.result c.number.result c.number-2.result c.read_swim.result c.read_suspicion.result c.read_lifeguard.result link
     (map group_of c.in-Ok.groups.items) c.in-Ok-read_paths.paths.items c.in-Ok-read_script.script.slows.items c.in-Ok-read_script.script.crashes.items
     c.in-Ok-read_script.script.leaves.items c.in-Ok-read_script.script.cuts.items c.read_gossip.result c.read_stream.result c.in-Ok-read_script.script.pauses.items
     c.version_of-version.ensures c.number.ensures c.number-2.ensures c.read_swim.ensures c.read_suspicion.ensures c.read_lifeguard.ensures c.read_link-link.ensures
@@ -103,4 +103,5 @@ returns c =
     (c.in-Ok-read_script.ensures.slows ∙ slows_are tree gs c.requires.groups) (c.in-Ok-read_script.ensures.crashes ∙ crashes_are tree gs c.requires.groups)
     (c.in-Ok-read_script.ensures.leaves ∙ leaves_are tree gs c.requires.groups c.version_of-version.result c.version_of-version.ensures)
     (c.in-Ok-read_script.ensures.cuts ∙ cuts_are tree gs c.requires.groups c.version_of-version.result c.version_of-version.ensures)
-    c.read_gossip.ensures c.read_stream.ensures (c.in-Ok-read_script.ensures.pauses ∙ pauses_are tree gs c.requires.groups c.version_of-version.result c.version_of-version.ensures)
+    c.read_gossip.ensures c.read_stream.ensures (c.in-Ok-read_script.ensures.pauses ∙ pauses_are tree gs c.requires.groups c.version_of-version.result c.version_of-version.ensures) in
+    IfOk-weaker c.of.result (λ (s : Setup). s ≡ _) (λ (s : Setup). s ≡ setup_of_tree tree) (λ s is. is ∙ same) c.of.ensures

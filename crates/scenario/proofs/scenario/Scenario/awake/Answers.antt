@@ -1,6 +1,8 @@
 use Rattle.std.proofs.Common.{◌≡◌, ◌<◌, ◌≤◌, ◌^◌, Bool, true, false, nat_lt, subst, sym, ap, ◌∙◌, arith}
 use Rattle.std.proofs.lemmas.Bool.Decides.{nat_tests}
-use Rattle.scenario.specs.Setup.{Setup, awake, IsSound}
+use Rattle.scenario.specs.Setup.{Setup, awake, is_paused, IsSound}
+use Rattle.scenario.specs.Spells.{is_in_any}
+use Rattle.scenario.specs.Naps.{naps_at}
 use Rattle.scenario.proofs.Pauses.{IsAwakeAt, as_found, awake_is, awake_small, small_by}
 use Rattle.scenario.proofs.scenario.Scenario.awake.Goals as goal
 
@@ -9,8 +11,9 @@ returns-clause-value c =
     let s = c.args.self.now in
     let found = c.awake_at.ensures in
     sym (awake_is s c.args.member c.args.moment c.awake_at.result
-    (as_found s c.as_slice.result.now c.args.member c.index.result c.args.moment c.ticks.result c.awake_at.result
-    (c.as_slice.ensures.value ∙ ap (λ (t : Setup). t.pauses) c.self.view_is) c.index.ensures c.ticks.ensures found.later found.before found.there))
+    (as_found s (naps_at c.as_slice.result.now c.index.result) c.args.member c.index.result c.args.moment c.ticks.result c.awake_at.result
+    (λ v. ap (λ naps. is_in_any (naps_at naps c.index.result) v) c.as_slice.ensures.value ∙ c.self.invariant.naps c.index.result v ∙ ap (λ (t : Setup). is_paused t c.index.result v) c.self.view_is)
+    c.index.ensures c.ticks.ensures found.later found.before found.there))
 
 pub returns-clause-later : goal.returns-clause-later
 returns-clause-later c = omega (arith, c.awake_at.ensures.later, c.ticks.ensures)
@@ -20,16 +23,18 @@ returns-clause-put_off c = λ put_off.
     let s = c.args.self.now in
     let found = c.awake_at.ensures in
     awake_small s (subst IsSound c.self.view_is c.self.invariant.sound) c.args.member c.args.moment c.awake_at.result
-    (as_found s c.as_slice.result.now c.args.member c.index.result c.args.moment c.ticks.result c.awake_at.result
-    (c.as_slice.ensures.value ∙ ap (λ (t : Setup). t.pauses) c.self.view_is) c.index.ensures c.ticks.ensures found.later found.before found.there) put_off
+    (as_found s (naps_at c.as_slice.result.now c.index.result) c.args.member c.index.result c.args.moment c.ticks.result c.awake_at.result
+    (λ v. ap (λ naps. is_in_any (naps_at naps c.index.result) v) c.as_slice.ensures.value ∙ c.self.invariant.naps c.index.result v ∙ ap (λ (t : Setup). is_paused t c.index.result v) c.self.view_is)
+    c.index.ensures c.ticks.ensures found.later found.before found.there) put_off
 
 pub returns-clause-small : goal.returns-clause-small
 returns-clause-small c =
     let s = c.args.self.now in
     let found = c.awake_at.ensures in
     small_by s (subst IsSound c.self.view_is c.self.invariant.sound) c.args.member c.args.moment c.awake_at.result
-    (as_found s c.as_slice.result.now c.args.member c.index.result c.args.moment c.ticks.result c.awake_at.result
-    (c.as_slice.ensures.value ∙ ap (λ (t : Setup). t.pauses) c.self.view_is) c.index.ensures c.ticks.ensures found.later found.before found.there)
+    (as_found s (naps_at c.as_slice.result.now c.index.result) c.args.member c.index.result c.args.moment c.ticks.result c.awake_at.result
+    (λ v. ap (λ naps. is_in_any (naps_at naps c.index.result) v) c.as_slice.ensures.value ∙ c.self.invariant.naps c.index.result v ∙ ap (λ (t : Setup). is_paused t c.index.result v) c.self.view_is)
+    c.index.ensures c.ticks.ensures found.later found.before found.there)
 
 pub returns-clause-sound : goal.returns-clause-sound
 returns-clause-sound c = subst IsSound c.self.view_is c.self.invariant.sound

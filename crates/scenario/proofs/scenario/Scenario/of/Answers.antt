@@ -1,0 +1,21 @@
+use Rattle.std.proofs.Common.{◌≡◌, ℕ, map, length, sym, ap, ◌∙◌, List}
+use Rattle.std.specs.List.{range_with_len, list_any}
+use Rattle.scenario.specs.Setup.{group_at, member_count, is_in_pause}
+use Rattle.scenario.specs.SetupOf.{group_of, setup_in}
+use Rattle.scenario.specs.declared.settings.Group.{Group as Stored}
+use Rattle.scenario.proofs.Names.{length-names}
+use Rattle.scenario.proofs.scenario.Scenario.of.Goals as goal
+
+pub invariant_of-result : goal.invariant_of-result
+invariant_of-result c =
+    let s = setup_in c.args.contents in
+    let counted : c.len-members.result ≡ member_count s =
+    c.len-members.ensures ∙ c.args.contents.names.ok.0 ∙ length-names c.args.contents.names.items s c.requires.named in
+    record {
+      names = c.requires.named;
+      sound = c.requires.sound;
+      numbers =
+          c.in_ok-numbers.ensures ∙ ap (λ (gs : List Stored). map (group_at (map group_of gs)) (range_with_len 0 c.len-members.result)) c.as_slice.ensures.value
+          ∙ ap (λ n. map (group_at s.groups) (range_with_len 0 n)) counted;
+      naps = λ m t. c.in_ok-naps.ensures m t ∙ ap (list_any (is_in_pause m t)) c.as_slice-2.ensures.value;
+    }

@@ -1,0 +1,9 @@
+use Rattle.std.proofs.Common.{◌≡◌, List, sym, ap, ◌∙◌, subst, ℕ}
+use Rattle.scenario.specs.Spells.{is_in_any, HaveBegun, AreApart}
+use Rattle.scenario.specs.declared.spells.Spell.{Spell}
+use Rattle.scenario.proofs.Apart.{appended_apart, appended_in, appended_begun}
+use Rattle.scenario.proofs.spells.append.Goals as goal
+
+pub returns-in-Ok-clause-apart : goal.returns-in-Ok-clause-apart
+returns-in-Ok-clause-apart c =
+    subst AreApart (sym c.in-Ok.ensures.items) (appended_apart c.args.spells.now.items c.args.from c.args.until c.requires.lasts c.requires.over c.requires.apart)
