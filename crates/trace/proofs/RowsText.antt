@@ -1,6 +1,7 @@
 -- The text of rows that are split in two.
-use Rattle.std.proofs.Common.{◌≡◌, ℕ, List, ◌++◌, take, drop, sym, ap, ◌∙◌, append_assoc, take-append-drop, subst}
+use Rattle.std.proofs.Common.{◌≡◌, ◌-◌, ℕ, List, ◌++◌, length, take, drop, arith, sym, ap, ◌∙◌, append_assoc, take-append-drop, subst}
 use Rattle.std.proofs.lemmas.Grind.{flat_map-append}
+use Rattle.std.proofs.lemmas.List.{length-drop, take_all}
 use Rattle.scenario.specs.Setup.{Setup}
 use Rattle.trace.specs.declared.row.Row.{Row}
 use Rattle.std.proofs.lemmas.List.Elements.{All-drop}
@@ -46,3 +47,7 @@ trace_text-append s first second = ap (λ t. header ++ t) (rows_text-append s fi
 -- the members that the rows left name are members where those of all are
 pub named-later : (s : Setup) (rows later : List Row) (n : ℕ) → later ≡ drop n rows → All (NamesMembers s) rows → All (NamesMembers s) later
 named-later s rows later n dropped named = subst (All (NamesMembers s)) (sym dropped) (All-drop (NamesMembers s) n rows named)
+
+-- what is put of a room, from a place on
+pub from_place : (room : List ℕ) (start : ℕ) → take (length room - start) (drop start room) ≡ drop start room
+from_place room start = take_all (length room - start) (drop start room) (omega (arith, length-drop start room))

@@ -1,18 +1,14 @@
--- How long the fields of a line may be, and how a line is written that is taken whole.
-use Rattle.std.proofs.Common.{◌≡◌, ◌+◌, ◌-◌, ◌<◌, ◌≤◌, ◌%◌, ◌/◌, ◌==◌, ℕ, zero, suc, List, [], ◌∷◌, ◌++◌, Bool, true, false, ◌&&◌, cond, codes, length, map, take, drop, Option, Some, None, refl, ap, ◌∙◌, append-nil, arith, flat_map, unwrap_or}
-use Rattle.std.specs.Prelude.{Result, Ok, Err, OnOk}
+-- How long the fields of a line may be, and how a line is laid before others.
+use Rattle.std.proofs.Common.{◌≡◌, ◌+◌, ◌<◌, ◌≤◌, ◌%◌, ◌/◌, ◌==◌, ℕ, zero, suc, List, [], ◌∷◌, ◌++◌, Bool, true, false, ◌&&◌, cond, codes, length, get_or, map, drop, drop-cons, add-one, refl, sym, ap, ◌∙◌, append_assoc, arith, flat_map, unwrap_or}
 use Rattle.std.specs.Fmt.{decimal, digits, digits_onto, digit_glyph}
 use Rattle.std.specs.List.{list_all, join_with_byte, slice_get, range_with_len, AllByRecursion}
 use Rattle.std.proofs.lemmas.Bool.{false≢true, leb-true}
-use Rattle.std.proofs.lemmas.Bool.Decides.{nat_tests}
-use Rattle.std.proofs.lemmas.List.{length-append, length-drop, take_all}
-use Rattle.csv.specs.Writing.{default_writer, with_style, fields_text, row_text, is_blank}
-use Rattle.csv.specs.declared.writer.QuoteStyle.TheVariants as style
+use Rattle.std.proofs.lemmas.List.{length-append}
 use Rattle.base.proofs.Rising.{all_append}
 use Rattle.scenario.specs.GroupNames.{is_name_byte, starts_with_letter, is_group_name}
 use Rattle.scenario.specs.Setup.{Setup, Group, names_in, member_names, name_of, IsSound}
 use Rattle.trace.specs.declared.row.Row.{Row}
-use Rattle.trace.specs.Text.{fields_of, line_of}
+use Rattle.trace.specs.Text.{fields_of, line_of, rows_text}
 
 both : (a b : Bool) → (a && b) ≡ true → (a ≡ true) × (b ≡ true)
 both true b e = (refl, e)
@@ -62,35 +58,20 @@ name_short s sound m = at_place (member_names s) (names_short s.groups sound.nam
 
 -- ---- lines
 
--- a text that is one field, never quoted, is written as it is
-not_blank : (n : ℕ) → 0 < n → (n == 0) ≡ false
-not_blank n shown = grind (arith, nat_tests)
-
-line_whole : (text : List ℕ) → 0 < length text → row_text (with_style default_writer style.Never) (text ∷ []) ≡ text ++ codes "\n"
-unfolding is_blank fields_text
-line_whole text shown =
-    ap (λ b. (text ++ []) ++ (cond b (34 ∷ 34 ∷ []) [] ++ codes "\n")) (not_blank (length text) shown) ∙ ap (λ t. t ++ codes "\n") (append-nil text)
-
--- a text with a byte in it shows something
-shown_at : (before after : List ℕ) (b : ℕ) → 0 < length (before ++ b ∷ after)
-shown_at [] after b = omega arith
-shown_at (c ∷ before) after b = omega arith
-
--- a row's line, as it is written
-pub line_written : (s : Setup) (row : Row) (text : List ℕ) → text ≡ join_with_byte 44 (fields_of s row) → row_text (with_style default_writer style.Never) (text ∷ []) ≡ line_of s row
-unfolding line_of
-line_written s row text same =
-    ap (λ t. row_text (with_style default_writer style.Never) (t ∷ [])) same ∙ line_whole (join_with_byte 44 (fields_of s row)) (shown_at (decimal row.at) _ 44)
-
--- the room from a place on
-pub from_place : (start : ℕ) (room : List ℕ) → length room ≡ 320 → take (320 - start) (drop start room) ≡ drop start room
-from_place start room long = take_all (320 - start) (drop start room) (omega (arith, long, length-drop start room))
-
 -- a field and a comma before the fields that are laid
-pub one_more : (whole first first' rest rest' : List ℕ) → whole ≡ first ++ 44 ∷ rest → first ≡ first' → rest ≡ rest' → whole ≡ first' ++ 44 ∷ rest'
-one_more whole first first' rest rest' laid same others = laid ∙ ap (λ f. f ++ 44 ∷ rest) same ∙ ap (λ r. first' ++ 44 ∷ r) others
+pub one_more : (tail whole first first' rest rest' : List ℕ) → whole ≡ first ++ 44 ∷ rest → first ≡ first' → rest ≡ rest' ++ tail → whole ≡ (first' ++ 44 ∷ rest') ++ tail
+one_more tail whole first first' rest rest' laid same others =
+    laid ∙ ap (λ f. f ++ 44 ∷ rest) same ∙ ap (λ r. first' ++ 44 ∷ r) others ∙ sym (append_assoc first' (44 ∷ rest') tail)
 
--- what follows where a call answers Ok
-pub OnOk-then : {T E P Q : Type 0} (r : Result T E) → OnOk r P → (P → Q) → OnOk r Q
-OnOk-then (Ok x) p f = f p
-OnOk-then (Err e) p f = tt
+-- a row's fields before a line feed
+pub line_laid : (s : Setup) (row : Row) (tail whole rest : List ℕ) → whole ≡ join_with_byte 44 (fields_of s row) ++ rest → rest ≡ 10 ∷ tail → whole ≡ line_of s row ++ tail
+unfolding line_of
+line_laid s row tail whole rest laid ended =
+    laid ∙ ap (λ r. join_with_byte 44 (fields_of s row) ++ r) ended ∙ sym (append_assoc (join_with_byte 44 (fields_of s row)) (codes "\n") tail)
+
+-- a row's line before those of the rows behind it
+pub row_laid : (s : Setup) (rows : List Row) (place : ℕ) (row : Row) → place < length rows → row ≡ get_or rows place row → (whole later : List ℕ)
+    → whole ≡ line_of s row ++ later → later ≡ rows_text s (drop (place + 1) rows) → whole ≡ rows_text s (drop place rows)
+row_laid s rows place row within is whole later laid others =
+    laid ∙ ap (λ l. line_of s row ++ l) others
+    ∙ sym (ap (rows_text s) (drop-cons rows place row within ∙ ap (λ r. r ∷ drop (suc place) rows) (sym is) ∙ ap (λ n. row ∷ drop n rows) (sym (add-one place))))

@@ -1,85 +1,52 @@
-ghost use Rattle.std.specs.Prelude.{◌≡◌, ◌+◌, ◌++◌, ◌∷◌, ◌<◌, ◌≤◌, [], decimal, length, drop, IfOk, IfSome, OnOk, All};
+ghost use Rattle.std.specs.Prelude.{◌≡◌, ◌+◌, ◌*◌, ◌++◌, ◌∷◌, ◌<◌, ◌≤◌, [], decimal, length, drop, IfSome, All};
 ghost use Rattle.std.specs.List.{join_with_byte};
-ghost use Rattle.trace.specs.Lines.{laid_out, IsAtStart};
 ghost use Rattle.trace.specs.Text.{line_of, fields_of, rows_text, about_text, word_of, lost_text, NamesMembers};
-ghost use Rattle.csv.specs.Writing.{default_writer, with_style, row_text};
-ghost use Rattle.csv.specs.declared.writer.QuoteStyle.TheVariants as style;
 ghost use Rattle.scenario.specs.Setup.{member_count, name_of};
 
 use crate::row::{Row, What};
-use base::{MemberId, Memory};
-use csv::{QuoteStyle, Writer, WriterBuilder};
+use base::MemberId;
 use itoa::write_digits;
 use scenario::Scenario;
-use std::alloc::Global;
 
-/// Room for any line but its line feed: three numbers of at most 20 digits, three names, a word, a digit
-/// and seven commas.
-const ROOM: usize = 320;
+/// Room for any line: three numbers of at most 20 digits, three names, a word, a digit, seven commas and a
+/// line feed.
+pub(crate) const ROOM: usize = 320;
 
-/// The lines of rows, in memory.
-pub(crate) fn lines(alloc: Global, rows: &[Row], scenario: &Scenario) -> Result<Vec<u8>, Memory>
-    requires { All (NamesMembers scenario.now) rows.now }
-    ensures { IfOk result (λ text. text.items ≡ rows_text scenario.now rows.now) }
+/// Lays the lines of rows at the end of the room, from the last to the first, and answers where they start.
+pub(crate) fn lay_lines(rows: &[Row], scenario: &Scenario, room: &mut [u8]) -> usize
+    requires named { All (NamesMembers scenario.now) rows.now }
+    requires room { 320 * length rows.now ≤ length room.old }
+    ensures start { result ≤ length room.old }
+    ensures laid { drop result room.new ≡ rows_text scenario.now rows.now }
 {
-    let mut writer = new_writer(alloc);
-    let mut room = [0; ROOM];
-    for row in rows {
-        write_line(&mut writer, &mut room, row, scenario)?;
+    let mut start = room.len();
+    let mut left = rows.len();
+    while left > 0 {
+        left -= 1;
+        start = lay_line(&rows[left], scenario, room, start);
     }
-    match writer.into_inner() {
-        Ok(text) => Ok(text),
-        Err(_) => Err(Memory),
-    }
+    start
 }
 
-/// A writer that has written nothing yet.
-fn new_writer(alloc: Global) -> Writer<Vec<u8>>
-    ensures start { IsAtStart result }
-    ensures empty { laid_out result ≡ [] }
-{
-    WriterBuilder::new()
-        .quote_style(QuoteStyle::Never)
-        .from_writer(Vec::new(alloc))
-}
-
-/// Writes one line. None of its fields calls for quotes.
-fn write_line(
-    writer: &mut Writer<Vec<u8>>,
-    room: &mut [u8; ROOM],
-    row: &Row,
-    scenario: &Scenario,
-) -> Result<(), Memory>
+/// Lays a row's line before a place, and answers where it starts.
+fn lay_line(row: &Row, scenario: &Scenario, room: &mut [u8], end: usize) -> usize
     requires named { NamesMembers scenario.now row.now }
-    requires start { IsAtStart writer.old }
-    ensures start { OnOk result (IsAtStart writer.new) }
-    ensures text { OnOk result (laid_out writer.new ≡ laid_out writer.old ++ line_of scenario.now row.now) }
+    requires room { (320 ≤ end) × (end ≤ length room.old) }
+    ensures start { (result < end) × (end ≤ result + 320) }
+    ensures laid { drop result room.new ≡ line_of scenario.now row.now ++ drop end room.old }
 {
-    let start = lay_fields(row, scenario, room);
-    end_line(writer, &room[start..])
+    let end = lay_byte(b'\n', room, end);
+    lay_fields(row, scenario, room, end)
 }
 
-/// Writes the text of a line, and a line feed. The writer goes into memory alone, and takes each line whole,
-/// so an error of it is want of memory.
-fn end_line(writer: &mut Writer<Vec<u8>>, text: &[u8]) -> Result<(), Memory>
-    requires { IsAtStart writer.old }
-    ensures start { OnOk result (IsAtStart writer.new) }
-    ensures text { OnOk result (laid_out writer.new ≡ laid_out writer.old ++ row_text (with_style default_writer style.Never) (text.now ∷ [])) }
-{
-    match writer.write_fields(&[text]) {
-        Ok(()) => Ok(()),
-        Err(_) => Err(Memory),
-    }
-}
-
-/// Lays a row's fields at the end of the room, from the last to the first, and answers where they start.
-fn lay_fields(row: &Row, scenario: &Scenario, room: &mut [u8]) -> usize
+/// Lays a row's fields before a place, from the last to the first, and answers where they start.
+fn lay_fields(row: &Row, scenario: &Scenario, room: &mut [u8], end: usize) -> usize
     requires named { NamesMembers scenario.now row.now }
-    requires room { length room.old ≡ 320 }
-    ensures start { result < 320 }
-    ensures laid { drop result room.new ≡ join_with_byte 44 (fields_of scenario.now row.now) }
+    requires room { (319 ≤ end) × (end ≤ length room.old) }
+    ensures start { (result < end) × (end ≤ result + 319) }
+    ensures laid { drop result room.new ≡ join_with_byte 44 (fields_of scenario.now row.now) ++ drop end room.old }
 {
-    let end = lay_byte(lost_digit(row.lost), room, ROOM);
+    let end = lay_byte(lost_digit(row.lost), room, end);
     let end = lay_number(row.value, room, end);
     let end = lay_text(about_name(row.about, scenario), room, end);
     let end = lay_text(word_of(row.what), room, end);

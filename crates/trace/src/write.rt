@@ -1,4 +1,4 @@
-ghost use Rattle.std.specs.Prelude.{◌≡◌, ◌+◌, ◌++◌, ◌<◌, ◌^◌, List, OnOk, OnErr, IfErr, All};
+ghost use Rattle.std.specs.Prelude.{◌≡◌, ◌+◌, ◌*◌, ◌++◌, ◌<◌, ◌^◌, List, length, min, IfOk, OnOk, OnErr, IfErr, All};
 ghost use Rattle.scenario.specs.Setup.{Setup};
 ghost use Rattle.std.specs.Io.KnownBytes.{Appends};
 ghost use Rattle.trace.specs.declared.row.Row.{Row};
@@ -6,7 +6,7 @@ ghost use Rattle.trace.specs.Sinks.{AppendsBeginning, failures_of_write, fault_o
 ghost use Rattle.trace.specs.declared.write.WriteError.TheVariants as write_error;
 ghost use Rattle.trace.specs.Text.{header, rows_text, NamesMembers};
 
-use crate::lines::lines;
+use crate::lines::{ROOM, lay_lines};
 use crate::row::Row;
 use crate::sink::{Sink, Stopped, put_all};
 use base::{Fault, Memory};
@@ -14,7 +14,7 @@ use scenario::Scenario;
 use std::alloc::Global;
 
 /// How many lines are laid into memory before they are put.
-const ROWS_AT_ONCE: usize = 1024;
+const ROWS_AT_ONCE: usize = 512;
 
 /// Why a text was not put whole.
 #[derive(Clone, Copy, Debug, PartialEq, Eq, thiserror::Error)]
@@ -83,14 +83,36 @@ pub fn write_rows<S: Sink>(
     ensures part { OnErr result (AppendsBeginning (S.held sink.old) (S.held sink.new) (rows_text scenario.now rows.now)) }
     ensures failures { S.failed sink.new ≡ S.failed sink.old + failures_of_write result }
 {
+    let mut room = room_for(alloc, rows.len())?;
+    put_rows(rows, scenario, &mut room, sink)
+}
+
+/// Room for the lines of so many rows, as far as they are put at once.
+fn room_for(alloc: Global, rows: usize) -> Result<Vec<u8>, Memory>
+    ensures { IfOk result (λ room. length room.items ≡ 320 * min rows 512) }
+{
+    Ok(vec![in alloc; 0; rows.min(ROWS_AT_ONCE) * ROOM]?)
+}
+
+/// Puts the lines of rows, laid in this room.
+fn put_rows<S: Sink>(
+    rows: &[Row],
+    scenario: &Scenario,
+    room: &mut [u8],
+    sink: &mut S,
+) -> Result<(), WriteError>
+    requires named { All (NamesMembers scenario.now) rows.now }
+    requires countable { S.failed sink.old < 2 ^ 63 }
+    requires room { length room.old ≡ 320 * min (length rows.now) 512 }
+    ensures whole { OnOk result (Appends (S.held sink.old) (S.held sink.new) (rows_text scenario.now rows.now)) }
+    ensures part { OnErr result (AppendsBeginning (S.held sink.old) (S.held sink.new) (rows_text scenario.now rows.now)) }
+    ensures failures { S.failed sink.new ≡ S.failed sink.old + failures_of_write result }
+{
     let mut left = rows;
     while !left.is_empty() {
         let (next, later) = left.split_at(left.len().min(ROWS_AT_ONCE));
-        let text = match lines(alloc, next, scenario) {
-            Ok(text) => text,
-            Err(Memory) => return Err(WriteError::Memory),
-        };
-        match put_all(text.as_slice(), sink) {
+        let start = lay_lines(next, scenario, room);
+        match put_all(&room[start..], sink) {
             Ok(()) => left = later,
             Err(Stopped) => return Err(WriteError::Stopped),
         }

@@ -108,8 +108,8 @@ pub(crate) fn handle_taken<Q: EventQueue<Event>>(
     ensures number { OnOk result (part.new.number ≡ part.old.number) }
     ensures worn { IsErrOf result StepError.Worn → WearsReceiver cluster.entry.scenario.now event (world_of Q.set part.old).members }
 {
-    spare.events.clear();
-    spare.rows.clear();
+    empty(&mut spare.events);
+    empty(&mut spare.rows);
     part.members.handle(alloc, event, cluster, spare)?;
     move_behind(&mut spare.rows, &mut out.rows)?;
     deliver(
@@ -119,6 +119,15 @@ pub(crate) fn handle_taken<Q: EventQueue<Event>>(
         &mut out.events,
     )?;
     Ok(())
+}
+
+/// Empties a list. Nearly always it is empty, and then no more than that is looked at.
+fn empty<T: Drop>(list: &mut Vec<T>)
+    ensures { list.new.items ≡ [] }
+{
+    if !list.is_empty() {
+        list.clear();
+    }
 }
 
 /// Moves items behind those of a list. Where there is one, it moves by itself: a list's bytes, copied as a block

@@ -2,6 +2,7 @@ mod Bits
 pub mod Contents
 mod Ends
 mod Events
+mod Leasts
 mod Lists
 mod Receivers
 mod Turned

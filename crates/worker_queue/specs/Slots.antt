@@ -1,5 +1,5 @@
 -- Lists of events as sets.
-use Rattle.std.specs.Prelude.{◌≡◌, ◌≤◌, true, List, map, count_by}
+use Rattle.std.specs.Prelude.{◌≡◌, ◌<◌, ◌≤◌, ℕ, true, List, length, map, slice_index_or, count_by}
 use Rattle.std.specs.List.Sorted.{IsSortedBy}
 use Rattle.std.specs.Ordering.{is_lt, eq_by_cmp}
 use Rattle.std.specs.FinMap.{FinMap, from_entries, contains_key}
@@ -17,6 +17,10 @@ AreUnlike key events = (q : Key) → count_by (λ e. eq_by_cmp key_cmp q (key e)
 -- a list with the greatest key first
 abbrev pub AreFalling : {E : Type 0} → (E → Key) → List E → Type 0
 AreFalling key events = IsSortedBy (λ a b. is_lt (key_cmp (key b) (key a))) events
+
+-- no event of a list comes before the one at this place
+abbrev pub IsLeastPlace : {E : Type 0} → (E → Key) → List E → ℕ → Type 0
+IsLeastPlace key events place = (other : ℕ) (e : _) → other < length events → ¬ (IsBefore (key (slice_index_or events other e)) (key (slice_index_or events place e)))
 
 -- the events of a set have one moment
 abbrev pub IsOfOneMoment : {E : Type 0} → FinMap key_cmp E → Type 0

@@ -1,8 +1,9 @@
-ghost use Rattle.std.specs.Prelude.{◌≡◌, [], false, All, Any, IfSome, IfNone, IsPermutation};
+ghost use Rattle.std.specs.Prelude.{◌≡◌, ◌<◌, length, [], false, All, Any, IfSome, IfNone, IsPermutation};
 ghost use Rattle.std.specs.Ordering.{is_lt};
 ghost use Rattle.base.specs.Order.{key_cmp};
-ghost use Rattle.worker_queue.specs.Slots.{AreFalling};
+ghost use Rattle.worker_queue.specs.Slots.{AreFalling, IsLeastPlace};
 
+use crate::least::is_before;
 use base::{Key, Keyed};
 
 /// Puts the event with the greatest key first, that with the least last. It takes no memory.
@@ -21,4 +22,19 @@ pub(crate) fn least_key<E: Keyed>(events: &[E]) -> Option<Key>
     ensures none { IfNone result (events.now ≡ []) }
 {
     events.iter().map(|event| event.key()).min()
+}
+
+/// The place of the event with the least key.
+pub(crate) fn least_place<E: Keyed>(events: &[E]) -> usize
+    requires { 0 < length events.now }
+    ensures within { result < length events.now }
+    ensures least { IsLeastPlace E.key events.now result }
+{
+    let mut place = 0;
+    for other in 1..events.len() {
+        if is_before(&events[other].key(), &events[place].key()) {
+            place = other;
+        }
+    }
+    place
 }

@@ -1,16 +1,19 @@
-ghost use Rattle.std.specs.Prelude.{◌≡◌, ◌↔◌, [], true, false, IsTrue, IfSome, IfNone, IfErr, OnOk, OnErr};
+ghost use Rattle.std.specs.Prelude.{◌≡◌, ◌↔◌, ◌<◌, length, [], true, false, IsTrue, IfSome, IfNone, IfErr, OnOk, OnErr};
 ghost use Rattle.std.specs.FinMap.{contains_key, insert, remove, empty};
 ghost use Rattle.base.specs.Order.{IsBefore};
 ghost use Rattle.base.specs.Run.{IsFirst};
 ghost use Rattle.worker_queue.specs.Queue.{IsLeastKey};
 ghost use Rattle.worker_queue.specs.Slots.{by_key, AreUnlike, AreFalling, IsOfOneMoment, NoneIsBefore};
 
-use crate::falling::{least_key, sort_falling};
+use crate::falling::{least_key, least_place, sort_falling};
 use crate::least::{first_key, is_before};
 use base::{Key, Keyed};
 use std::alloc::Global;
 
-/// The events of one moment. They are sorted when the first of them leaves.
+/// Of so few events the least is looked for each time, which moves fewer of them than a sort does.
+const FEW: usize = 8;
+
+/// The events of one moment. Where they are many, they are sorted when the first of them leaves.
 #[derive(Drop)]
 pub(crate) struct Slot<E: Keyed> {
     pub(crate) events: Vec<E>,
@@ -73,8 +76,29 @@ impl<E: Keyed + Drop> Slot<E> {
         if !is_before(&first_key(last.key().at), limit) {
             return None;
         }
+        if !self.is_sorted && self.events.len() <= FEW {
+            return self.pop_least_before(limit);
+        }
         self.sort();
         self.pop_last_before(limit)
+    }
+
+    /// The same, of a slot that has an event and is not sorted. The last event takes the place of the one that
+    /// leaves, and no other moves.
+    fn pop_least_before(&mut self, limit: &Key) -> Option<E>
+        requires some { 0 < length self.old.events.items }
+        requires unsorted { self.old.is_sorted ≡ false }
+        ensures first { IfSome result (λ event. IsFirst (by_key E.key self.old.events.items) (E.key event) event) }
+        ensures before { IfSome result (λ event. IsBefore (E.key event) limit.now) }
+        ensures taken { IfSome result (λ event. by_key E.key self.new.events.items ≡ remove (by_key E.key self.old.events.items) (E.key event)) }
+        ensures none { IfNone result (NoneIsBefore (by_key E.key self.old.events.items) limit.now) }
+        ensures unchanged { IfNone result (by_key E.key self.new.events.items ≡ by_key E.key self.old.events.items) }
+    {
+        let place = least_place(&self.events);
+        if !is_before(&self.events[place].key(), limit) {
+            return None;
+        }
+        Some(self.events.swap_remove(place))
     }
 
     /// The same, of a slot that is sorted.

@@ -1,18 +1,17 @@
-use Rattle.std.proofs.Common.{◌≡◌, ◌∷◌, ◌∙◌, drop, refl, ap, arith}
+use Rattle.std.proofs.Common.{◌≡◌, ◌∙◌, ◌++◌, drop, refl, ap}
 use Rattle.std.specs.Fmt.{decimal}
-use Rattle.std.proofs.lemmas.List.{drop_all}
 use Rattle.trace.specs.Text.{lost_text}
 use Rattle.trace.proofs.ShortFields.{one_more}
 use Rattle.trace.proofs.lines.lay_fields.Goals as goal
 
 pub returns-clause-laid : goal.returns-clause-laid
 returns-clause-laid c =
-    let last : drop c.lay_byte-end.result c.lay_byte-end.new.room ≡ lost_text c.args.row.now.lost =
-    c.lay_byte-end.ensures.laid ∙ ap (λ l. c.lost_digit.result ∷ l) (drop_all 320 c.args.room.now (omega (arith, c.requires.room))) ∙ c.lost_digit.ensures in
-    one_more _ _ _ _ _ c.lay_number.ensures.laid (ap decimal c.ticks.ensures)
-    (one_more _ _ _ _ _ c.lay_text-end-4.ensures.laid c.member_name-2.ensures.value
-    (one_more _ _ _ _ _ c.lay_text-end-3.ensures.laid c.member_name.ensures.value
-    (one_more _ _ _ _ _ c.lay_number-end-2.ensures.laid refl
-    (one_more _ _ _ _ _ c.lay_text-end-2.ensures.laid c.word_of.ensures.value
-    (one_more _ _ _ _ _ c.lay_text-end.ensures.laid c.about_name.ensures.value
-    (one_more _ _ _ _ _ c.lay_number-end.ensures.laid refl last))))))
+    let tail = drop c.args.end c.args.room.now in
+    let last : drop c.lay_byte-end.result c.lay_byte-end.new.room ≡ lost_text c.args.row.now.lost ++ tail = c.lay_byte-end.ensures.laid ∙ ap (λ l. l ++ tail) c.lost_digit.ensures in
+    one_more tail _ _ _ _ _ c.lay_number.ensures.laid (ap decimal c.ticks.ensures)
+    (one_more tail _ _ _ _ _ c.lay_text-end-4.ensures.laid c.member_name-2.ensures.value
+    (one_more tail _ _ _ _ _ c.lay_text-end-3.ensures.laid c.member_name.ensures.value
+    (one_more tail _ _ _ _ _ c.lay_number-end-2.ensures.laid refl
+    (one_more tail _ _ _ _ _ c.lay_text-end-2.ensures.laid c.word_of.ensures.value
+    (one_more tail _ _ _ _ _ c.lay_text-end.ensures.laid c.about_name.ensures.value
+    (one_more tail _ _ _ _ _ c.lay_number-end.ensures.laid refl last))))))

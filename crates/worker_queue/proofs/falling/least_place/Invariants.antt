@@ -1,0 +1,10 @@
+use Rattle.std.proofs.Common.{◌<◌, length}
+use Rattle.worker_queue.proofs.Leasts.{AreLow}
+use Rattle.worker_queue.proofs.falling.least_place.Given as goal
+
+-- no event so far comes before that at the place
+abbrev pub invariant-loop-other : goal.invariant-loop-other
+invariant-loop-other g l = record {
+  within : l.place < length l.events;
+  low : AreLow g.E.Keyed.key l.events l.place l.other;
+}
