@@ -1,10 +1,13 @@
 #!/usr/bin/env python3
 """Measures the program on quiet and busy clusters of growing size.
 
-    bench/run.py [--program FILE] [--seconds S] [--sizes 64,256,512,1024] [--counts] [-- WORDS]
+    bench/run.py [--program FILE] [--seconds S] [--sizes 64,256,512,1024] [--counts | --entries N] [-- WORDS]
 
 The program is the one that ./swimsim has built, or FILE; nothing is built here. Each scenario simulates S seconds
 (10 without it), a tick being a millisecond. WORDS, such as --workers 4, are handed on to the program.
+With --entries each line is a quiet cluster of 300 members with N entries of one kind: pauses, slow times, or cuts. They lie past
+the end, or each is met. A pause of 24,000 entries that touch, and 4,096 groups of one member up to moment 0, follow.
+
 A new process begins as a copy of this script, so peak memory below the script's own isn't seen, and is printed as <14 or so.
 
 With --counts each line has the instructions and the writes to memory per event, and how many of the writes miss a first
@@ -70,6 +73,35 @@ def busy_cluster(members, end):
     for index in range(2, members - joining, 16):
         text += f'[[slow]]\nmember = "n-{index}"\nfrom = {end // 3}\nuntil = {2 * end // 3}\nextra = 400\n'
     return text
+
+
+# what a text may name many times: of each member in turn, for a tick
+ENTRIES = {
+    'pause': '[[pause]]\nmember = "n-{member}"\nfrom = {at}\nuntil = {over}\n',
+    'slow': '[[slow]]\nmember = "n-{member}"\nfrom = {at}\nuntil = {over}\nextra = 1\n',
+    'cut': '[[cut]]\nfrom = "n"\nto = "n"\nat = {at}\nuntil = {over}\n',
+}
+
+
+def with_entries(kind, entries, first, step, end):
+    """A quiet cluster of 300 members with so many entries of a kind, the first at a moment, and each so many ticks after the last."""
+    text = quiet_cluster(300, end).replace('version = 1', 'version = 3')
+    for number in range(entries):
+        at = first + number * step
+        text += ENTRIES[kind].format(member=number % 300, at=at, over=at + 1)
+    return text
+
+
+def touching_pauses(entries, end):
+    """The same with one pause, in so many entries of which each begins when the one before is over."""
+    text = quiet_cluster(300, end).replace('version = 1', 'version = 3')
+    return text + ''.join(ENTRIES['pause'].format(member=0, at=at, over=at + 1) for at in range(1, entries + 1))
+
+
+def lone_members(groups):
+    """So many groups of one member, up to moment 0."""
+    text = quiet_cluster(1, 0).replace('version = 1', 'version = 2')
+    return text + ''.join(f'[[group]]\nname = "g{number}"\ncount = 1\n' for number in range(1, groups))
 
 
 # what cachegrind simulates: else it takes the sizes of this machine's caches
@@ -167,6 +199,20 @@ def print_counts(name, program, words, sizes, end, folder):
     print()
 
 
+def print_entries(program, words, entries, end, folder):
+    print(f'quiet cluster of 300 members, {end // 1000} s simulated')
+    print(f'{"entries":>16}{"number":>8}{"rows":>11}{"seconds":>10}   of those with none')
+    rows, none, _ = measure_run(program, words, with_entries('pause', 0, 0, 0, end), folder)
+    print(f'{"none":>16}{0:>8}{rows:>11}{none:>10.2f}', flush=True)
+    texts = [(f'{kind}, {when}', entries, with_entries(kind, entries, first, step, end))
+             for kind in ENTRIES
+             for when, first, step in (('late', end + 1, 2), ('met', 1, max(2, end // max(1, entries))))]
+    texts += [('touching pauses', 24000, touching_pauses(24000, end)), ('groups', 4096, lone_members(4096))]
+    for name, number, text in texts:
+        rows, seconds, _ = measure_run(program, words, text, folder)
+        print(f'{name:>16}{number:>8}{rows:>11}{seconds:>10.2f}   x{seconds / none:.2f}', flush=True)
+
+
 def main():
     own, words = sys.argv[1:], []
     if '--' in own:
@@ -177,6 +223,7 @@ def main():
     parser.add_argument('--seconds', type=int, default=10)
     parser.add_argument('--sizes', default='64,256,512,1024')
     parser.add_argument('--counts', action='store_true')
+    parser.add_argument('--entries', type=int)
     options = parser.parse_args(own)
     program = shutil.which(options.program)
     if program is None:
@@ -186,6 +233,9 @@ def main():
     show = print_counts if options.counts else print_table
     sizes = [int(size) for size in options.sizes.split(',')]
     with tempfile.TemporaryDirectory() as folder:
+        if options.entries is not None:
+            print_entries(program, words, options.entries, options.seconds * 1000, Path(folder))
+            return
         for name in CLUSTERS:
             show(name, program, words, sizes, options.seconds * 1000, Path(folder))
 
