@@ -4,11 +4,10 @@ what `spread_of` adds to them, and of what is wanted.
 Written from docs/PAGES.md ("The page of a sweep"); how it looks is the style's, which isn't modelled but taken as it stands.
 """
 
-import itertools
 from collections import namedtuple
 
 from model_drawing import FIGURE_END, axis_across, axis_up, cells, escaped, figure, grouped, heads, page_opening, place, plot
-from model_sweeps import more_runs
+from model_sweeps import axes_of, cases_of, more_runs
 from model_sweep_times import times_figure
 
 # what the figures of keys show of a case, and how its 5th percentile, median and 95th percentile are called in its JSON object
@@ -108,7 +107,7 @@ class Page:
     def __init__(self, settings, seeds, at_most, cases, wants):
         self.settings, self.seeds, self.cases = settings, seeds, [Shown(told) for told in cases]
         self.at_most, self.all_told = at_most, cases
-        self.choices = list(itertools.product(*(values for _, values in settings)))
+        self.choices = cases_of(settings)
         self.wants, self.crashed = wants, any(told['crashes'] for told in cases)
         on_front = [Front(self.across(case), at) for at, case in enumerate(self.cases)
                     if case.is_best and self.across(case) is not None]
@@ -118,10 +117,10 @@ class Page:
         """Where a case stands across the front: by its median, or by its messages where no run has a crash."""
         return case.confirmed if self.crashed else case.messages
 
-    def told(self, at, but=None):
-        """The settings of a case, all but one."""
+    def told(self, at, but=()):
+        """The settings of a case, all but those at these places."""
         pairs = zip(self.settings, self.choices[at])
-        return escaped(' '.join(f'{key}={word(value)}' for place, ((key, _), value) in enumerate(pairs) if place != but))
+        return escaped(' '.join(f'{key}={word(value)}' for place, ((key, _), value) in enumerate(pairs) if place not in but))
 
     def name(self, at):
         return self.told(at) if self.settings else 'the scenario as it is'
@@ -262,12 +261,16 @@ class Page:
     # what each key changes
 
     def key_figures(self):
-        """The figure of each key of two values or more, with how many cases go by before its value changes."""
-        text, before = '', 1
-        for nth, (_, values) in enumerate(self.settings):
-            before *= len(values)
-            if len(values) > 1:
-                text += KeyFigure(self, nth, len(self.cases) // before).text()
+        """The figure of each key of two values or more, or of keys that go together, with how many cases go by before their values
+        change."""
+        text, before, nth = '', 1, 0
+        for axis in axes_of(self.settings):
+            turns = list(zip(*(values for _, values in axis)))
+            before *= len(turns)
+            if len(turns) > 1:
+                places, name = range(nth, nth + len(axis)), '+'.join(key for key, _ in axis)
+                text += KeyFigure(self, places, name, ['+'.join(map(word, turn)) for turn in turns], len(self.cases) // before).text()
+            nth += len(axis)
         return text
 
     # all cases
@@ -293,11 +296,11 @@ class Page:
 
 
 class KeyFigure:
-    """Three plots over the values of a key, in each a line for each choice of the others."""
+    """Three plots over the values of a key, or of keys that go together, in each a line for each choice of the others."""
 
-    def __init__(self, page, nth, after):
-        self.page, self.nth, self.after = page, nth, after
-        self.key, self.values = page.settings[nth]
+    def __init__(self, page, places, name, values, after):
+        self.page, self.places, self.after = page, places, after
+        self.name, self.values = name, values
         self.others = len(page.cases) // len(self.values)
         self.lines = range(min(self.others, MOST_LINES))
 
@@ -309,10 +312,10 @@ class KeyFigure:
         return self.page.cases[self.at(line, value)]
 
     def other_keys(self, line, value):
-        return self.page.told(self.at(line, value), self.nth) or 'all else as in the scenario'
+        return self.page.told(self.at(line, value), self.places) or 'all else as in the scenario'
 
     def text(self):
-        text = figure(f'key-{self.nth}', f'What {self.key} changes')
+        text = figure(f'key-{self.places[0]}', f'What {self.name} changes')
         text += ('<p class="soft">Up: ticks since the crash. Each dot is a median over all crashes of all runs, and its bar goes '
                  "from the 5th to the 95th percentile. A crash that wasn't detected counts as later than any: where more than "
                  "5&nbsp;% weren't, the bar goes to the top of the plot; where more than half weren't, there is no dot.</p>")
@@ -344,7 +347,7 @@ class KeyFigure:
         text += '</svg></div><div class="values" aria-hidden="true">'
         for at, value in enumerate(self.values):
             if at % (len(self.values) // 8 + 1) == 0:
-                text += f'<span style="left:{place(32 * at + 16, 32 * len(self.values))}">{word(value)}</span>'
+                text += f'<span style="left:{place(32 * at + 16, 32 * len(self.values))}">{value}</span>'
         return text + '</div></div></div>'
 
     def across(self, line, value):
@@ -379,7 +382,7 @@ class KeyFigure:
                 case = self.case(line, nth)
                 suspected, confirmed, last = case.spreads
                 times = (*suspected, *confirmed, case.late, *last, case.last_latest)
-                text += '<tr>' + cells('td', (word(value), self.other_keys(line, nth), *map(time, times))) + '</tr>'
+                text += '<tr>' + cells('td', (value, self.other_keys(line, nth), *map(time, times))) + '</tr>'
         return text + FOLDED_END
 
 

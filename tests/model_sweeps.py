@@ -43,9 +43,25 @@ def with_value(document, key, value):
     return document
 
 
+class Together(list):
+    """The values of a key that goes together with the one before it."""
+
+
+def axes_of(settings):
+    """The settings in groups: a key, and those that go together with it."""
+    axes = []
+    for key, values in settings:
+        if isinstance(values, Together):
+            axes[-1].append((key, values))
+        else:
+            axes.append([(key, values)])
+    return axes
+
+
 def cases_of(settings):
-    """Each choice of one value for each key, the last one's values changing fastest."""
-    return list(itertools.product(*(values for _, values in settings)))
+    """Each choice of one value for each key, the last one's values changing fastest; keys that go together change at one time."""
+    turns = (zip(*(values for _, values in axis)) for axis in axes_of(settings))
+    return [sum(case, ()) for case in itertools.product(*turns)]
 
 
 def document_of_run(document, settings, case, seed):

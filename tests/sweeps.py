@@ -3,13 +3,12 @@
 import itertools
 import json
 import resource
-from math import prod
 
 import texts
 from model_drawing import escaped
 from model_sweep_page import page_of
 from model_sweep_times import spread_of
-from model_sweeps import answer_text, cases_text, swept, table_of
+from model_sweeps import Together, answer_text, cases_of, cases_text, swept, table_of
 from program import Case, DATA, Wrong, expect, expect_ran
 from scenarios import document_of
 from worked import text_of
@@ -40,9 +39,13 @@ def value_of(word):
 
 
 def settings_of(words):
-    """The keys that are set, each with its values."""
-    halves = [setting.split('=') for setting in words]
-    return [(key, [value_of(word) for word in values.split(',')]) for key, values in halves]
+    """The keys that are set, each with its values; keys that go together have plus signs between them, and so have their values."""
+    settings = []
+    for names, _, turns in (setting.partition('=') for setting in words):
+        columns = zip(*(map(value_of, turn.split('+')) for turn in turns.split(',')))
+        kinds = itertools.chain([list], itertools.repeat(Together))
+        settings += [(key, kind(values)) for key, kind, values in zip(names.split('+'), kinds, columns)]
+    return settings
 
 
 def seeds_of(words):
@@ -75,7 +78,7 @@ def runs_of(sweep, table):
     """How many runs are asked for, and how many there may be where cases have no more seeds than they need."""
     if 'until' not in sweep:
         return table.count(b'\n') - 1
-    return len(seeds_of(sweep.get('seeds')) or [0]) * prod(len(values) for _, values in settings_of(sweep['set']))
+    return len(seeds_of(sweep.get('seeds')) or [0]) * len(cases_of(settings_of(sweep['set'])))
 
 
 def expect_progress(lines, runs, wanted):
@@ -125,7 +128,7 @@ def check(program, sweep):
             ran = ran._replace(err=b'')
         expect_ran(ran, 0, lines, b'', ' '.join([*workers, *progress, '']))
         expect(f'{workers} table', program.held('t.csv'), table)
-    keys = [setting.partition('=')[0] for setting in sweep['set']]
+    keys = [key for key, _ in settings_of(sweep['set'])]
     objects = objects_of(lines, keys)
     expect_ran(program.call([*words, '--jsonl']), 0, objects, b'', 'objects ')
     expect('table beside objects', program.held('t.csv'), table)

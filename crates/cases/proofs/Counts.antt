@@ -3,7 +3,7 @@ use Rattle.std.proofs.Common.{◌≡◌, ◌<◌, ◌≤◌, ◌+◌, ◌*◌, �
 use Rattle.std.proofs.Math.Nat.{mul-zero, mul_assoc, le-mul_of_pos_right}
 use Rattle.std.proofs.lemmas.Bool.{cases_lt}
 use Rattle.std.proofs.lemmas.List.{drop_more}
-use Rattle.cases.specs.Sweep.{KeyValues, case_count}
+use Rattle.cases.specs.Sweep.{KeyValues, case_count, choice_count}
 
 -- a product that stops where its first factor does
 pub saturated : (a b most : ℕ) → min (min a most * b) most ≡ min (a * b) most
@@ -19,7 +19,7 @@ saturated a (suc b) most =
     ]
 
 -- one setting more
-pub counted_more : (settings : List KeyValues) (i : ℕ) (d : KeyValues) (cases most n next : ℕ) → i < length settings → n ≡ length (get_or settings i d).values → next ≡ min (cases * n) most
+pub counted_more : (settings : List KeyValues) (i : ℕ) (d : KeyValues) (cases most n next : ℕ) → i < length settings → n ≡ choice_count (get_or settings i d) → next ≡ min (cases * n) most
     → min (cases * case_count (drop i settings)) most ≡ min (case_count settings) most → min (next * case_count (drop (i + 1) settings)) most ≡ min (case_count settings) most
 counted_more settings i d cases most n next inside is capped before =
     let rest = case_count (drop (i + 1) settings) in

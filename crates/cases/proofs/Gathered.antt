@@ -1,9 +1,9 @@
 -- Settings that are read one after the other, and why words ask for no others.
-use Rattle.std.proofs.Common.{◌≡◌, ◌≢◌, ◌<◌, ◌+◌, ℕ, zero, suc, Bool, true, false, ◌&&◌, List, [], ◌∷◌, ◌++◌, Option, Some, None, Bor, All, filter, map, take, length, get_or, bytes_eq, sym, ap, subst, refl, ◌∙◌, arith}
+use Rattle.std.proofs.Common.{◌≡◌, ◌≢◌, ◌<◌, ◌+◌, ℕ, suc, Bool, true, false, ◌&&◌, List, [], ◌∷◌, ◌++◌, Option, Some, None, Bor, All, drop, filter, map, take, length, get_or, bytes_eq, sym, ap, subst, refl, ◌∙◌, arith}
 use Rattle.std.specs.List.{list_any}
 use Rattle.std.proofs.lemmas.Bool.{false≢true, false_from_ne_true, or_parts, and_parts}
-use Rattle.std.proofs.lemmas.List.{length-map, length-take, length-append, take-map, map_more, get_or-take, get_or-map, get_or_append_left, get_or_at}
-use Rattle.std.proofs.lemmas.List.Elements.{All-head, All-tail, All-nil, All-cons, All-take, All-push}
+use Rattle.std.proofs.lemmas.List.{append_assoc, length-map, length-append, map-append, take-append-drop, take-map, map_more, get_or-map, get_or_append_left, get_or_at}
+use Rattle.std.proofs.lemmas.List.Elements.{All-append, All-head, All-tail, All-nil, All-cons, All-take}
 use Rattle.std.proofs.lemmas.List.Folds.{list_any_none}
 use Rattle.std.proofs.lemmas.List.Quantifiers.{all_pairs_push}
 use Rattle.schema.specs.Schema.{spelling_of}
@@ -12,13 +12,15 @@ use Rattle.cases.specs.Items.{is_letter}
 use Rattle.cases.specs.Keys.{item_part, key_name, is_same, are_same_items, are_same_tables}
 use Rattle.cases.specs.declared.items.ItemName.{ItemName}
 use Rattle.cases.specs.Sweep.{KeyValues}
-use Rattle.cases.specs.Asked.{setting_text, IsSetting, IsSettingOf, AreSettings, RefusesSetting, RefusesSettings}
+use Rattle.cases.specs.Axes.{axes_of, goes_on}
+use Rattle.cases.specs.Asked.{axis_text, AreApart, AreAxes, AreSettings, IsLevel, IsSetting, RefusesAxis, RefusesMore, RefusesSettings}
 use Rattle.cases.specs.declared.keys.SettingKey.{SettingKey}
 use Rattle.cases.specs.declared.fault.PlanFault.{PlanFault}
 use Rattle.cases.specs.declared.fault.PlanFault.TheVariants.{Words, Memory}
 use Rattle.cases.proofs.Names.{bytes_eq_true, bytes_eq_same}
 use Rattle.cases.proofs.Apart.{same_key}
-use Rattle.cases.proofs.Written.{same_setting}
+use Rattle.cases.proofs.Grouped.{are_axes, axes_behind, axes_flat, together, IsAxis}
+use Rattle.cases.proofs.Columns.{alone, same_axis}
 
 -- ---- keys that are spelt alike
 
@@ -64,70 +66,101 @@ none_of : {A : Type 0} (p : A → Bool) (xs : List A) → list_any p xs ≡ fals
 none_of p [] none = All-nil (λ x. p x ≡ false)
 none_of p (x ∷ xs) none = let parts = or_parts (p x) (list_any p xs) none in All-cons (λ y. p y ≡ false) x xs parts.0 (none_of p xs parts.1)
 
-pub same_settings : (ss ts : List KeyValues) → All IsSetting ss → All IsSetting ts → map setting_text ss ≡ map setting_text ts → ss ≡ ts
-same_settings [] [] a b same = refl
-same_settings [] (t ∷ ts) a b same = let none : 0 ≡ suc (length (map setting_text ts)) = ap length same in absurd (omega arith)
-same_settings (s ∷ ss) [] a b same = let none : suc (length (map setting_text ss)) ≡ 0 = ap length same in absurd (omega arith)
-same_settings (s ∷ ss) (t ∷ ts) a b same =
-    let first : setting_text s ≡ setting_text t = cc in
-    let rest : map setting_text ss ≡ map setting_text ts = cc in
-    let one = same_setting s t (All-head IsSetting s ss a) (All-head IsSetting t ts b) first in
-    let more = same_settings ss ts (All-tail IsSetting s ss a) (All-tail IsSetting t ts b) rest in
-    ap (λ x. x ∷ ss) one ∙ ap (λ xs. t ∷ xs) more
+pub same_axes : (xs ys : List (List KeyValues)) → All IsAxis xs → All IsAxis ys → map axis_text xs ≡ map axis_text ys → xs ≡ ys
+same_axes [] [] a b same = refl
+same_axes [] (y ∷ ys) a b same = let none : 0 ≡ suc (length (map axis_text ys)) = ap length same in absurd (omega arith)
+same_axes (x ∷ xs) [] a b same = let none : suc (length (map axis_text xs)) ≡ 0 = ap length same in absurd (omega arith)
+same_axes (x ∷ xs) (y ∷ ys) a b same =
+    let first : axis_text x ≡ axis_text y = cc in
+    let rest : map axis_text xs ≡ map axis_text ys = cc in
+    let one = same_axis x y (All-head IsAxis x xs a) (All-head IsAxis y ys b) first in
+    let more = same_axes xs ys (All-tail IsAxis x xs a) (All-tail IsAxis y ys b) rest in
+    ap (λ z. z ∷ xs) one ∙ ap (λ zs. y ∷ zs) more
 
--- the setting that a word's place has
-setting_at : (ts : List KeyValues) (k : ℕ) (word : List ℕ) → k < length (map setting_text ts) → get_or (map setting_text ts) k word ≡ word → All IsSetting ts → (s : KeyValues) × IsSettingOf word s
-setting_at [] k word inside at sound = absurd (omega arith)
-setting_at (t ∷ ts) zero word inside at sound = (t, record { written = at; sound = All-head IsSetting t ts sound })
-setting_at (t ∷ ts) (suc k) word inside at sound = setting_at ts k word (omega arith) at (All-tail IsSetting t ts sound)
+pub axes_in : (words : List (List ℕ)) (ss : List KeyValues) → AreAxes words ss → All IsAxis (axes_of ss)
+axes_in words ss are = are_axes ss are.begins are.level are.sound
+
+-- words ask for one list of settings
+pub same_settings : (words : List (List ℕ)) (ss ts : List KeyValues) → AreAxes words ss → AreAxes words ts → ss ≡ ts
+same_settings words ss ts a b =
+    sym (axes_flat ss) ∙ ap together (same_axes (axes_of ss) (axes_of ts) (axes_in words ss a) (axes_in words ts b) (a.written ∙ sym b.written)) ∙ axes_flat ts
 
 abbrev now : Bor (List ℕ) → List ℕ
 now word = word.now
 
+flat_both : (xs ys : List (List KeyValues)) → together (xs ++ ys) ≡ together xs ++ together ys
+flat_both [] ys = refl
+flat_both (x ∷ xs) ys = ap (λ l. x ++ l) (flat_both xs ys) ∙ sym (append_assoc x (together xs) (together ys))
+
+goes_both : (front back : List KeyValues) → goes_on front ≡ false → goes_on back ≡ false → goes_on (front ++ back) ≡ false
+goes_both [] back a b = b
+goes_both (s ∷ front) back a b = a
+
+-- ---- keys that stand once
+
+apart_front : (front back : List KeyValues) → AreApart (front ++ back) → AreApart front
+apart_front front back apart k j d before inside =
+    let long = length-append front back in
+    λ same. apart k j d before (omega (arith, long, inside))
+    (ap (λ (s : KeyValues). s.key) (get_or_append_left front back d k (omega (arith, before, inside))) ∙ same ∙ sym (ap (λ (s : KeyValues). s.key) (get_or_append_left front back d j inside)))
+
 module _ (words : List (Bor (List ℕ))) (i : ℕ) (d : Bor (List ℕ)) (inside : i < length words) where
-  -- the word at the place is that of a setting, among any that the words ask for
-  asked_at : (ts : List KeyValues) → AreSettings (map now words) ts → (s : KeyValues) × IsSettingOf (get_or words i d).now s
+  -- the word at the place is that of an axis, among any settings that the words ask for
+  asked_at : (ts : List KeyValues) → AreSettings (map now words) ts → (axis : List KeyValues) × AreAxes ((get_or words i d).now ∷ []) axis
   asked_at ts are =
       let word : List ℕ = (get_or words i d).now in
-      let many : length (map now words) ≡ length words = length-map words now in
-      let there : i < length (map setting_text ts) = subst (λ (l : List (List ℕ)). i < length l) (sym are.written) (omega arith) in
-      let at : get_or (map setting_text ts) i word ≡ word = ap (λ l. get_or l i word) are.written ∙ get_or-map now words i d word inside in
-      setting_at ts i word there at are.sound
+      let count : length (axes_of ts) ≡ length words = sym (length-map (axes_of ts) axis_text) ∙ ap length are.axes.written ∙ length-map words now in
+      let there : i < length (axes_of ts) = omega (arith, count, inside) in
+      let text : axis_text (get_or (axes_of ts) i []) ≡ word =
+      sym (get_or-map axis_text (axes_of ts) i [] word there) ∙ ap (λ l. get_or l i word) are.axes.written ∙ get_or-map now words i d word inside in
+      (get_or (axes_of ts) i [], alone (get_or (axes_of ts) i []) word (axes_in (map now words) ts are.axes i [] there) text)
 
-  pub refused_at : (fault : PlanFault) → RefusesSetting (get_or words i d).now fault → RefusesSettings (map now words) fault
+  pub refused_at : (fault : PlanFault) → RefusesAxis (get_or words i d).now fault → RefusesSettings (map now words) fault
   refused_at Words none = λ ts are. let one = asked_at ts are in none one.0 one.1
   refused_at Memory none = tt
 
-  module _ (ss : List KeyValues) (s : KeyValues) (so_far : AreSettings (map now (take i words)) ss) (is : IsSettingOf (get_or words i d).now s) where
-    written_more : map setting_text (ss ++ s ∷ []) ≡ map now (take (i + 1) words)
-    written_more = map_push ss ∙ ap (λ l. l ++ setting_text s ∷ []) so_far.written ∙ ap (λ word. map now (take i words) ++ word ∷ []) is.written ∙ sym (map_more now words i d inside)
-      where
-        map_push : (xs : List KeyValues) → map setting_text (xs ++ s ∷ []) ≡ map setting_text xs ++ setting_text s ∷ []
-        map_push [] = refl
-        map_push (x ∷ xs) = ap (λ more. setting_text x ∷ more) (map_push xs)
-
-    -- a key that no setting has so far
-    pub gathered_more : list_any (λ t. is_same s.key t.key) ss ≡ false → AreSettings (map now (take (i + 1) words)) (ss ++ s ∷ [])
-    gathered_more none =
+  module _ (ss axis : List KeyValues) (so_far : AreAxes (map now (take i words)) ss) (is : AreAxes ((get_or words i d).now ∷ []) axis) where
+    -- the axis of one word more
+    pub gathered_more : AreAxes (map now (take (i + 1) words)) (ss ++ axis)
+    gathered_more =
+        let axes = axes_behind ss axis is.begins in
         record {
-          written = written_more;
-          sound = All-push IsSetting ss s so_far.sound is.sound;
-          once = all_pairs_push (λ a b. a.key ≢ b.key) ss s so_far.once (λ k e within same. false≢true (sym (none_of (λ t. is_same s.key t.key) ss none k e within) ∙ same_itself s.key (get_or ss k e).key (sym same)));
+          written = ap (map axis_text) axes ∙ map-append axis_text (axes_of ss) (axes_of axis) ∙ (λ k. so_far.written k ++ is.written k) ∙ sym (map_more now words i d inside);
+          begins = goes_both ss axis so_far.begins is.begins;
+          level = subst (All IsLevel) (sym axes) (All-append IsLevel (axes_of ss) (axes_of axis) so_far.level is.level);
+          sound = All-append IsSetting ss axis so_far.sound is.sound;
         }
 
-    -- a key that one has: the words ask for no settings
-    pub set_twice : list_any (λ t. is_same s.key t.key) ss ≡ true → (ts : List KeyValues) → AreSettings (map now words) ts → ⊥
-    set_twice twice ts are =
-        let many : length (map now words) ≡ length words = length-map words now in
-        let all : length ts ≡ length words = sym (length-map ts setting_text) ∙ ap length are.written ∙ many in
-        let first : map setting_text (take (i + 1) ts) ≡ map now (take (i + 1) words) = sym (take-map setting_text (i + 1) ts) ∙ ap (take (i + 1)) are.written ∙ take-map now (i + 1) words in
-        let same : ss ++ s ∷ [] ≡ take (i + 1) ts =
-        same_settings (ss ++ s ∷ []) (take (i + 1) ts) (All-push IsSetting ss s so_far.sound is.sound) (All-take IsSetting (i + 1) ts are.sound) (written_more ∙ sym first) in
-        let size : length ss ≡ i = let few = length-take (i + 1) ts in let push = ap length same in omega (arith, length-append ss (s ∷ []), few, push) in
-        let apart : (k : ℕ) (e : KeyValues) → k < length ss → is_same s.key (get_or ss k e).key ≡ false =
-        λ k e within. false_from_ne_true (is_same s.key (get_or ss k e).key) (λ alike.
-        let one : get_or ts k e ≡ get_or ss k e = sym (get_or-take (i + 1) ts k e (omega arith)) ∙ ap (λ l. get_or l k e) (sym same) ∙ get_or_append_left ss (s ∷ []) e k within in
-        let other : get_or ts i e ≡ s = sym (get_or-take (i + 1) ts i e (omega arith)) ∙ ap (λ l. get_or l i e) (sym same) ∙ get_or_at ss s [] e i size in
-        let keys = same_key s.key (get_or ss k e).key is.sound.key (so_far.sound k e within).key (same_names s.key (get_or ss k e).key alike) in
-        are.once k i e (omega arith) (omega arith) (ap (λ t. t.key) one ∙ sym keys ∙ ap (λ t. t.key) (sym other))) in
-        false≢true (sym (list_any_none (λ t. is_same s.key t.key) ss apart) ∙ twice)
+    -- settings that these words ask for are the first of those that all words ask for
+    pub refused_more : (fault : PlanFault) → RefusesMore (ss ++ axis) fault → RefusesSettings (map now words) fault
+    refused_more Memory none = tt
+    refused_more Words none = λ ts are.
+        let first : map axis_text (take (i + 1) (axes_of ts)) ≡ map now (take (i + 1) words) =
+        sym (take-map axis_text (i + 1) (axes_of ts)) ∙ ap (take (i + 1)) are.axes.written ∙ take-map now (i + 1) words in
+        let same : axes_of (ss ++ axis) ≡ take (i + 1) (axes_of ts) =
+        same_axes (axes_of (ss ++ axis)) (take (i + 1) (axes_of ts)) (axes_in (map now (take (i + 1) words)) (ss ++ axis) gathered_more)
+        (All-take IsAxis (i + 1) (axes_of ts) (axes_in (map now words) ts are.axes)) (gathered_more.written ∙ sym first) in
+        let rest = together (drop (i + 1) (axes_of ts)) in
+        let whole : ts ≡ (ss ++ axis) ++ rest =
+        sym (axes_flat ts) ∙ ap together (sym (take-append-drop (i + 1) (axes_of ts))) ∙ flat_both (take (i + 1) (axes_of ts)) (drop (i + 1) (axes_of ts))
+        ∙ ap (λ l. l ++ rest) (ap together (sym same) ∙ axes_flat (ss ++ axis)) in
+        none (apart_front (ss ++ axis) rest (subst AreApart whole are.once))
+
+-- a key that no setting has so far
+pub apart_more : (ss : List KeyValues) (s : KeyValues) → list_any (λ t. is_same s.key t.key) ss ≡ false → AreApart ss → AreApart (ss ++ s ∷ [])
+apart_more ss s none apart =
+    all_pairs_push (λ a b. a.key ≢ b.key) ss s apart (λ k e within same. false≢true (sym (none_of (λ t. is_same s.key t.key) ss none k e within) ∙ same_itself s.key (get_or ss k e).key (sym same)))
+
+-- a key that one has
+pub set_twice : (ss : List KeyValues) (s : KeyValues) (rest : List KeyValues) → All IsSetting (ss ++ s ∷ rest) → list_any (λ t. is_same s.key t.key) ss ≡ true → ¬ (AreApart (ss ++ s ∷ rest))
+set_twice ss s rest sound twice apart =
+    let long = length-append ss (s ∷ rest) in
+    let other : (k : ℕ) (e : KeyValues) → k < length ss → is_same s.key (get_or ss k e).key ≡ false =
+    λ k e within. false_from_ne_true (is_same s.key (get_or ss k e).key) (λ alike.
+    let one : get_or (ss ++ s ∷ rest) k e ≡ get_or ss k e = get_or_append_left ss (s ∷ rest) e k within in
+    let own : get_or (ss ++ s ∷ rest) (length ss) e ≡ s = get_or_at ss s rest e (length ss) refl in
+    let left : IsSetting (get_or ss k e) = subst IsSetting one (sound k e (omega (arith, long, within))) in
+    let right : IsSetting s = subst IsSetting own (sound (length ss) e (omega (arith, long))) in
+    let keys = same_key s.key (get_or ss k e).key right.key left.key (same_names s.key (get_or ss k e).key alike) in
+    apart k (length ss) e within (omega (arith, long)) (ap (λ (t : KeyValues). t.key) one ∙ sym keys ∙ ap (λ (t : KeyValues). t.key) (sym own))) in
+    false≢true (sym (list_any_none (λ t. is_same s.key t.key) ss other) ∙ twice)

@@ -7,7 +7,9 @@ pub mod Parted
 pub mod Ranges
 pub mod Members
 pub mod Counts
+pub mod Grouped
 pub mod Written
+pub mod Columns
 pub mod Gathered
 pub mod Planning
 pub mod Choices

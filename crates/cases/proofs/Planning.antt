@@ -52,7 +52,7 @@ module _ (words : List (List ℕ)) (word : Option (List ℕ)) (until : Option �
 
     pub too_many : 1000000 < runs → (sweep : Sweep) → IsSweepOf words word until sweep → ⊥
     too_many over sweep is =
-        let sets = same_settings sweep.settings settings is.settings.sound are.sound (is.settings.written ∙ sym are.written) in
+        let sets = same_settings words sweep.settings settings is.settings.axes are.axes in
         let same = same_seeds word sweep.seeds seeds is.seeded asked in
         let few : case_count settings * seed_count seeds ≤ 1000000 =
         subst (λ s. case_count settings * seed_count s ≤ 1000000) same (subst (λ l. case_count l * seed_count sweep.seeds ≤ 1000000) sets is.few) in

@@ -1,6 +1,7 @@
 -- The cases of a sweep, in their order, and how the settings of one are told.
-use Rattle.std.specs.Prelude.{ℕ, List, [], ◌∷◌, ◌++◌, map}
-use Rattle.std.specs.List.{flat_map, join_with_byte}
+use Rattle.std.specs.Prelude.{ℕ, List, [], ◌∷◌, ◌++◌, if◌then◌else◌, length, map}
+use Rattle.std.specs.List.{flat_map, join_with_byte, range_with_len}
+use Rattle.cases.specs.Axes.{value_at}
 use Rattle.cases.specs.Keys.{key_name}
 use Rattle.cases.specs.Values.{value_text}
 use Rattle.cases.specs.Sweep.{KeyValues}
@@ -11,10 +12,18 @@ use Rattle.cases.specs.declared.choice.Choice.{Choice}
 abbrev pub choice_of : SettingKey → SettingValue → Choice
 choice_of k v = record { key = k; value = v }
 
--- each choice of one value for each setting, in the order of the settings; the last one's values come first one after the other
+-- the places at which a key has its values, one after the other: that of the key before it, where they go together; else each
+abbrev pub places_of : ℕ → KeyValues → List ℕ
+places_of place s = if s.together then place ∷ [] else range_with_len 0 (length s.values)
+
+-- each choice of one value for each of these keys, where the key before them has its value at a place; the last one's values come first one after the other
+abbrev pub cases_from : ℕ → List KeyValues → List (List Choice)
+cases_from place [] = [] ∷ []
+cases_from place (s ∷ more) = flat_map (λ at. map (λ case. choice_of s.key (value_at s at) ∷ case) (cases_from at more)) (places_of place s)
+
+-- all cases
 abbrev pub cases_of : List KeyValues → List (List Choice)
-cases_of [] = [] ∷ []
-cases_of (s ∷ more) = flat_map (λ value. map (λ case. choice_of s.key value ∷ case) (cases_of more)) s.values
+cases_of settings = cases_from 0 settings
 
 -- a choice is told as its key's name, an equals sign and its value
 abbrev pub choice_text : Choice → List ℕ

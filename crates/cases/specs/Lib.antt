@@ -3,6 +3,7 @@ pub mod Keys
 pub mod Listed
 pub mod Values
 pub mod Sweep
+pub mod Axes
 pub mod Asked
 pub mod Planned
 pub mod Cases

@@ -1,12 +1,13 @@
 -- What a sweep is: keys that are set to each of some values, and the seeds of each case.
-use Rattle.std.specs.Prelude.{ℕ, ◌+◌, ◌-◌, ◌*◌, List, [], ◌∷◌, Option, Some, None, length}
+use Rattle.std.specs.Prelude.{ℕ, ◌+◌, ◌-◌, ◌*◌, Bool, if◌then◌else◌, List, [], ◌∷◌, Option, Some, None, length}
 use Rattle.cases.specs.declared.keys.SettingKey.{SettingKey}
 use Rattle.cases.specs.declared.values.SettingValue.{SettingValue}
 use Rattle.cases.specs.declared.seeds.Seeds.{Seeds}
 
--- a key and the values that it is set to, one after the other
+-- a key and the values that it is set to, one after the other; where it goes together with the key before it, both change at one time
 pub record KeyValues : Type 0 where
   pub key : SettingKey
+  pub together : Bool
   pub values : List SettingValue
 
 -- without seeds each case runs with the text's own; without a width, which is in hundredths, each case runs with all seeds
@@ -15,10 +16,14 @@ pub record Sweep : Type 0 where
   pub seeds : Option Seeds
   pub until : Option ℕ
 
--- how many cases there are: one for each choice of a value for each key
+-- how many choices a key leaves: one for each of its values; none but that of the key before it, where they go together
+abbrev pub choice_count : KeyValues → ℕ
+choice_count s = if s.together then 1 else length s.values
+
+-- how many cases there are: one for each choice for each key
 abbrev pub case_count : List KeyValues → ℕ
 case_count [] = 1
-case_count (s ∷ more) = length s.values * case_count more
+case_count (s ∷ more) = choice_count s * case_count more
 
 -- how often each case runs
 abbrev pub seed_count : Option Seeds → ℕ

@@ -2,6 +2,7 @@
 //! asked for, and the scenario of each case.
 #![tactic(auto)]
 
+mod axes;
 mod choice;
 mod document;
 mod fault;
@@ -14,8 +15,10 @@ mod missing;
 mod plan;
 mod seeds;
 mod settings;
+mod telling;
 mod values;
 
+pub use axes::axis_end;
 pub use choice::{Choice, settings_text};
 pub use document::{read_with, with_values};
 pub use fault::PlanFault;
@@ -25,4 +28,5 @@ pub use missing::missing_item;
 pub use plan::Plan;
 pub use seeds::Seeds;
 pub use settings::Setting;
+pub use telling::{axis_text, names_text, place_count, values_text};
 pub use values::SettingValue;

@@ -1,11 +1,12 @@
 //! What words ask a sweep for.
-ghost use Rattle.std.specs.Prelude.{◌≡◌, ◌≤◌, ◌<◌, ◌^◌, ◌*◌, ◌-◌, Some, All, map, min, slice_get, option_map, true, false, IfOk, IfErr};
+ghost use Rattle.std.specs.Prelude.{◌≡◌, ◌≤◌, ◌<◌, ◌^◌, ◌*◌, ◌-◌, ◌/◌, ◌%◌, ◌++◌, Some, All, length, map, min, slice_get, option_map, true, false, IfOk, IfErr, OnOk};
 ghost use Rattle.std.specs.Option.{ForSome};
 ghost use Rattle.cases.specs.Sweep.{case_count, seed_count, run_count};
-ghost use Rattle.cases.specs.Asked.{AreSettings, AsksForSeeds, IsSweepOf, RefusesSeeds, RefusesSettings, RefusesSweep, IsSetting, IsWidth};
+ghost use Rattle.cases.specs.Asked.{AreApart, AreSettings, AsksForSeeds, IsSweepOf, RefusesMore, RefusesSeeds, RefusesSettings, RefusesSweep, IsSetting, IsWidth};
 ghost use Rattle.cases.specs.Values.{FitsToml};
 ghost use Rattle.cases.specs.Cases.{cases_of};
 
+use crate::axes::read_axis;
 use crate::choice::Choice;
 use crate::fault::PlanFault;
 use crate::seeds::{Seeds, count, read_range};
@@ -44,7 +45,8 @@ impl Model for Plan {
 
 impl Plan {
     /// The plan that words ask for: settings such as `swim.period=200,300`, each a key that may be set, an
-    /// equals sign and values with commas between them, and a range of seeds such as `1..200`. Where each case is to have
+    /// equals sign and values with commas between them, or such as `suspicion.alpha+lifeguard.confirmations=3+1,4+2`, with a
+    /// plus sign between keys that go together and between their values; and a range of seeds such as `1..200`. Where each case is to have
     /// only as many runs as make its interval so narrow, `until` is its width in hundredths. Whether a document has the items
     /// of lists that keys name is asked by `missing_item`.
     ///
@@ -155,19 +157,51 @@ fn choices(
     ensures { IfOk result (λ case. slice_get (cases_of settings.now) place ≡ Some case.items) }
 {
     let mut case = Vec::new(alloc);
-    let mut below = cases;
-    let mut left = place;
+    let mut turn = Turn {
+        at: 0,
+        below: cases,
+        left: place,
+    };
     for setting in settings {
-        let values = setting.values();
-        below /= values.len();
-        let value = values[left / below];
-        left %= below;
+        turn = turn.next(setting);
         case.push(Choice {
             key: setting.key(),
-            value,
+            value: setting.value_at(turn.at),
         })?;
     }
     Ok(case)
+}
+
+/// Where among the cases a choice of values is.
+#[derive(Clone, Copy)]
+struct Turn {
+    /// The place of the last key's value.
+    at: usize,
+    /// How many cases the settings that are left have.
+    below: usize,
+    /// The place among these.
+    left: usize,
+}
+
+impl Turn {
+    /// The turn after one more setting.
+    fn next(self, setting: &Setting) -> Turn
+        requires some { setting.now.together ≡ false → 0 < length setting.now.values }
+        requires more { setting.now.together ≡ false → 0 < self.below / length setting.now.values }
+        ensures together { setting.now.together ≡ true → result ≡ self }
+        ensures apart { setting.now.together ≡ false → (result.below ≡ self.below / length setting.now.values)
+            × (result.at ≡ self.left / (self.below / length setting.now.values)) × (result.left ≡ self.left % (self.below / length setting.now.values)) }
+    {
+        if setting.is_together() {
+            return self;
+        }
+        let below = self.below / setting.values().len();
+        Turn {
+            at: self.left / below,
+            below,
+            left: self.left % below,
+        }
+    }
 }
 
 /// The settings that words ask for.
@@ -177,18 +211,35 @@ fn read_settings(alloc: Global, words: &[&str]) -> Result<Vec<Setting>, PlanFaul
 {
     let mut settings = Vec::new(alloc);
     for word in words {
-        let setting = match Setting::read(alloc, *word) {
-            Ok(setting) => setting,
+        let axis = match read_axis(alloc, *word) {
+            Ok(axis) => axis,
             Err(fault) => return Err(fault),
         };
-        if is_set(&settings, setting.key()) {
+        if let Err(fault) = push_axis(&mut settings, axis) {
+            return Err(fault);
+        }
+    }
+    Ok(settings)
+}
+
+/// Appends the settings of an axis.
+///
+/// Failures: `Words` where a key then stands twice; `Memory`.
+fn push_axis(settings: &mut Vec<Setting>, axis: Vec<Setting>) -> Result<(), PlanFault>
+    requires known { All IsSetting (settings.old.items ++ axis.items) }
+    ensures added { OnOk result (settings.new.items ≡ settings.old.items ++ axis.items) }
+    ensures once { OnOk result (AreApart settings.old.items → AreApart settings.new.items) }
+    ensures refused { IfErr result (RefusesMore (settings.old.items ++ axis.items)) }
+{
+    for setting in axis {
+        if is_set(settings, setting.key()) {
             return Err(PlanFault::Words);
         }
         if settings.push(setting).is_err() {
             return Err(PlanFault::Memory);
         }
     }
-    Ok(settings)
+    Ok(())
 }
 
 /// The seeds that a word asks for; none where there is no word.
@@ -222,7 +273,7 @@ fn case_count(settings: &[Setting]) -> usize
 {
     let mut cases = 1usize;
     for setting in settings {
-        cases = cases.saturating_mul(setting.values().len());
+        cases = cases.saturating_mul(setting.choice_count());
     }
     cases
 }

@@ -1,20 +1,19 @@
 //! One key, and the values that it is set to.
-ghost use Rattle.std.specs.Prelude.{◌≡◌, IfOk, IfErr};
+ghost use Rattle.std.specs.Prelude.{◌≡◌};
 ghost use Rattle.std.specs.List.{list_any};
-ghost use Rattle.decimals.specs.Items.{list_items};
+ghost use Rattle.cases.specs.Axes.{value_at};
 ghost use Rattle.cases.specs.Keys.{is_same};
-ghost use Rattle.cases.specs.Asked.{AreValues, IsSettingOf, RefusesSetting, RefusesValues};
+ghost use Rattle.cases.specs.Sweep.{choice_count};
 
-use crate::fault::PlanFault;
 use crate::keys::{SettingKey, is_same};
 use crate::values::SettingValue;
-use std::alloc::Global;
 use std::marker::Model;
 
 /// A key, and the values that it is set to, one after the other.
 #[derive(Debug, Drop)]
 pub struct Setting {
     key: SettingKey,
+    together: bool,
     values: Vec<SettingValue>,
 }
 
@@ -23,15 +22,33 @@ impl Model for Setting {
 
     ghost Value = { KeyValues };
 
-    ghost view = { λ s. record { key = s.key; values = s.values.items } };
+    ghost view = { λ s. record { key = s.key; together = s.together; values = s.values.items } };
 }
 
 impl Setting {
+    /// The setting of a key with these values, and whether it goes together with the one before it.
+    pub(crate) fn new(key: SettingKey, together: bool, values: Vec<SettingValue>) -> Setting
+        ensures { result ≡ record { key = key; together = together; values = values.items } }
+    {
+        Setting {
+            key,
+            together,
+            values,
+        }
+    }
+
     /// The key that is set.
     pub fn key(&self) -> SettingKey
         ensures { result ≡ self.now.key }
     {
         self.key
+    }
+
+    /// Whether it goes together with the key before it: both change at one time, and are one axis.
+    pub fn is_together(&self) -> bool
+        ensures { result ≡ self.now.together }
+    {
+        self.together
     }
 
     /// Its values, in their order.
@@ -41,44 +58,26 @@ impl Setting {
         &self.values
     }
 
-    /// The setting that a word asks for, as `swim.period=200,300`.
-    ///
-    /// Failures: `Words` where the word is no key that may be set, an equals sign and values with commas
-    /// between them; `Memory`.
-    pub(crate) fn read(alloc: Global, word: &str) -> Result<Setting, PlanFault>
-        ensures read { IfOk result (IsSettingOf word.now) }
-        ensures refused { IfErr result (RefusesSetting word.now) }
+    /// Its value at a place, counted from 0; the number 0 where it has none there.
+    pub fn value_at(&self, place: usize) -> SettingValue
+        ensures { result ≡ value_at self.now place }
     {
-        let Some((name, list)) = word.split_once('=') else {
-            return Err(PlanFault::Words);
-        };
-        let Some(key) = SettingKey::named(name) else {
-            return Err(PlanFault::Words);
-        };
-        match read_values(alloc, list) {
-            Ok(values) => Ok(Setting { key, values }),
-            Err(fault) => Err(fault),
+        let values = self.values();
+        match values.get(place) {
+            Some(value) => *value,
+            None => SettingValue::Whole(0),
         }
     }
-}
 
-/// The values that the items of a list say.
-fn read_values(alloc: Global, list: &str) -> Result<Vec<SettingValue>, PlanFault>
-    ensures read { IfOk result (λ values. AreValues (list_items list.now) values.items) }
-    ensures refused { IfErr result (RefusesValues (list_items list.now)) }
-{
-    let mut values = Vec::new(alloc);
-    for item in list.split(',') {
-        match SettingValue::read(item) {
-            Some(value) => {
-                if values.push(value).is_err() {
-                    return Err(PlanFault::Memory);
-                }
-            }
-            None => return Err(PlanFault::Words),
+    /// How many choices it leaves: one for each of its values; one alone where it goes together with the key before it.
+    pub fn choice_count(&self) -> usize
+        ensures { result ≡ choice_count self.now }
+    {
+        if self.is_together() {
+            return 1;
         }
+        self.values().len()
     }
-    Ok(values)
 }
 
 /// Whether one of the settings sets a key that is spelt like this one.

@@ -9,7 +9,9 @@ use Rattle.std.proofs.lemmas.Fmt.{decimal_injective}
 use Rattle.std.proofs.lemmas.List.{append_cancel_left, length-map, take_all}
 use Rattle.decimals.specs.Numbers.{IsDecimal}
 use Rattle.cases.specs.Sweep.{Sweep}
-use Rattle.cases.specs.Asked.{AsksForSeeds, IsSweepOf, IsWidth, RefusesSweep, seeds_text, setting_text}
+use Rattle.cases.specs.Asked.{AsksForSeeds, IsSweepOf, IsWidth, RefusesSweep, seeds_text, setting_words}
+use Rattle.cases.specs.Axes.{axes_of}
+use Rattle.cases.proofs.Gathered.{axes_in}
 use Rattle.cases.specs.declared.fault.PlanFault.{PlanFault}
 use Rattle.cases.specs.declared.fault.PlanFault.TheVariants as unread
 use Rattle.cases.specs.declared.seeds.Seeds.{Seeds}
@@ -22,7 +24,7 @@ use Rattle.sweep.specs.Runs.{IsAskedFor}
 use Rattle.sweep.specs.Pieces.{piece_header}
 use Rattle.joins.specs.Joined.{IsMark}
 use Rattle.joins.specs.Reasons.{BeginsAs, BeginsAsNone, RefusesName, SaysWidth}
-use Rattle.joins.proofs.SameSweep.{joined_is, no_dash, no_setting_says, same_rest, same_seeds, same_settings, until_words, words_lack, words_of}
+use Rattle.joins.proofs.SameSweep.{asked_axes, joined_is, no_dash, no_setting_says, same_rest, same_seeds, same_settings, until_words, words_lack, words_of}
 
 -- the piece of a word is one
 pub same_piece : (word : List ℕ) (q p : Piece) → IsPieceWord word q → word ≡ piece_text p → IsPiece p → q ≡ p
@@ -98,7 +100,7 @@ pub record AreParted (rest : List (List ℕ)) (until : Option ℕ) (settings : L
 -- the plan that was read of the words of a sweep is that sweep
 module _ (words : List ℕ) (sweep : Sweep) (asked : IsAskedFor sweep) (is : words ≡ plan_text sweep) (first : List ℕ) (rest : List (List ℕ)) (seeds : Option (List ℕ))
     (cut : slice_split (λ byte. byte == 32) words ≡ first ∷ rest) (given : seeds ≡ seeds_given first) where
-  parts : first ∷ rest ≡ seeds_word sweep.seeds ∷ (until_words sweep.until ++ map setting_text sweep.settings)
+  parts : first ∷ rest ≡ seeds_word sweep.seeds ∷ (until_words sweep.until ++ setting_words sweep.settings)
   parts = sym cut ∙ words_are words sweep asked is
 
   seeds_asked : AsksForSeeds seeds sweep.seeds
@@ -106,16 +108,16 @@ module _ (words : List ℕ) (sweep : Sweep) (asked : IsAskedFor sweep) (is : wor
       let same : first ≡ seeds_word sweep.seeds = (let all = parts in cc) in
       subst (λ o. AsksForSeeds o sweep.seeds) (sym (given ∙ ap seeds_given same)) (seeds_again asked.seeds sweep.seeds asked.asked.seeded)
 
-  rest_is : until_words sweep.until ++ map setting_text sweep.settings ≡ rest
+  rest_is : until_words sweep.until ++ setting_words sweep.settings ≡ rest
   rest_is = let all = parts in cc
 
   module _ (until : Option ℕ) (settings : List (List ℕ)) (parted : AreParted rest until settings) where
-    both_are : (sweep.until ≡ until) × (map setting_text sweep.settings ≡ settings)
-    both_are = same_rest sweep.until until sweep.settings settings asked.asked.width parted.low asked.asked.settings.sound parted.apart (rest_is ∙ parted.words)
+    both_are : (sweep.until ≡ until) × (setting_words sweep.settings ≡ settings)
+    both_are = same_rest sweep.until until (axes_of sweep.settings) settings asked.asked.width parted.low (asked_axes sweep asked) parted.apart (rest_is ∙ parted.words)
 
     pub plan_is : (plan : Sweep) → IsSweepOf settings seeds until plan → plan ≡ sweep
     plan_is plan read =
-        let sets = same_settings plan.settings sweep.settings read.settings.sound asked.asked.settings.sound (read.settings.written ∙ sym both_are.1) in
+        let sets = same_settings plan.settings sweep.settings (axes_in settings plan.settings read.settings.axes) (asked_axes sweep asked) (read.settings.axes.written ∙ sym both_are.1) in
         let one = one_seeds seeds plan.seeds sweep.seeds read.seeded seeds_asked in
         let wide : plan.until ≡ sweep.until = read.wanted ∙ sym both_are.0 in
         (λ i. record { settings = sets i; seeds = one i; until = wide i })
@@ -124,7 +126,10 @@ module _ (words : List ℕ) (sweep : Sweep) (asked : IsAskedFor sweep) (is : wor
     plan_there unread.Memory refused same = cc
     plan_there unread.Words refused same =
         refused sweep (record {
-          settings = record { written = both_are.1; sound = asked.asked.settings.sound; once = asked.asked.settings.once };
+          settings = record {
+            axes = record { written = both_are.1; begins = asked.asked.settings.axes.begins; level = asked.asked.settings.axes.level; sound = asked.asked.settings.axes.sound };
+            once = asked.asked.settings.once;
+          };
           seeded = seeds_asked;
           few = asked.asked.few;
           wanted = both_are.0;
@@ -135,8 +140,8 @@ module _ (words : List ℕ) (sweep : Sweep) (asked : IsAskedFor sweep) (is : wor
   pub width_told : (value : List ℕ) (more : List (List ℕ)) → rest ≡ (codes "until=" ++ value) ∷ more → ((n : ℕ) → ¬ (IsDecimal value n)) → ⊥
   width_told value more says none = by sweep.until asked.asked.width (rest_is ∙ says)
     where
-      by : (until : Option ℕ) → ForSome until IsWidth → until_words until ++ map setting_text sweep.settings ≡ (codes "until=" ++ value) ∷ more → ⊥
-      by None sound same = no_setting_says sweep.settings value more asked.asked.settings.sound same
+      by : (until : Option ℕ) → ForSome until IsWidth → until_words until ++ setting_words sweep.settings ≡ (codes "until=" ++ value) ∷ more → ⊥
+      by None sound same = no_setting_says (axes_of sweep.settings) value more (asked_axes sweep asked) same
       by (Some w) sound same =
           let most = (sound w refl).most in
           let head : codes "until=" ++ decimal w ≡ codes "until=" ++ value = cc in
@@ -179,7 +184,7 @@ pub none_split : (items : List (Bor (List ℕ))) (words : List ℕ) (sweep : Swe
     → map (λ (word : Bor (List ℕ)). word.now) items ≡ slice_split (λ byte. byte == 32) words → ⊥
 none_split items words sweep asked is none same =
     let all = same ∙ words_are words sweep asked is in
-    let long : length (map (λ (word : Bor (List ℕ)). word.now) items) ≡ suc (length (until_words sweep.until ++ map setting_text sweep.settings)) = ap length all in
+    let long : length (map (λ (word : Bor (List ℕ)). word.now) items) ≡ suc (length (until_words sweep.until ++ setting_words sweep.settings)) = ap length all in
     omega (arith, long, length-map items (λ (word : Bor (List ℕ)). word.now), none)
 
 pub some_split : (items : List (Bor (List ℕ))) (words : List ℕ) (sweep : Sweep) → IsAskedFor sweep → words ≡ plan_text sweep

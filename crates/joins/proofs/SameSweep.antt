@@ -7,21 +7,23 @@ use Rattle.std.proofs.lemmas.Bool.{false≢true}
 use Rattle.std.proofs.lemmas.List.{append_cancel_left}
 use Rattle.std.proofs.lemmas.Fmt.{decimal_injective, decimal_is_IsNumeral}
 use Rattle.std.proofs.lemmas.Str.Parse.{digit_at}
-use Rattle.std.proofs.lemmas.List.Elements.{All-append, All-cons, All-contains, All-from_recursion, All-head, All-map, All-nil, All-tail, All-weaker}
+use Rattle.std.proofs.lemmas.List.Elements.{All-append, All-cons, All-contains, All-from_recursion, All-head, All-map, All-nil, All-weaker}
 use Rattle.schema.specs.Schema.{key_rules_of, spelling_of}
 use Rattle.schema.specs.declared.schema.FormatKey.{FormatKey}
 use Rattle.cases.specs.Items.{is_letter, kept_name}
 use Rattle.cases.specs.Keys.{MaySet, item_part, key_name, key_named, listed, settable}
-use Rattle.cases.specs.Values.{value_text, FitsToml}
 use Rattle.cases.specs.Sweep.{KeyValues, Sweep}
-use Rattle.cases.specs.Asked.{AsksForSeeds, IsRange, IsSetting, IsWidth, seeds_text, setting_text}
+use Rattle.cases.specs.Asked.{AsksForSeeds, IsRange, IsWidth, axis_text, names_text, seeds_text, setting_words}
+use Rattle.cases.specs.Axes.{axes_of}
 use Rattle.cases.specs.declared.items.ItemName.{ItemName}
 use Rattle.cases.specs.declared.keys.SettingKey.{SettingKey}
 use Rattle.cases.specs.declared.seeds.Seeds.{Seeds}
 use Rattle.cases.proofs.Apart.{named_itself, not_within}
 use Rattle.cases.proofs.Letters.{is_key_byte, name_lacks}
 use Rattle.cases.proofs.Words.{Lacks, cut_once, decimal_lacks, joined_split, lacks_from_test}
-use Rattle.cases.proofs.Written.{same_setting}
+use Rattle.cases.proofs.Columns.{axis_lacks, names_lack, one_name, rows_of}
+use Rattle.cases.proofs.Gathered.{axes_in, same_axes}
+use Rattle.cases.proofs.Grouped.{axes_flat, together, IsAxis}
 use Rattle.pieces.specs.declared.piece.Piece.{Piece}
 use Rattle.pieces.specs.Pieces.{IsPiece, piece_text}
 use Rattle.pieces.specs.Names.{head_cell, piece_name, plan_text, seeds_word, until_text}
@@ -31,13 +33,9 @@ use Rattle.noted_lines.proofs.Bytes.{lacks_both, lacks_cons, lacks_joined, value
 
 -- ---- which bytes the words of a sweep don't have
 
-setting_lacks : (c : ℕ) → is_key_byte c ≡ false → is_letter c ≡ false → (61 == c) ≡ false → (44 == c) ≡ false → c < 48
-    → (s : KeyValues) → IsSetting s → Lacks c (setting_text s)
-setting_lacks c out also equals comma small s sound =
-    let values : All (Lacks c) (map value_text s.values) =
-    All-map (Lacks c) value_text s.values (All-weaker FitsToml (λ v. Lacks c (value_text v)) (λ v fits. value_lacks c v fits small) s.values sound.fit) in
-    lacks_both c (key_name s.key) (61 ∷ join_with_byte 44 (map value_text s.values)) (name_lacks c out also s.key)
-    (lacks_cons c 61 (join_with_byte 44 (map value_text s.values)) equals (lacks_joined c 44 (map value_text s.values) comma values))
+setting_lacks : (c : ℕ) → is_key_byte c ≡ false → is_letter c ≡ false → (61 == c) ≡ false → (44 == c) ≡ false → (43 == c) ≡ false → c < 48
+    → (axis : List KeyValues) → IsAxis axis → Lacks c (axis_text axis)
+setting_lacks c out also equals comma plus small axis is = axis_lacks c plus comma equals (name_lacks c out also) (λ v fits. value_lacks c v fits small) axis is
 
 seeds_lack : (c : ℕ) → (45 == c) ≡ false → (46 == c) ≡ false → c < 48 → (word : Option (List ℕ)) (seeds : Option Seeds) → AsksForSeeds word seeds → Lacks c (seeds_word seeds)
 seeds_lack c dash dot small None None asks = lacks_cons c 45 [] dash (All-nil (λ y. (y == c) ≡ false))
@@ -51,9 +49,9 @@ seeds_lack c dash dot small (Some word) (Some r) asks =
 
 -- ---- the words of a sweep, with spaces between them
 
-settings_joined : (first : List ℕ) (settings : List KeyValues) → join_with_byte 32 (first ∷ map setting_text settings) ≡ first ++ flat_map (λ s. 32 ∷ setting_text s) settings
+settings_joined : (first : List ℕ) (axes : List (List KeyValues)) → join_with_byte 32 (first ∷ map axis_text axes) ≡ first ++ flat_map (λ axis. 32 ∷ axis_text axis) axes
 settings_joined first [] = sym (append-nil first)
-settings_joined first (s ∷ settings) = ap (λ l. first ++ 32 ∷ l) (settings_joined (setting_text s) settings)
+settings_joined first (axis ∷ axes) = ap (λ l. first ++ 32 ∷ l) (settings_joined (axis_text axis) axes)
 
 -- the word of a width, and the words that there are of it
 abbrev pub until_word : ℕ → List ℕ
@@ -63,17 +61,21 @@ abbrev pub until_words : Option ℕ → List (List ℕ)
 until_words None = []
 until_words (Some width) = until_word width ∷ []
 
-all_joined : (first : List ℕ) (until : Option ℕ) (settings : List KeyValues)
-    → join_with_byte 32 (first ∷ (until_words until ++ map setting_text settings)) ≡ first ++ until_text until ++ flat_map (λ s. 32 ∷ setting_text s) settings
-all_joined first None settings = settings_joined first settings ∙ ap (λ l. l ++ flat_map (λ s. 32 ∷ setting_text s) settings) (sym (append-nil first))
-all_joined first (Some width) settings =
-    ap (λ l. first ++ 32 ∷ l) (settings_joined (until_word width) settings) ∙ sym (append_assoc first (32 ∷ until_word width) (flat_map (λ s. 32 ∷ setting_text s) settings))
+all_joined : (first : List ℕ) (until : Option ℕ) (axes : List (List KeyValues))
+    → join_with_byte 32 (first ∷ (until_words until ++ map axis_text axes)) ≡ first ++ until_text until ++ flat_map (λ axis. 32 ∷ axis_text axis) axes
+all_joined first None axes = settings_joined first axes ∙ ap (λ l. l ++ flat_map (λ axis. 32 ∷ axis_text axis) axes) (sym (append-nil first))
+all_joined first (Some width) axes =
+    ap (λ l. first ++ 32 ∷ l) (settings_joined (until_word width) axes) ∙ sym (append_assoc first (32 ∷ until_word width) (flat_map (λ axis. 32 ∷ axis_text axis) axes))
 
 abbrev pub words_of : Sweep → List (List ℕ)
-words_of sweep = seeds_word sweep.seeds ∷ (until_words sweep.until ++ map setting_text sweep.settings)
+words_of sweep = seeds_word sweep.seeds ∷ (until_words sweep.until ++ setting_words sweep.settings)
 
 pub joined_is : (sweep : Sweep) → join_with_byte 32 (words_of sweep) ≡ plan_text sweep
-joined_is sweep = all_joined (seeds_word sweep.seeds) sweep.until sweep.settings
+joined_is sweep = all_joined (seeds_word sweep.seeds) sweep.until (axes_of sweep.settings)
+
+-- the axes of a sweep that is asked for
+pub asked_axes : (sweep : Sweep) → IsAskedFor sweep → All IsAxis (axes_of sweep.settings)
+asked_axes sweep asked = axes_in asked.settings sweep.settings asked.asked.settings.axes
 
 until_lack : (c : ℕ) → c < 48 → list_any (λ byte. byte == c) (codes "until=") ≡ false → (until : Option ℕ) → ForSome until IsWidth → All (Lacks c) (until_words until)
 until_lack c small none None sound = All-nil (Lacks c)
@@ -81,20 +83,20 @@ until_lack c small none (Some width) sound =
     let most = (sound width refl).most in
     All-cons (Lacks c) (until_word width) [] (lacks_both c (codes "until=") (decimal width) (lacks_from_test c (codes "until=") none) (decimal_lacks width c (omega (arith, most)) small)) (All-nil (Lacks c))
 
-all_lack : (c : ℕ) → is_key_byte c ≡ false → is_letter c ≡ false → (61 == c) ≡ false → (44 == c) ≡ false → (45 == c) ≡ false → (46 == c) ≡ false → c < 48
+all_lack : (c : ℕ) → is_key_byte c ≡ false → is_letter c ≡ false → (61 == c) ≡ false → (44 == c) ≡ false → (43 == c) ≡ false → (45 == c) ≡ false → (46 == c) ≡ false → c < 48
     → list_any (λ byte. byte == c) (codes "until=") ≡ false → (sweep : Sweep) → IsAskedFor sweep → All (Lacks c) (words_of sweep)
-all_lack c out also equals comma dash dot small none sweep asked =
-    All-cons (Lacks c) (seeds_word sweep.seeds) (until_words sweep.until ++ map setting_text sweep.settings) (seeds_lack c dash dot small asked.seeds sweep.seeds asked.asked.seeded)
-    (All-append (Lacks c) (until_words sweep.until) (map setting_text sweep.settings) (until_lack c small none sweep.until asked.asked.width)
-    (All-map (Lacks c) setting_text sweep.settings
-    (All-weaker IsSetting (λ s. Lacks c (setting_text s)) (setting_lacks c out also equals comma small) sweep.settings asked.asked.settings.sound)))
+all_lack c out also equals comma plus dash dot small none sweep asked =
+    All-cons (Lacks c) (seeds_word sweep.seeds) (until_words sweep.until ++ setting_words sweep.settings) (seeds_lack c dash dot small asked.seeds sweep.seeds asked.asked.seeded)
+    (All-append (Lacks c) (until_words sweep.until) (setting_words sweep.settings) (until_lack c small none sweep.until asked.asked.width)
+    (All-map (Lacks c) axis_text (axes_of sweep.settings)
+    (All-weaker IsAxis (λ axis. Lacks c (axis_text axis)) (setting_lacks c out also equals comma plus small) (axes_of sweep.settings) (asked_axes sweep asked))))
 
 pub words_lack : (sweep : Sweep) → IsAskedFor sweep → All (Lacks 32) (words_of sweep)
-words_lack = all_lack 32 refl refl refl refl refl refl (lit< tt) refl
+words_lack = all_lack 32 refl refl refl refl refl refl refl (lit< tt) refl
 
 pub plan_lacks : (sweep : Sweep) → IsAskedFor sweep → Lacks 34 (plan_text sweep)
 plan_lacks sweep asked =
-    subst (Lacks 34) (joined_is sweep) (lacks_joined 34 32 (words_of sweep) refl (all_lack 34 refl refl refl refl refl refl (lit< tt) refl sweep asked))
+    subst (Lacks 34) (joined_is sweep) (lacks_joined 34 32 (words_of sweep) refl (all_lack 34 refl refl refl refl refl refl refl (lit< tt) refl sweep asked))
 
 pub no_dash : (r : Seeds) (word : List ℕ) → IsRange word r → seeds_text r ≡ 45 ∷ [] → ⊥
 no_dash r word range same =
@@ -132,17 +134,6 @@ same_seeds (Some a) (Some b) (Some r) (Some s) asks also same =
     let last = decimal_injective r.last s.last (omega arith) (omega arith) lasts in
     ap Some (λ i. record { first = first i; last = last i })
 
-pub same_settings : (ss ts : List KeyValues) → All IsSetting ss → All IsSetting ts → map setting_text ss ≡ map setting_text ts → ss ≡ ts
-same_settings [] [] sound also same = refl
-same_settings [] (t ∷ ts) sound also same = let none : 0 ≡ suc (length (map setting_text ts)) = ap length same in absurd (omega arith)
-same_settings (s ∷ ss) [] sound also same = let none : suc (length (map setting_text ss)) ≡ 0 = ap length same in absurd (omega arith)
-same_settings (s ∷ ss) (t ∷ ts) sound also same =
-    let first : setting_text s ≡ setting_text t = cc in
-    let rest : map setting_text ss ≡ map setting_text ts = cc in
-    let one = same_setting s t (All-head IsSetting s ss sound) (All-head IsSetting t ts also) first in
-    let more = same_settings ss ts (All-tail IsSetting s ss sound) (All-tail IsSetting t ts also) rest in
-    (λ i. one i ∷ more i)
-
 -- ---- no word of a setting says a width
 
 unnamed : key_named (codes "until") ≡ None
@@ -169,30 +160,35 @@ not_until k (inr is) same =
     (All-contains (λ (j : SettingKey). is_some j.table ≡ true) listed is.key (All-from_recursion (λ (j : SettingKey). is_some j.table ≡ true) listed tabled_each) is.known)
     (sym (ap key_name is.is) ∙ same)
 
-pub setting_says_none : (s : KeyValues) (value : List ℕ) → IsSetting s → setting_text s ≡ codes "until=" ++ value → ⊥
-setting_says_none s value sound same =
-    let parts = cut_once 61 (key_name s.key) (codes "until") (join_with_byte 44 (map value_text s.values)) value (name_lacks 61 refl refl s.key) (lacks_from_test 61 (codes "until") refl) same in
-    not_until s.key sound.key parts.0
+pub setting_says_none : (axis : List KeyValues) (value : List ℕ) → IsAxis axis → axis_text axis ≡ codes "until=" ++ value → ⊥
+setting_says_none axis value is same =
+    let parts = cut_once 61 (names_text axis) (codes "until") (join_with_byte 44 (rows_of axis)) value (names_lack axis) (lacks_from_test 61 (codes "until") refl) same in
+    let one = one_name axis is (codes "until") (lacks_from_test 43 (codes "until") refl) parts.0 in
+    not_until one.0 one.1 one.2
 
-pub no_setting_says : (settings : List KeyValues) (value : List ℕ) (more : List (List ℕ)) → All IsSetting settings → map setting_text settings ≡ (codes "until=" ++ value) ∷ more → ⊥
+pub no_setting_says : (axes : List (List KeyValues)) (value : List ℕ) (more : List (List ℕ)) → All IsAxis axes → map axis_text axes ≡ (codes "until=" ++ value) ∷ more → ⊥
 no_setting_says [] value more sound same = let none : 0 ≡ suc (length more) = ap length same in absurd (omega arith)
-no_setting_says (s ∷ settings) value more sound same =
-    let first : setting_text s ≡ codes "until=" ++ value = cc in
-    setting_says_none s value (All-head IsSetting s settings sound) first
+no_setting_says (axis ∷ axes) value more sound same =
+    let first : axis_text axis ≡ codes "until=" ++ value = cc in
+    setting_says_none axis value (All-head IsAxis axis axes sound) first
 
 -- so the words behind that of the seeds are those of one width, or none, and of settings
-pub same_rest : (v u : Option ℕ) (ss : List KeyValues) (settings : List (List ℕ)) → ForSome v IsWidth → ForSome u (λ w. w < 2 ^ 64) → All IsSetting ss
-    → (u ≡ None → (value : List ℕ) (more : List (List ℕ)) → ¬ (settings ≡ (codes "until=" ++ value) ∷ more)) → until_words v ++ map setting_text ss ≡ until_words u ++ settings
-    → (v ≡ u) × (map setting_text ss ≡ settings)
-same_rest None None ss settings sound low all none same = (refl, same)
-same_rest (Some a) None ss settings sound low all none same = absurd (none refl (decimal a) (map setting_text ss) (sym same))
-same_rest None (Some w) ss settings sound low all none same = absurd (no_setting_says ss (decimal w) settings all same)
-same_rest (Some a) (Some w) ss settings sound low all none same =
+pub same_rest : (v u : Option ℕ) (axes : List (List KeyValues)) (settings : List (List ℕ)) → ForSome v IsWidth → ForSome u (λ w. w < 2 ^ 64) → All IsAxis axes
+    → (u ≡ None → (value : List ℕ) (more : List (List ℕ)) → ¬ (settings ≡ (codes "until=" ++ value) ∷ more)) → until_words v ++ map axis_text axes ≡ until_words u ++ settings
+    → (v ≡ u) × (map axis_text axes ≡ settings)
+same_rest None None axes settings sound low all none same = (refl, same)
+same_rest (Some a) None axes settings sound low all none same = absurd (none refl (decimal a) (map axis_text axes) (sym same))
+same_rest None (Some w) axes settings sound low all none same = absurd (no_setting_says axes (decimal w) settings all same)
+same_rest (Some a) (Some w) axes settings sound low all none same =
     let most = (sound a refl).most in
     let first : until_word a ≡ until_word w = cc in
-    let rest : map setting_text ss ≡ settings = cc in
+    let rest : map axis_text axes ≡ settings = cc in
     let digits : decimal a ≡ decimal w = append_cancel_left (codes "until=") (decimal a) (decimal w) first in
     (ap Some (decimal_injective a w (omega (arith, most)) (low w refl) digits), rest)
+
+-- settings of one list of words are one
+pub same_settings : (s t : List KeyValues) → All IsAxis (axes_of s) → All IsAxis (axes_of t) → setting_words s ≡ setting_words t → s ≡ t
+same_settings s t sound also same = sym (axes_flat s) ∙ ap together (same_axes (axes_of s) (axes_of t) sound also same) ∙ axes_flat t
 
 -- sweeps of the same words are one
 pub same_sweep : (s t : Sweep) → IsAskedFor s → IsAskedFor t → plan_text s ≡ plan_text t → s ≡ t
@@ -202,11 +198,11 @@ same_sweep s t asked also same =
     ∙ ap (slice_split (λ byte. byte == 32)) (joined_is s ∙ same ∙ sym (joined_is t))
     ∙ joined_split 32 (words_of t) (omega arith) (words_lack t also) in
     let first : seeds_word s.seeds ≡ seeds_word t.seeds = cc in
-    let rest : until_words s.until ++ map setting_text s.settings ≡ until_words t.until ++ map setting_text t.settings = cc in
-    let parts = same_rest s.until t.until s.settings (map setting_text t.settings) asked.asked.width (λ w is. omega (arith, (also.asked.width w is).most)) asked.asked.settings.sound
-    (λ none value more is. no_setting_says t.settings value more also.asked.settings.sound is) rest in
+    let rest : until_words s.until ++ setting_words s.settings ≡ until_words t.until ++ setting_words t.settings = cc in
+    let parts = same_rest s.until t.until (axes_of s.settings) (setting_words t.settings) asked.asked.width (λ w is. omega (arith, (also.asked.width w is).most)) (asked_axes s asked)
+    (λ none value more is. no_setting_says (axes_of t.settings) value more (asked_axes t also) is) rest in
     let seeds = same_seeds asked.seeds also.seeds s.seeds t.seeds asked.asked.seeded also.asked.seeded first in
-    let settings = same_settings s.settings t.settings asked.asked.settings.sound also.asked.settings.sound parts.1 in
+    let settings = same_settings s.settings t.settings (asked_axes s asked) (asked_axes t also) parts.1 in
     (λ i. record { settings = settings i; seeds = seeds i; until = parts.0 i })
 
 -- what two texts name that begin with the first lines of pieces

@@ -2,3 +2,4 @@ pub mod Slashes
 pub mod Laid
 pub mod Bounds
 pub mod Whole
+pub mod Axes

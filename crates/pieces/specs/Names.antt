@@ -2,7 +2,8 @@
 use Rattle.std.specs.Prelude.{ℕ, List, [], ◌∷◌, ◌++◌, Option, Some, None, codes, flat_map}
 use Rattle.std.specs.Fmt.{decimal}
 use Rattle.cases.specs.Sweep.{Sweep}
-use Rattle.cases.specs.Asked.{seeds_text, setting_text}
+use Rattle.cases.specs.Asked.{axis_text, seeds_text}
+use Rattle.cases.specs.Axes.{axes_of}
 use Rattle.cases.specs.declared.seeds.Seeds.{Seeds}
 use Rattle.pieces.specs.declared.piece.Piece.{Piece}
 use Rattle.pieces.specs.Pieces.{piece_text}
@@ -17,9 +18,9 @@ abbrev pub until_text : Option ℕ → List ℕ
 until_text None = []
 until_text (Some width) = codes " until=" ++ decimal width
 
--- the words that ask for a sweep: that of its seeds, and a space before that of its width and of each setting
+-- the words that ask for a sweep: that of its seeds, and a space before that of its width and of each axis
 abbrev pub plan_text : Sweep → List ℕ
-plan_text sweep = seeds_word sweep.seeds ++ until_text sweep.until ++ flat_map (λ s. 32 ∷ setting_text s) sweep.settings
+plan_text sweep = seeds_word sweep.seeds ++ until_text sweep.until ++ flat_map (λ axis. 32 ∷ axis_text axis) (axes_of sweep.settings)
 
 -- The name of a piece: which it is, the mark of the scenario's text, and the words that ask for the sweep, with spaces between them
 abbrev pub piece_name : List ℕ → Sweep → Piece → List ℕ

@@ -1,13 +1,12 @@
 -- How the text of cases grows, and how wide its columns are.
 use Rattle.std.proofs.Common.{◌≡◌, ℕ, Bool, suc, ◌+◌, ◌<◌, List, [], ◌∷◌, ◌++◌, Some, refl, sym, ap, subst, ◌∙◌, arith, max, take, drop, get_or, length, map, append-nil, append_assoc}
-use Rattle.std.specs.Prelude.{All, slice_get}
-use Rattle.std.specs.List.{flat_map}
+use Rattle.std.specs.Prelude.{slice_get}
 use Rattle.std.proofs.Math.Seq.{drop-cons}
 use Rattle.std.proofs.lemmas.List.{take_more, length-take-le, drop_all}
-use Rattle.std.proofs.lemmas.List.Elements.{All-append, All-map, All-nil, All-push}
 use Rattle.std.proofs.lemmas.Option.{get_or_from_slice_get, slice_get_within}
 use Rattle.cases.specs.Sweep.{KeyValues}
-use Rattle.cases.specs.Cases.{cases_of, choice_of}
+use Rattle.cases.specs.Cases.{cases_of}
+use Rattle.cases.proofs.Choices.{cases_long}
 use Rattle.cases.specs.Values.{value_text}
 use Rattle.cases.specs.declared.choice.Choice.{Choice}
 use Rattle.cases.specs.declared.values.SettingValue.{SettingValue}
@@ -47,22 +46,11 @@ module _ (revived : Bool) (widths : List ℕ) (all : List CaseSummary) where
 
 -- ---- a case has a value for each key
 
-all_flat : {X Y : Type 0} (P : Y → Type 0) (f : X → List Y) (xs : List X) → ((x : X) → All P (f x)) → All P (flat_map f xs)
-all_flat P f [] each = All-nil P
-all_flat P f (x ∷ xs) each = All-append P (f x) (flat_map f xs) (each x) (all_flat P f xs each)
-
-cases_long : (settings : List KeyValues) → All (λ chosen. length chosen ≡ length settings) (cases_of settings)
-cases_long [] = All-push (λ (chosen : List Choice). length chosen ≡ 0) [] [] (All-nil (λ (chosen : List Choice). length chosen ≡ 0)) refl
-cases_long (s ∷ more) =
-    all_flat (λ (chosen : List Choice). length chosen ≡ suc (length more)) (λ value. map (λ chosen. choice_of s.key value ∷ chosen) (cases_of more)) s.values
-    (λ value. All-map (λ (chosen : List Choice). length chosen ≡ suc (length more)) (λ chosen. choice_of s.key value ∷ chosen) (cases_of more)
-    (λ i d lt. ap suc (cases_long more i d lt)))
-
 pub case_long : (settings : List KeyValues) (place : ℕ) (chosen : List Choice) → slice_get (cases_of settings) place ≡ Some chosen → length chosen ≡ length settings
 case_long settings place chosen there =
     let cases = cases_of settings in
     subst (λ (l : List Choice). length l ≡ length settings) (get_or_from_slice_get cases place chosen chosen there)
-    (cases_long settings place chosen (slice_get_within cases place chosen there))
+    (cases_long 0 settings place chosen (slice_get_within cases place chosen there))
 
 -- ---- widths
 

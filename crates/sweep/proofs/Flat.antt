@@ -8,7 +8,8 @@ use Rattle.std.specs.Prelude.{slice_get}
 use Rattle.std.specs.List.{flat_map, range_with_len}
 use Rattle.std.specs.Option.{option_map}
 use Rattle.cases.specs.Sweep.{KeyValues, Sweep, case_count, seed_count, run_count}
-use Rattle.cases.specs.Cases.{cases_of, choice_of}
+use Rattle.cases.specs.Cases.{cases_of}
+use Rattle.cases.proofs.Choices.{length-cases_of}
 use Rattle.cases.specs.declared.seeds.Seeds.{Seeds}
 use Rattle.cases.specs.declared.choice.Choice.{Choice}
 use Rattle.sweep.specs.Runs.{IsRunAt, planned_as, runs_of, seeds_of}
@@ -41,9 +42,7 @@ module _ {X A : Type 0} (f : X → List A) (m : ℕ) (same : (x : X) → length 
   flat_length (x ∷ xs) = omega (arith, length-append (f x) (flat_map f xs), same x, flat_length xs)
 
 pub cases_counted : (settings : List KeyValues) → length (cases_of settings) ≡ case_count settings
-cases_counted [] = refl
-cases_counted (s ∷ more) =
-    flat_length _ (case_count more) (λ value. length-map (cases_of more) (λ chosen. choice_of s.key value ∷ chosen) ∙ cases_counted more) s.values
+cases_counted settings = length-cases_of settings
 
 pub seeds_counted : (seeds : Option Seeds) → length (seeds_of seeds) ≡ seed_count seeds
 seeds_counted None = refl

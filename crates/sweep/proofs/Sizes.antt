@@ -3,12 +3,12 @@ use Rattle.std.proofs.Common.{ℕ, suc, suc-mul, ◌+◌, ◌<◌, ◌≤◌, �
 use Rattle.std.specs.Prelude.{All}
 use Rattle.std.proofs.lemmas.Nat.{mul-le}
 use Rattle.std.proofs.lemmas.List.{length-take}
-use Rattle.std.proofs.lemmas.List.Elements.{All-head, All-tail}
 use Rattle.std.proofs.lemmas.List.Sums.{count_by-le-length}
 use Rattle.std.proofs.lemmas.Option.{slice_get-get_or}
 use Rattle.answers.specs.Wants.{HasFewRuns}
-use Rattle.cases.specs.Asked.{AsksForSeeds, IsSetting}
-use Rattle.cases.specs.Sweep.{KeyValues, Sweep, case_count, seed_count}
+use Rattle.cases.specs.Asked.{AsksForSeeds}
+use Rattle.cases.proofs.Choices.{cases_some}
+use Rattle.cases.specs.Sweep.{Sweep, case_count, seed_count}
 use Rattle.cases.specs.declared.seeds.Seeds.{Seeds}
 use Rattle.figures.specs.Cases.{IsSummaryOf}
 use Rattle.figures.specs.Notes.{Note}
@@ -22,11 +22,6 @@ seeds_some None (Some r) asks = absurd asks
 seeds_some (Some word) None asks = absurd asks
 seeds_some (Some word) (Some r) asks = omega (arith, asks.ordered)
 
-cases_some : (settings : List KeyValues) → All IsSetting settings → 0 < case_count settings
-cases_some [] all = omega arith
-cases_some (s ∷ more) all =
-    omega (arith, mul-le 1 1 (length s.values) (case_count more) (All-head IsSetting s more all).some (cases_some more (All-tail IsSetting s more all)))
-
 -- a case has a run at least
 pub some_runs : (sweep : Sweep) → IsAskedFor sweep → 0 < seed_count sweep.seeds
 some_runs sweep asked = seeds_some asked.seeds sweep.seeds asked.asked.seeded
@@ -35,7 +30,7 @@ some_runs sweep asked = seeds_some asked.seeds sweep.seeds asked.asked.seeded
 pub few_runs : (sweep : Sweep) → IsAskedFor sweep → seed_count sweep.seeds ≤ 1000000
 few_runs sweep asked =
     let each = seed_count sweep.seeds in
-    omega (arith, asked.asked.few, mul-le 1 each (case_count sweep.settings) each (cases_some sweep.settings asked.asked.settings.sound) (omega arith))
+    omega (arith, asked.asked.few, mul-le 1 each (case_count sweep.settings) each (cases_some sweep.settings asked.asked.settings.axes.sound) (omega arith))
 
 -- the runs of a case are among all
 pub case_inside : (cases each number : ℕ) → number < cases → number * each + each ≤ cases * each

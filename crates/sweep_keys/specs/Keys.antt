@@ -1,13 +1,12 @@
--- The figures of keys: what each key that is set changes.
-use Rattle.std.specs.Prelude.{ℕ, Bool, ◌+◌, ◌-◌, ◌/◌, ◌%◌, ◌^◌, ◌==◌, ◌&&◌, nat_le, if◌then◌else◌, min, max, List, [], ◌++◌, Option, None, codes, decimal, drop, fold, is_some, length, slice_get, take, unwrap_or}
+-- The figures of axes: what each key that is set changes, or keys that go together.
+use Rattle.std.specs.Prelude.{ℕ, Bool, ◌+◌, ◌-◌, ◌/◌, ◌%◌, ◌^◌, ◌==◌, ◌&&◌, nat_le, if◌then◌else◌, min, max, List, [], ◌∷◌, ◌++◌, Option, None, codes, decimal, drop, fold, is_some, length, slice_get, take, unwrap_or}
 use Rattle.std.specs.List.{flat_map, range_with_len}
 use Rattle.std.specs.Option.{option_map_or}
 use Rattle.cases.specs.Cases.{cases_of}
-use Rattle.cases.specs.Keys.{key_name}
+use Rattle.cases.specs.Asked.{names_text, values_text}
+use Rattle.cases.specs.Axes.{axes_of, place_count}
 use Rattle.cases.specs.Sweep.{KeyValues, case_count}
-use Rattle.cases.specs.Values.{value_text}
 use Rattle.cases.specs.declared.choice.Choice.{Choice}
-use Rattle.cases.specs.declared.values.SettingValue.{SettingValue}
 use Rattle.drawing.specs.Axes.{axis_up}
 use Rattle.drawing.specs.Escaped.{escaped, markup}
 use Rattle.drawing.specs.Numbers.{place as place_on}
@@ -21,17 +20,17 @@ use Rattle.sweep_keys.specs.declared.lines.KeyLines.{KeyLines}
 use Rattle.sweep_keys.specs.declared.statistic.Statistic.{Statistic}
 use Rattle.sweep_keys.specs.declared.statistic.Statistic.TheVariants.{Suspected, Confirmed, Last}
 
--- the choices of a case but that for the key at a place
-abbrev pub without : ℕ → List Choice → List Choice
-without key chosen = take key chosen ++ drop (key + 1) chosen
+-- the choices of a case but those for so many keys from a place on
+abbrev pub without : ℕ → ℕ → List Choice → List Choice
+without key keys chosen = take key chosen ++ drop (key + keys) chosen
 
 -- the values of the other keys, in words
 unfoldable pub others_words : List Choice → List ℕ
 others_words others = if length others == 0 then codes "all else as in the scenario" else settings_words others
 
--- the settings of the case at a place but that of this key
-unfoldable pub others_at : List KeyValues → ℕ → ℕ → List ℕ
-others_at settings key place = option_map_or (λ chosen. others_words (without key chosen)) (slice_get (cases_of settings) place) []
+-- the settings of the case at a place but those of so many keys from one on
+unfoldable pub others_at : List KeyValues → ℕ → ℕ → ℕ → List ℕ
+others_at settings key keys place = option_map_or (λ chosen. others_words (without key keys chosen)) (slice_get (cases_of settings) place) []
 
 -- an entry of the legend begins by a piece of its line
 unfoldable pub sample : ℕ → List ℕ
@@ -39,7 +38,7 @@ sample line = codes "<li><svg class=\"sample\" viewBox=\"0 0 20 10\" aria-hidden
 
 -- it tells the values of the other keys, which all cases of its line have
 unfoldable pub legend_entry : List KeyValues → KeyLines → ℕ → ℕ → List ℕ
-legend_entry settings k key line = sample line ++ others_at settings key (case_place k line 0) ++ markup (codes "</code></li>")
+legend_entry settings k key line = sample line ++ others_at settings key k.keys (case_place k line 0) ++ markup (codes "</code></li>")
 
 -- so many lines aren't drawn
 unfoldable pub more_undrawn : ℕ → List ℕ
@@ -134,17 +133,17 @@ unfoldable pub line_over : List CaseSummary → KeyLines → Statistic → ℕ �
 line_over cases k s most line =
     path_line line ++ flat_map (corner_over cases k s most line) (range_with_len 0 k.values) ++ markup (codes "\"/>") ++ flat_map (marks_over cases k s most line) (range_with_len 0 k.values)
 
--- a value under a plot, in the middle of its room
-unfoldable pub value_word : KeyLines → ℕ → SettingValue → List ℕ
-value_word k place value = markup (codes "<span style=\"left:") ++ place_on (middle place) (width k) ++ markup (codes "\">") ++ escaped (value_text value) ++ markup (codes "</span>")
+-- the values at a place under a plot, in the middle of their room
+unfoldable pub value_word : KeyLines → List KeyValues → ℕ → List ℕ
+value_word k axis place = markup (codes "<span style=\"left:") ++ place_on (middle place) (width k) ++ markup (codes "\">") ++ escaped (values_text axis place) ++ markup (codes "</span>")
 
--- the value at a place, where it is one of those that are shown: of eight or more values not all
-unfoldable pub value_at : KeyLines → List SettingValue → ℕ → List ℕ
-value_at k values place = if place % (k.values / 8 + 1) == 0 then option_map_or (value_word k place) (slice_get values place) [] else []
+-- where they are among those that are shown: of eight or more not all
+unfoldable pub value_at : KeyLines → List KeyValues → ℕ → List ℕ
+value_at k axis place = if place % (k.values / 8 + 1) == 0 then value_word k axis place else []
 
 -- the values under a plot
-unfoldable pub values_under : KeyLines → List SettingValue → List ℕ
-values_under k values = markup (codes "<div class=\"values\" aria-hidden=\"true\">") ++ flat_map (value_at k values) (range_with_len 0 (length values)) ++ markup (codes "</div>")
+unfoldable pub values_under : KeyLines → List KeyValues → List ℕ
+values_under k axis = markup (codes "<div class=\"values\" aria-hidden=\"true\">") ++ flat_map (value_at k axis) (range_with_len 0 (place_count axis)) ++ markup (codes "</div>")
 
 -- a chart begins by what it shows
 unfoldable pub chart_opening : Statistic → List ℕ
@@ -163,10 +162,10 @@ unfoldable pub lines_plane : List CaseSummary → KeyLines → Statistic → ℕ
 lines_plane cases k s most =
     markup (codes "<div class=\"plane\">") ++ lines_opening k most s ++ flat_map (line_over cases k s most) (range_with_len 0 k.lines) ++ plot_end ++ markup (codes "</div>")
 
--- a chart of a statistic over the key's values
-unfoldable pub key_chart : List CaseSummary → KeyLines → List SettingValue → Statistic → List ℕ
-key_chart cases k values s =
-    chart_opening s ++ axis_up (plot_height cases k s) ++ lines_plane cases k s (plot_height cases k s) ++ values_under k values ++ markup (codes "</div></div>")
+-- a chart of a statistic over the values
+unfoldable pub key_chart : List CaseSummary → KeyLines → List KeyValues → Statistic → List ℕ
+key_chart cases k axis s =
+    chart_opening s ++ axis_up (plot_height cases k s) ++ lines_plane cases k s (plot_height cases k s) ++ values_under k axis ++ markup (codes "</div></div>")
 
 -- what is drawn of a case, in cells
 unfoldable pub drawn_times : Statistic → CaseSummary → List ℕ
@@ -180,67 +179,65 @@ times_of case = drawn_times Suspected case ++ drawn_times Confirmed case ++ time
 unfoldable pub times_over : List CaseSummary → KeyLines → ℕ → ℕ → List ℕ
 times_over cases k line place = option_map_or times_of (case_over cases k line place) []
 
--- the row of a line's case with the value at a place, which is this one: the value, the other keys' values, and the times
-unfoldable pub key_row : List KeyValues → List CaseSummary → KeyLines → ℕ → ℕ → ℕ → SettingValue → List ℕ
-key_row settings cases k key line place value =
-    markup (codes "<tr>") ++ cell (value_text value) ++ markup (codes "<td>") ++ others_at settings key (case_place k line place) ++ markup (codes "</td>")
+-- the row of a line's case with the values at a place: these, the other keys' values, and the times
+unfoldable pub key_row : List KeyValues → List CaseSummary → KeyLines → ℕ → List KeyValues → ℕ → ℕ → List ℕ
+key_row settings cases k key axis line place =
+    markup (codes "<tr>") ++ cell (values_text axis place) ++ markup (codes "<td>") ++ others_at settings key k.keys (case_place k line place) ++ markup (codes "</td>")
     ++ times_over cases k line place ++ markup (codes "</tr>")
-
--- the same, where the key has a value at that place
-unfoldable pub line_row : List KeyValues → List CaseSummary → KeyLines → ℕ → List SettingValue → ℕ → ℕ → List ℕ
-line_row settings cases k key values line place = option_map_or (key_row settings cases k key line place) (slice_get values place) []
 
 -- what the columns are
 unfoldable pub key_heads : List ℕ
 key_heads = codes "<details><summary>These figures in numbers</summary><div class=\"wide\"><table><caption>What is drawn, in ticks</caption><thead><tr><th scope=\"col\">value</th><th scope=\"col\">other keys</th><th scope=\"col\">suspected, 5th percentile</th><th scope=\"col\">suspected, median</th><th scope=\"col\">suspected, 95th percentile</th><th scope=\"col\">confirmed, 5th percentile</th><th scope=\"col\">confirmed, median</th><th scope=\"col\">confirmed, 95th percentile</th><th scope=\"col\">confirmed, 99th percentile</th><th scope=\"col\">last confirmed, 5th percentile</th><th scope=\"col\">last confirmed, median</th><th scope=\"col\">last confirmed, 95th percentile</th><th scope=\"col\">last confirmed, greatest</th></tr></thead><tbody>"
 
 -- the rows of a line
-unfoldable pub line_rows : List KeyValues → List CaseSummary → KeyLines → ℕ → List SettingValue → ℕ → List ℕ
-line_rows settings cases k key values line = flat_map (line_row settings cases k key values line) (range_with_len 0 (length values))
+unfoldable pub line_rows : List KeyValues → List CaseSummary → KeyLines → ℕ → List KeyValues → ℕ → List ℕ
+line_rows settings cases k key axis line = flat_map (key_row settings cases k key axis line) (range_with_len 0 (place_count axis))
 
--- the figures of a key in numbers, folded
-unfoldable pub key_table : List KeyValues → List CaseSummary → KeyLines → ℕ → List SettingValue → List ℕ
-key_table settings cases k key values =
-    key_heads ++ flat_map (line_rows settings cases k key values) (range_with_len 0 k.lines) ++ markup (codes "</tbody></table></div></details>")
+-- the figures of an axis in numbers, folded
+unfoldable pub key_table : List KeyValues → List CaseSummary → KeyLines → ℕ → List KeyValues → List ℕ
+key_table settings cases k key axis =
+    key_heads ++ flat_map (line_rows settings cases k key axis) (range_with_len 0 k.lines) ++ markup (codes "</tbody></table></div></details>")
 
 -- by which name a key's figure is found
 abbrev pub key_id : ℕ → List ℕ
 key_id key = codes "key-" ++ decimal key
 
 -- what it is called
-abbrev pub key_heading : KeyValues → List ℕ
-key_heading setting = codes "What " ++ key_name setting.key ++ codes " changes"
+abbrev pub key_heading : List KeyValues → List ℕ
+key_heading axis = codes "What " ++ names_text axis ++ codes " changes"
 
 -- what its plots show, in words
 unfoldable pub marks_words : List ℕ
 marks_words = codes "<p class=\"soft\">Up: ticks since the crash. Each dot is a median over all crashes of all runs, and its bar goes from the 5th to the 95th percentile. A crash that wasn't detected counts as later than any: where more than 5&nbsp;% weren't, the bar goes to the top of the plot; where more than half weren't, there is no dot.</p>"
 
 -- it begins
-unfoldable pub key_opening : ℕ → KeyValues → List ℕ
-key_opening key setting = figure_opening (key_id key) (key_heading setting) ++ marks_words
+unfoldable pub key_opening : ℕ → List KeyValues → List ℕ
+key_opening key axis = figure_opening (key_id key) (key_heading axis) ++ marks_words
 
 -- its charts
-unfoldable pub key_charts : List CaseSummary → KeyLines → List SettingValue → List ℕ
-key_charts cases k values =
-    markup (codes "<div class=\"many\">") ++ key_chart cases k values Suspected ++ key_chart cases k values Confirmed ++ key_chart cases k values Last ++ markup (codes "</div>")
+unfoldable pub key_charts : List CaseSummary → KeyLines → List KeyValues → List ℕ
+key_charts cases k axis =
+    markup (codes "<div class=\"many\">") ++ key_chart cases k axis Suspected ++ key_chart cases k axis Confirmed ++ key_chart cases k axis Last ++ markup (codes "</div>")
 
--- the figure of a key with these lines, which stands at a place: what the lines are, the charts, and the same in numbers
-unfoldable pub key_figure : List KeyValues → List CaseSummary → KeyLines → ℕ → KeyValues → List ℕ
-key_figure settings cases k key setting =
-    key_opening key setting ++ legend settings k key ++ key_charts cases k setting.values ++ key_table settings cases k key setting.values ++ figure_end
+-- the figure of an axis with these lines, whose first key stands at a place: what the lines are, the charts, and the same in numbers
+unfoldable pub key_figure : List KeyValues → List CaseSummary → KeyLines → ℕ → List KeyValues → List ℕ
+key_figure settings cases k key axis =
+    key_opening key axis ++ legend settings k key ++ key_charts cases k axis ++ key_table settings cases k key axis ++ figure_end
 
 -- the lines over it: what stands for each value of the keys before is shared out among its own
-abbrev pub lines_of : List KeyValues → List CaseSummary → ℕ → KeyValues → KeyLines
-lines_of settings cases key setting = key_lines (length setting.values) (shared_out (length cases) (take key settings) / max (length setting.values) 1) (length cases)
+abbrev pub lines_of : List KeyValues → List CaseSummary → ℕ → List KeyValues → KeyLines
+lines_of settings cases key axis =
+    key_lines (length axis) (place_count axis) (shared_out (length cases) (take key settings) / max (place_count axis) 1) (length cases)
 
--- a figure, where the key has more values than one
-unfoldable pub key_figure_of : List KeyValues → List CaseSummary → ℕ → KeyValues → List ℕ
-key_figure_of settings cases key setting = if nat_le 2 (length setting.values) then key_figure settings cases (lines_of settings cases key setting) key setting else []
+-- a figure, where the axis has more values than one
+unfoldable pub key_figure_of : List KeyValues → List CaseSummary → ℕ → List KeyValues → List ℕ
+key_figure_of settings cases key axis = if nat_le 2 (place_count axis) then key_figure settings cases (lines_of settings cases key axis) key axis else []
 
--- that of the key at a place
-unfoldable pub key_figure_at : List KeyValues → List CaseSummary → ℕ → List ℕ
-key_figure_at settings cases key = option_map_or (key_figure_of settings cases key) (slice_get settings key) []
+-- those of axes, the first of which begins at the key at a place
+abbrev pub figures_from : List KeyValues → List CaseSummary → ℕ → List (List KeyValues) → List ℕ
+figures_from settings cases key [] = []
+figures_from settings cases key (axis ∷ axes) = key_figure_of settings cases key axis ++ figures_from settings cases (key + length axis) axes
 
--- the figures of all keys
+-- the figures of all axes
 unfoldable pub key_figures : List KeyValues → List CaseSummary → List ℕ
-key_figures settings cases = flat_map (key_figure_at settings cases) (range_with_len 0 (length settings))
+key_figures settings cases = figures_from settings cases 0 (axes_of settings)

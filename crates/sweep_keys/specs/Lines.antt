@@ -1,6 +1,6 @@
--- The cases that differ in one key alone, as lines over its values.
-use Rattle.std.specs.Prelude.{ℕ, ◌+◌, ◌-◌, ◌*◌, ◌/◌, ◌%◌, ◌^◌, min, max, List, Option, codes, fold, length}
-use Rattle.cases.specs.Sweep.{KeyValues}
+-- The cases that differ in one axis alone, which is a key or keys that go together, as lines over its values.
+use Rattle.std.specs.Prelude.{ℕ, ◌+◌, ◌-◌, ◌*◌, ◌/◌, ◌%◌, ◌^◌, min, max, List, Option, codes, fold}
+use Rattle.cases.specs.Sweep.{KeyValues, choice_count}
 use Rattle.figures.specs.declared.summary.CaseSummary.{CaseSummary}
 use Rattle.sweep_keys.specs.declared.lines.KeyLines.{KeyLines}
 use Rattle.sweep_keys.specs.declared.statistic.Statistic.{Statistic}
@@ -10,13 +10,13 @@ use Rattle.sweep_keys.specs.declared.statistic.Statistic.TheVariants.{Suspected,
 abbrev pub held : ℕ → ℕ
 held n = min n (2 ^ 64 - 1)
 
--- how many cases stand for each value that the keys so far have together: all cases, shared out among the values of each key
+-- how many cases stand for each choice that the keys so far leave: all cases, shared out among the choices of each key
 abbrev pub shared_out : ℕ → List KeyValues → ℕ
-shared_out cases settings = fold (λ left (s : KeyValues). left / max (length s.values) 1) cases settings
+shared_out cases settings = fold (λ left (s : KeyValues). left / max (choice_count s) 1) cases settings
 
--- the lines over a key of so many values, where each of these values stands for so many cases of the keys after it, among all cases: eight at most
-unfoldable pub key_lines : ℕ → ℕ → ℕ → KeyLines
-key_lines values after cases = record { values = values; after = after; lines = min (cases / max values 1) 8 }
+-- the lines over an axis of so many keys with so many values, where each of these values stands for so many cases of the keys after it, among all cases: eight at most
+unfoldable pub key_lines : ℕ → ℕ → ℕ → ℕ → KeyLines
+key_lines keys values after cases = record { keys = keys; values = values; after = after; lines = min (cases / max values 1) 8 }
 
 -- the place among all cases of a line's case with the value at a place: values come again each time that the keys before them change
 unfoldable pub case_place : KeyLines → ℕ → ℕ → ℕ

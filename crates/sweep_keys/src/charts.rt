@@ -1,14 +1,15 @@
 //! The plots of a key: a statistic over its values, a line for each choice of the other keys.
-ghost use Rattle.std.specs.Prelude.{◌≡◌, ◌<◌, ◌^◌, ◌++◌, OnOk, length};
+ghost use Rattle.std.specs.Prelude.{◌≡◌, ◌<◌, ◌^◌, ◌++◌, OnOk};
 ghost use Rattle.std.specs.List.{flat_map, range_with_len};
 ghost use Rattle.std.specs.String.{string_bytes};
+ghost use Rattle.cases.specs.Axes.{place_count};
 ghost use Rattle.sweep_keys.specs.Keys.{greatest_in, greatest_over, greatest_of, greatest_of_all, plot_height, line_over, value_word, value_at, values_under, chart_opening, lines_words, lines_opening, lines_plane, key_chart};
 
 use crate::line::{Plot, case_over, push_line};
 use crate::lines::{KeyLines, middle};
 use crate::statistic::Statistic;
 use base::Memory;
-use cases::SettingValue;
+use cases::{Setting, place_count, values_text};
 use drawing::{close_plot, open_plot, push_escaped, push_markup, push_place, push_up};
 use figures::CaseSummary;
 use std::alloc::{AllocError, Global};
@@ -22,12 +23,12 @@ pub(crate) fn push_chart(
     alloc: Global,
     text: &mut String,
     cases: &[CaseSummary],
-    values: &[SettingValue],
+    axis: &[Setting],
     lines: &KeyLines,
     statistic: Statistic,
 ) -> Result<(), Memory>
     ensures { OnOk result (string_bytes text.new ≡ string_bytes text.old
-        ++ key_chart cases.now lines.now values.now statistic) }
+        ++ key_chart cases.now lines.now axis.now statistic) }
 {
     let most = plot_height(cases, lines, statistic);
     push_chart_opening(text, statistic)?;
@@ -39,7 +40,7 @@ pub(crate) fn push_chart(
         most,
     };
     push_plane(text, &plot)?;
-    push_values(alloc, text, values, lines)?;
+    push_values(alloc, text, axis, lines)?;
     push_markup(text, "</div></div>")?;
     Ok(())
 }
@@ -170,13 +171,13 @@ fn greatest_in(statistic: Statistic, case: &CaseSummary) -> u64
 fn push_values(
     alloc: Global,
     text: &mut String,
-    values: &[SettingValue],
+    axis: &[Setting],
     lines: &KeyLines,
 ) -> Result<(), Memory>
-    ensures { OnOk result (string_bytes text.new ≡ string_bytes text.old ++ values_under lines.now values.now) }
+    ensures { OnOk result (string_bytes text.new ≡ string_bytes text.old ++ values_under lines.now axis.now) }
 {
     push_markup(text, "<div class=\"values\" aria-hidden=\"true\">")?;
-    push_all_values(alloc, text, values, lines)?;
+    push_all_values(alloc, text, axis, lines)?;
     push_markup(text, "</div>")?;
     Ok(())
 }
@@ -185,51 +186,48 @@ fn push_values(
 fn push_all_values(
     alloc: Global,
     text: &mut String,
-    values: &[SettingValue],
+    axis: &[Setting],
     lines: &KeyLines,
 ) -> Result<(), Memory>
     ensures { OnOk result (string_bytes text.new ≡ string_bytes text.old
-        ++ flat_map (value_at lines.now values.now) (range_with_len 0 (length values.now))) }
+        ++ flat_map (value_at lines.now axis.now) (range_with_len 0 (place_count axis.now))) }
 {
-    for place in 0..values.len() {
-        push_value_at(alloc, text, values, lines, place)?;
+    for place in 0..place_count(axis) {
+        push_value_at(alloc, text, axis, lines, place)?;
     }
     Ok(())
 }
 
-/// Appends the value at a place, where it is one of those that are shown.
+/// Appends the values at a place, where they are among those that are shown.
 #[tactic(auto, unfolding(crate::specs::Keys::value_at))]
 fn push_value_at(
     alloc: Global,
     text: &mut String,
-    values: &[SettingValue],
+    axis: &[Setting],
     lines: &KeyLines,
     place: usize,
 ) -> Result<(), Memory>
-    ensures { OnOk result (string_bytes text.new ≡ string_bytes text.old ++ value_at lines.now values.now place) }
+    ensures { OnOk result (string_bytes text.new ≡ string_bytes text.old ++ value_at lines.now axis.now place) }
 {
     let each = lines.values / 8 + 1;
     if place % each != 0 {
         return Ok(());
     }
-    match values.get(place) {
-        Some(value) => push_value(alloc, text, *value, lines, place),
-        None => Ok(()),
-    }
+    push_value(alloc, text, axis, lines, place)
 }
 
-/// Appends a value in the middle of its room.
+/// Appends the values at a place in the middle of their room.
 #[tactic(auto, unfolding(crate::specs::Keys::value_word))]
 fn push_value(
     alloc: Global,
     text: &mut String,
-    value: SettingValue,
+    axis: &[Setting],
     lines: &KeyLines,
     place: usize,
 ) -> Result<(), Memory>
-    ensures { OnOk result (string_bytes text.new ≡ string_bytes text.old ++ value_word lines.now place value) }
+    ensures { OnOk result (string_bytes text.new ≡ string_bytes text.old ++ value_word lines.now axis.now place) }
 {
-    let words = value.text(alloc)?;
+    let words = values_text(alloc, axis, place)?;
     push_markup(text, "<span style=\"left:")?;
     push_place(text, middle(place), lines.width())?;
     push_markup(text, "\">")?;

@@ -1,7 +1,8 @@
-//! What each key that is set changes.
+//! What each key that is set changes, or keys that go together.
 ghost use Rattle.std.specs.Prelude.{◌≡◌, ◌++◌, IfOk, OnOk};
 ghost use Rattle.std.specs.String.{string_bytes};
-ghost use Rattle.sweep_keys.specs.Keys.{key_id, key_heading, marks_words, key_opening, key_charts, key_figure, key_figure_of, key_figure_at, key_figures, lines_of};
+ghost use Rattle.sweep_keys.specs.Keys.{key_id, key_heading, marks_words, key_opening, key_charts, key_figure, key_figure_of, figures_from, key_figures, lines_of};
+ghost use Rattle.cases.specs.Axes.{axes_of};
 
 use crate::charts::push_chart;
 use crate::legend::push_legend;
@@ -9,12 +10,12 @@ use crate::lines::{KeyLines, shared_out};
 use crate::rows::push_rows;
 use crate::statistic::Statistic;
 use base::Memory;
-use cases::{Plan, Setting, SettingValue};
+use cases::{Plan, Setting, axis_end, names_text, place_count};
 use drawing::{close_figure, open_figure, push_markup};
 use figures::CaseSummary;
 use std::alloc::{AllocError, Global};
 
-/// Appends a figure for each key that has more values than one. It takes the summary of each case
+/// Appends a figure for each key that has more values than one, and one for keys that go together. It takes the summary of each case
 /// of the plan, in their order, and fails only where memory is refused.
 #[tactic(auto, unfolding(crate::specs::Keys::key_figures))]
 pub fn push_keys(
@@ -25,31 +26,29 @@ pub fn push_keys(
 ) -> Result<(), Memory>
     ensures { OnOk result (string_bytes text.new ≡ string_bytes text.old ++ key_figures plan.now.settings cases.now) }
 {
-    for key in 0..plan.settings().len() {
-        push_key_at(alloc, text, plan, cases, key)?;
-    }
-    Ok(())
+    push_axes(alloc, text, plan, cases, plan.settings())
 }
 
-/// Appends the figure of the key at a place, where it has more values than one.
-#[tactic(auto, unfolding(crate::specs::Keys::key_figure_at))]
-fn push_key_at(
+/// Appends the figures of the axes of settings.
+fn push_axes(
     alloc: Global,
     text: &mut String,
     plan: &Plan,
     cases: &[CaseSummary],
-    key: usize,
+    settings: &[Setting],
 ) -> Result<(), Memory>
-    ensures { OnOk result (string_bytes text.new ≡ string_bytes text.old ++ key_figure_at plan.now.settings cases.now key) }
+    ensures { OnOk result (string_bytes text.new ≡ string_bytes text.old ++ figures_from plan.now.settings cases.now 0 (axes_of settings.now)) }
 {
-    let settings = plan.settings();
-    match settings.get(key) {
-        Some(setting) => push_key(alloc, text, plan, cases, key, setting),
-        None => Ok(()),
+    let mut from = 0;
+    while from < settings.len() {
+        let end = axis_end(settings, from);
+        push_key(alloc, text, plan, cases, from, &settings[from..end])?;
+        from = end;
     }
+    Ok(())
 }
 
-/// Appends the figure of a key, where it has more values than one.
+/// Appends the figure of an axis, where it has more values than one.
 #[tactic(auto, unfolding(crate::specs::Keys::key_figure_of))]
 fn push_key(
     alloc: Global,
@@ -57,29 +56,29 @@ fn push_key(
     plan: &Plan,
     cases: &[CaseSummary],
     key: usize,
-    setting: &Setting,
+    axis: &[Setting],
 ) -> Result<(), Memory>
     ensures { OnOk result (string_bytes text.new ≡ string_bytes text.old
-        ++ key_figure_of plan.now.settings cases.now key setting.now) }
+        ++ key_figure_of plan.now.settings cases.now key axis.now) }
 {
-    if setting.values().len() < 2 {
+    if place_count(axis) < 2 {
         return Ok(());
     }
-    let lines = lines_of(plan.settings(), cases, key, setting);
-    push_figure(alloc, text, plan, cases, key, setting, &lines)
+    let lines = lines_of(plan.settings(), cases, key, axis);
+    push_figure(alloc, text, plan, cases, key, axis, &lines)
 }
 
-/// The lines over a key.
-fn lines_of(settings: &[Setting], cases: &[CaseSummary], key: usize, setting: &Setting) -> KeyLines
-    ensures { result ≡ lines_of settings.now cases.now key setting.now }
+/// The lines over an axis.
+fn lines_of(settings: &[Setting], cases: &[CaseSummary], key: usize, axis: &[Setting]) -> KeyLines
+    ensures { result ≡ lines_of settings.now cases.now key axis.now }
 {
     let keys_before = &settings[..key.min(settings.len())];
-    let values = setting.values().len();
+    let values = place_count(axis);
     let after = shared_out(cases.len(), keys_before) / values.max(1);
-    KeyLines::new(values, after, cases.len())
+    KeyLines::new(axis.len(), values, after, cases.len())
 }
 
-/// Appends the figure of a key.
+/// Appends the figure of an axis.
 #[tactic(auto, unfolding(crate::specs::Keys::key_figure))]
 fn push_figure(
     alloc: Global,
@@ -87,33 +86,32 @@ fn push_figure(
     plan: &Plan,
     cases: &[CaseSummary],
     key: usize,
-    setting: &Setting,
+    axis: &[Setting],
     lines: &KeyLines,
 ) -> Result<(), Memory>
     ensures { OnOk result (string_bytes text.new ≡ string_bytes text.old
-        ++ key_figure plan.now.settings cases.now lines.now key setting.now) }
+        ++ key_figure plan.now.settings cases.now lines.now key axis.now) }
 {
-    let values = setting.values();
-    push_opening(alloc, text, key, setting)?;
+    push_opening(alloc, text, key, axis)?;
     push_legend(alloc, text, plan, key, lines)?;
-    push_charts(alloc, text, cases, values, lines)?;
-    push_rows(alloc, text, plan, cases, key, values, lines)?;
+    push_charts(alloc, text, cases, axis, lines)?;
+    push_rows(alloc, text, plan, cases, key, axis, lines)?;
     close_figure(text)?;
     Ok(())
 }
 
-/// Begins the figure of a key by its name, and by what its plots show.
+/// Begins the figure of an axis by its name, and by what its plots show.
 #[tactic(auto, unfolding(crate::specs::Keys::key_opening))]
 fn push_opening(
     alloc: Global,
     text: &mut String,
     key: usize,
-    setting: &Setting,
+    axis: &[Setting],
 ) -> Result<(), Memory>
-    ensures { OnOk result (string_bytes text.new ≡ string_bytes text.old ++ key_opening key setting.now) }
+    ensures { OnOk result (string_bytes text.new ≡ string_bytes text.old ++ key_opening key axis.now) }
 {
     let id = key_id(alloc, key)?;
-    let heading = key_heading(alloc, setting)?;
+    let heading = key_heading(alloc, axis)?;
     open_figure(text, id.as_str(), heading.as_str())?;
     push_marks_words(text)?;
     Ok(())
@@ -139,11 +137,11 @@ fn key_id(alloc: Global, key: usize) -> Result<String, Memory>
     Ok(format!(in alloc; "key-{key}")?)
 }
 
-/// What the figure of a key is called.
-fn key_heading(alloc: Global, setting: &Setting) -> Result<String, Memory>
-    ensures { IfOk result (λ heading. string_bytes heading ≡ key_heading setting.now) }
+/// What the figure of an axis is called.
+fn key_heading(alloc: Global, axis: &[Setting]) -> Result<String, Memory>
+    ensures { IfOk result (λ heading. string_bytes heading ≡ key_heading axis.now) }
 {
-    let name = setting.key().name(alloc)?;
+    let name = names_text(alloc, axis)?;
     Ok(format!(in alloc; "What {name} changes")?)
 }
 
@@ -153,15 +151,15 @@ fn push_charts(
     alloc: Global,
     text: &mut String,
     cases: &[CaseSummary],
-    values: &[SettingValue],
+    axis: &[Setting],
     lines: &KeyLines,
 ) -> Result<(), Memory>
-    ensures { OnOk result (string_bytes text.new ≡ string_bytes text.old ++ key_charts cases.now lines.now values.now) }
+    ensures { OnOk result (string_bytes text.new ≡ string_bytes text.old ++ key_charts cases.now lines.now axis.now) }
 {
     push_markup(text, "<div class=\"many\">")?;
-    push_chart(alloc, text, cases, values, lines, Statistic::Suspected)?;
-    push_chart(alloc, text, cases, values, lines, Statistic::Confirmed)?;
-    push_chart(alloc, text, cases, values, lines, Statistic::Last)?;
+    push_chart(alloc, text, cases, axis, lines, Statistic::Suspected)?;
+    push_chart(alloc, text, cases, axis, lines, Statistic::Confirmed)?;
+    push_chart(alloc, text, cases, axis, lines, Statistic::Last)?;
     push_markup(text, "</div>")?;
     Ok(())
 }

@@ -60,7 +60,7 @@ fn push_entry(
 {
     let first = lines.place(line, 0);
     push_sample(text, line)?;
-    push_others_at(alloc, text, plan, key, first)?;
+    push_others_at(alloc, text, plan, key, lines.keys, first)?;
     push_markup(text, "</code></li>")?;
     Ok(())
 }
@@ -101,32 +101,33 @@ fn push_more(text: &mut String, more: usize) -> Result<(), AllocError>
     )
 }
 
-/// Appends the settings of the case at a place without one of its keys.
+/// Appends the settings of the case at a place without so many of its keys.
 #[tactic(auto, unfolding(crate::specs::Keys::others_at))]
 pub(crate) fn push_others_at(
     alloc: Global,
     text: &mut String,
     plan: &Plan,
     key: usize,
+    keys: usize,
     place: usize,
 ) -> Result<(), Memory>
-    ensures { OnOk result (string_bytes text.new ≡ string_bytes text.old ++ others_at plan.now.settings key place) }
+    ensures { OnOk result (string_bytes text.new ≡ string_bytes text.old ++ others_at plan.now.settings key keys place) }
 {
     if place >= plan.cases() {
         return Ok(());
     }
     let chosen = plan.case_at(alloc, place)?;
-    let others = without(alloc, &chosen, key)?;
+    let others = without(alloc, &chosen, key, keys)?;
     push_others(alloc, text, &others)?;
     Ok(())
 }
 
-/// The choices of a case without that of the key at a place.
-fn without(alloc: Global, chosen: &[Choice], key: usize) -> Result<Vec<Choice>, Memory>
-    ensures { IfOk result (λ others. others.items ≡ without key chosen.now) }
+/// The choices of a case without those of so many keys from a place on.
+fn without(alloc: Global, chosen: &[Choice], key: usize, keys: usize) -> Result<Vec<Choice>, Memory>
+    ensures { IfOk result (λ others. others.items ≡ without key keys chosen.now) }
 {
     let before = key.min(chosen.len());
-    let after = key.saturating_add(1).min(chosen.len());
+    let after = key.saturating_add(keys).min(chosen.len());
     let mut others = Vec::new(alloc);
     others.extend_from_slice(&chosen[..before])?;
     others.extend_from_slice(&chosen[after..])?;

@@ -1,4 +1,4 @@
-//! The cases that differ in one key alone, as lines over its values.
+//! The cases that differ in one axis alone, as lines over its values.
 ghost use Rattle.std.specs.Prelude.{◌≡◌};
 ghost use Rattle.sweep_keys.specs.Lines.{key_lines, case_place, width, middle, across, shared_out};
 
@@ -14,6 +14,8 @@ const ROOM: u64 = 32;
 /// change, and each value stays while the keys after it take all of theirs.
 #[derive(Clone, Copy)]
 pub struct KeyLines {
+    /// How many keys go together: one where it is a key alone.
+    pub keys: usize,
     /// How many values the key has.
     pub values: usize,
     /// How many cases the keys after it make.
@@ -23,13 +25,14 @@ pub struct KeyLines {
 }
 
 impl KeyLines {
-    /// The lines over a key of so many values, of so many cases.
+    /// The lines over so many keys of so many values, of so many cases.
     #[tactic(auto, unfolding(crate::specs::Lines::key_lines))]
-    pub(crate) fn new(values: usize, after: usize, cases: usize) -> KeyLines
-        ensures { result ≡ key_lines values after cases }
+    pub(crate) fn new(keys: usize, values: usize, after: usize, cases: usize) -> KeyLines
+        ensures { result ≡ key_lines keys values after cases }
     {
         let lines = (cases / values.max(1)).min(MOST_LINES);
         KeyLines {
+            keys,
             values,
             after,
             lines,
@@ -77,13 +80,13 @@ pub(crate) fn middle(value: usize) -> u64
     (value as u64).saturating_mul(ROOM).saturating_add(ROOM / 2)
 }
 
-/// How many of so many cases stand for each value that these keys have together.
+/// How many of so many cases stand for each choice that these keys leave.
 pub(crate) fn shared_out(cases: usize, settings: &[Setting]) -> usize
     ensures { result ≡ shared_out cases settings.now }
 {
     let mut left = cases;
     for setting in settings {
-        left /= setting.values().len().max(1);
+        left /= setting.choice_count().max(1);
     }
     left
 }

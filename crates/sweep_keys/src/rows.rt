@@ -2,14 +2,14 @@
 ghost use Rattle.std.specs.Prelude.{◌≡◌, ◌++◌, OnOk, length};
 ghost use Rattle.std.specs.List.{flat_map, range_with_len};
 ghost use Rattle.std.specs.String.{string_bytes};
-ghost use Rattle.sweep_keys.specs.Keys.{drawn_times, times_of, times_over, key_row, key_heads, line_row, line_rows, key_table};
+ghost use Rattle.sweep_keys.specs.Keys.{drawn_times, times_of, times_over, key_row, key_heads, line_rows, key_table};
 
 use crate::legend::push_others_at;
 use crate::line::case_over;
 use crate::lines::KeyLines;
 use crate::statistic::Statistic;
 use base::Memory;
-use cases::{Plan, SettingValue};
+use cases::{Plan, Setting, place_count, values_text};
 use drawing::push_markup;
 use figures::CaseSummary;
 use std::alloc::{AllocError, Global};
@@ -22,10 +22,10 @@ struct Table<'a> {
     plan: &'a Plan,
     /// All its cases, in their order.
     cases: &'a [CaseSummary],
-    /// The key's place among those that are set.
+    /// The first key's place among those that are set.
     key: usize,
-    /// Its values.
-    values: &'a [SettingValue],
+    /// The keys that go together.
+    axis: &'a [Setting],
     /// The lines over these.
     lines: KeyLines,
 }
@@ -38,17 +38,17 @@ pub(crate) fn push_rows(
     plan: &Plan,
     cases: &[CaseSummary],
     key: usize,
-    values: &[SettingValue],
+    axis: &[Setting],
     lines: &KeyLines,
 ) -> Result<(), Memory>
     ensures { OnOk result (string_bytes text.new ≡ string_bytes text.old
-        ++ key_table plan.now.settings cases.now lines.now key values.now) }
+        ++ key_table plan.now.settings cases.now lines.now key axis.now) }
 {
     let table = Table {
         plan,
         cases,
         key,
-        values,
+        axis,
         lines: *lines,
     };
     push_heads(text)?;
@@ -85,7 +85,7 @@ fn push_heads(text: &mut String) -> Result<(), AllocError>
 /// Appends the rows of each line.
 fn push_lines(alloc: Global, text: &mut String, table: &Table<'_>) -> Result<(), Memory>
     ensures { OnOk result (string_bytes text.new ≡ string_bytes text.old
-        ++ flat_map (line_rows table.now.plan.now.settings table.now.cases.now table.now.lines table.now.key table.now.values.now)
+        ++ flat_map (line_rows table.now.plan.now.settings table.now.cases.now table.now.lines table.now.key table.now.axis.now)
         (range_with_len 0 table.now.lines.lines)) }
 {
     for line in 0..table.lines.lines {
@@ -103,34 +103,15 @@ fn push_line_rows(
     line: usize,
 ) -> Result<(), Memory>
     ensures { OnOk result (string_bytes text.new ≡ string_bytes text.old
-        ++ line_rows table.now.plan.now.settings table.now.cases.now table.now.lines table.now.key table.now.values.now line) }
+        ++ line_rows table.now.plan.now.settings table.now.cases.now table.now.lines table.now.key table.now.axis.now line) }
 {
-    for place in 0..table.values.len() {
-        push_row_at(alloc, text, table, line, place)?;
+    for place in 0..place_count(table.axis) {
+        push_row(alloc, text, table, line, place)?;
     }
     Ok(())
 }
 
-/// Appends the row of a line's case with the value at a place.
-#[tactic(auto, unfolding(crate::specs::Keys::line_row))]
-fn push_row_at(
-    alloc: Global,
-    text: &mut String,
-    table: &Table<'_>,
-    line: usize,
-    place: usize,
-) -> Result<(), Memory>
-    ensures { OnOk result (string_bytes text.new ≡ string_bytes text.old
-        ++ line_row table.now.plan.now.settings table.now.cases.now table.now.lines table.now.key table.now.values.now line place) }
-{
-    let values = table.values;
-    match values.get(place) {
-        Some(value) => push_row(alloc, text, table, line, place, *value),
-        None => Ok(()),
-    }
-}
-
-/// Appends the row of a line's case with this value.
+/// Appends the row of a line's case with the values at a place.
 #[tactic(auto, unfolding(crate::specs::Keys::key_row))]
 fn push_row(
     alloc: Global,
@@ -138,12 +119,11 @@ fn push_row(
     table: &Table<'_>,
     line: usize,
     place: usize,
-    value: SettingValue,
 ) -> Result<(), Memory>
     ensures { OnOk result (string_bytes text.new ≡ string_bytes text.old
-        ++ key_row table.now.plan.now.settings table.now.cases.now table.now.lines table.now.key line place value) }
+        ++ key_row table.now.plan.now.settings table.now.cases.now table.now.lines table.now.key table.now.axis.now line place) }
 {
-    let words = value.text(alloc)?;
+    let words = values_text(alloc, table.axis, place)?;
     push_markup(text, "<tr>")?;
     push_cell(text, words.as_str())?;
     push_markup(text, "<td>")?;
@@ -152,6 +132,7 @@ fn push_row(
         text,
         table.plan,
         table.key,
+        table.lines.keys,
         table.lines.place(line, place),
     )?;
     push_markup(text, "</td>")?;

@@ -1,26 +1,26 @@
-use Rattle.std.proofs.Common.{◌≡◌, ◌++◌, ◌+◌, ◌∷◌, [], ℕ, List, Bor, map, take, true, false, rules, sym, ap, subst, ◌∙◌}
-use Rattle.std.specs.List.{list_any}
-use Rattle.cases.specs.Keys.{is_same}
-use Rattle.cases.specs.Asked.{AreSettings}
-use Rattle.cases.proofs.Gathered.{refused_at, gathered_more, set_twice}
+use Rattle.std.proofs.Common.{◌+◌, ℕ, List, Bor, map, take, sym, subst}
+use Rattle.std.proofs.lemmas.List.Elements.{All-append}
+use Rattle.cases.specs.Asked.{AreAxes, IsSetting}
+use Rattle.cases.proofs.Gathered.{gathered_more, refused_at, refused_more}
 use Rattle.cases.proofs.plan.read_settings.Goals as goal
 
 pub returns-in-Err-clause-refused : goal.returns-in-Err-clause-refused
 returns-in-Err-clause-refused c = refused_at c.args.words.now c.loop-word.word-index _ c.loop-word-test.true c.in-Err.fault c.in-Err.ensures.refused
 
+pub push_axis-requires : goal.push_axis-requires
+push_axis-requires c = record { known = All-append IsSetting c.loop-word.settings.items c.in-Ok.axis.items c.loop-word.invariant.axes.sound c.in-Ok.ensures.read.sound }
+
 pub loop-word-preserved : goal.loop-word-preserved
 loop-word-preserved c =
     let settings = c.loop-word.settings.items in
-    let s = c.in-Ok.setting in
-    let new : list_any (λ t. is_same s.key t.key) settings ≡ false =
-    ap (λ k. list_any (λ t. is_same k t.key) settings) (sym c.key.ensures) ∙ ap (λ l. list_any (λ t. is_same c.key.result t.key) l) (sym c.deref.ensures.value) ∙ sym c.is_set.ensures ∙ c.if-is_set.false in
-    let pushed : c.push.new.self.items ≡ settings ++ s ∷ [] = search rules in
-    subst (AreSettings (map (λ (word : Bor (List ℕ)). word.now) (take (c.loop-word.word-index + 1) c.args.words.now))) (sym pushed) (gathered_more c.args.words.now c.loop-word.word-index _ c.loop-word-test.true settings s c.loop-word.invariant c.in-Ok.ensures.read new)
+    let axis = c.in-Ok.axis.items in
+    let more = gathered_more c.args.words.now c.loop-word.word-index _ c.loop-word-test.true settings axis c.loop-word.invariant.axes c.in-Ok.ensures.read in
+    record {
+      axes = subst (AreAxes (map (λ (word : Bor (List ℕ)). word.now) (take (c.loop-word.word-index + 1) c.args.words.now))) (sym c.in_default.ensures.added) more;
+      once = c.in_default.ensures.once c.loop-word.invariant.once;
+    }
 
-pub returns-then-is_set-clause-refused : goal.returns-then-is_set-clause-refused
-returns-then-is_set-clause-refused c ts are =
-    let settings = c.loop-word.settings.items in
-    let s = c.in-Ok.setting in
-    let twice : list_any (λ t. is_same s.key t.key) settings ≡ true =
-    ap (λ k. list_any (λ t. is_same k t.key) settings) (sym c.key.ensures) ∙ ap (λ l. list_any (λ t. is_same c.key.result t.key) l) (sym c.deref.ensures.value) ∙ sym c.is_set.ensures ∙ c.if-is_set.true in
-    set_twice c.args.words.now c.loop-word.word-index _ c.loop-word-test.true settings s c.loop-word.invariant c.in-Ok.ensures.read twice ts are
+pub returns-in-Err-push_axis-clause-refused : goal.returns-in-Err-push_axis-clause-refused
+returns-in-Err-push_axis-clause-refused c =
+    refused_more c.args.words.now c.loop-word.word-index _ c.loop-word-test.true c.loop-word.settings.items c.in-Ok.axis.items c.loop-word.invariant.axes c.in-Ok.ensures.read
+    c.in-Err-push_axis.fault c.in-Err-push_axis.ensures.refused

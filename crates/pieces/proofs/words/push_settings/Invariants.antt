@@ -1,7 +1,16 @@
-use Rattle.std.proofs.Common.{◌≡◌, ◌++◌, ◌∷◌, string_bytes, take}
+use Rattle.std.proofs.Common.{◌≡◌, ◌≤◌, ◌++◌, ◌-◌, ◌∷◌, drop, length, string_bytes}
 use Rattle.std.specs.List.{flat_map}
-use Rattle.cases.specs.Asked.{setting_text}
+use Rattle.cases.specs.Axes.{axes_of}
+use Rattle.cases.specs.Asked.{axis_text}
+use Rattle.cases.specs.Sweep.{KeyValues}
 use Rattle.pieces.proofs.words.push_settings.Given as goal
 
-abbrev pub invariant-loop-setting : goal.invariant-loop-setting
-invariant-loop-setting l = string_bytes l.text ≡ string_bytes l.fn.text ++ flat_map (λ s. 32 ∷ setting_text s) (take l.setting-index l.settings)
+abbrev pub invariant-loop-from : goal.invariant-loop-from
+invariant-loop-from l =
+    record {
+      so_far : string_bytes l.text ++ flat_map (λ axis. 32 ∷ axis_text axis) (axes_of (drop l.from l.settings)) ≡ string_bytes l.fn.text ++ flat_map (λ axis. 32 ∷ axis_text axis) (axes_of l.settings);
+      within : l.from ≤ length l.settings;
+    }
+
+abbrev pub decreases-loop-from : goal.decreases-loop-from
+decreases-loop-from l = length l.settings - l.from

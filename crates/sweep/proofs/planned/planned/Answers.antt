@@ -17,4 +17,4 @@ returns-clause-run c =
     (subst (λ s. slice_get (seeds_of s) (number % c.runs_of_case-each.result) ≡ Some seed) c.seeds.ensures c.seed_at-seed.ensures.seed))
 
 pub returns-clause-fits : goal.returns-clause-fits
-returns-clause-fits c = c.in_ok-case.ensures.fits c.requires.asked.asked.settings.sound
+returns-clause-fits c = c.in_ok-case.ensures.fits c.requires.asked.asked.settings.axes.sound

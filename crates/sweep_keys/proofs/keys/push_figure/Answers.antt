@@ -4,4 +4,4 @@ use Rattle.sweep_keys.proofs.keys.push_figure.Goals as goal
 
 pub returns : goal.returns
 unfolding key_figure
-returns c = and_then _ _ _ (and_then _ _ _ (and_then _ _ _ (and_then _ _ _ c.in_ok-push_opening.ensures c.in_ok-push_legend.ensures) (rw c.values-values.ensures at c.in_ok-push_charts.ensures)) (rw c.values-values.ensures at c.in_ok-push_rows.ensures)) c.in_ok-close_figure.ensures
+returns c = and_then _ _ _ (and_then _ _ _ (and_then _ _ _ (and_then _ _ _ c.in_ok-push_opening.ensures c.in_ok-push_legend.ensures) c.in_ok-push_charts.ensures) c.in_ok-push_rows.ensures) c.in_ok-close_figure.ensures

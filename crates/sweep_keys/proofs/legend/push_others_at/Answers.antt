@@ -13,11 +13,11 @@ unfolding others_at
 returns-then-place-cases c =
     let settings = c.args.plan.now.settings in
     let past : length (cases_of settings) ≤ c.args.place = subst (λ n. n ≤ c.args.place) (c.cases.ensures ∙ sym (length-cases_of settings)) c.if-place-cases.true in
-    sym (ap (λ chosen. string_bytes c.args.text.now ++ option_map_or (λ chosen. others_words (without c.args.key chosen)) chosen []) (slice_get_past (cases_of settings) c.args.place past) ∙ append-nil _)
+    sym (ap (λ chosen. string_bytes c.args.text.now ++ option_map_or (λ chosen. others_words (without c.args.key c.args.keys chosen)) chosen []) (slice_get_past (cases_of settings) c.args.place past) ∙ append-nil _)
 
 pub returns : goal.returns
 unfolding others_at
 returns c =
     c.in_ok-push_others.ensures ∙ ap (λ w. string_bytes c.args.text.now ++ w)
-    (ap others_words (c.deref-2.ensures.value ∙ c.in_ok-others.ensures ∙ ap (without c.args.key) c.deref.ensures.value)
-    ∙ sym (ap (λ chosen. option_map_or (λ chosen. others_words (without c.args.key chosen)) chosen []) c.in_ok-chosen.ensures.case))
+    (ap others_words (c.deref-2.ensures.value ∙ c.in_ok-others.ensures ∙ ap (without c.args.key c.args.keys) c.deref.ensures.value)
+    ∙ sym (ap (λ chosen. option_map_or (λ chosen. others_words (without c.args.key c.args.keys chosen)) chosen []) c.in_ok-chosen.ensures.case))

@@ -1,8 +1,8 @@
 use Rattle.std.proofs.Common.{◌≡◌, ◌++◌}
 use Rattle.std.specs.List.{flat_map, range_with_len}
 use Rattle.std.specs.String.{string_bytes}
-use Rattle.sweep_keys.specs.Keys.{line_row}
+use Rattle.sweep_keys.specs.Keys.{key_row}
 use Rattle.sweep_keys.proofs.rows.push_line_rows.Given as goal
 
 abbrev pub invariant-loop-place : goal.invariant-loop-place
-invariant-loop-place l = string_bytes l.text ≡ string_bytes l.fn.text ++ flat_map (line_row l.table.plan.now.settings l.table.cases.now l.table.lines l.table.key l.table.values.now l.line) (range_with_len 0 l.place)
+invariant-loop-place l = string_bytes l.text ≡ string_bytes l.fn.text ++ flat_map (key_row l.table.plan.now.settings l.table.cases.now l.table.lines l.table.key l.table.axis.now l.line) (range_with_len 0 l.place)
