@@ -1,7 +1,7 @@
 use Rattle.std.specs.Fmt.{HasWritten, IsPlainFormatter}
 use Rattle.std.specs.List.{flat_map}
-use Rattle.command_line.specs.Shown.{shown_char}
-use Rattle.command_line.proofs.shown.write_name.Given as goal
+use Rattle.shown_names.specs.Shown.{shown_char}
+use Rattle.shown_names.proofs.names.write_name.Given as goal
 
 abbrev pub invariant-loop-c : goal.invariant-loop-c
 invariant-loop-c g l =

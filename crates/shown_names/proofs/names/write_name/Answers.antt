@@ -5,8 +5,8 @@ use Rattle.std.proofs.lemmas.Iterator.{YieldsList-from_chars}
 use Rattle.std.proofs.lemmas.Iterator.Consumers.{YieldsList-end}
 use Rattle.std.proofs.lemmas.List.{flat_map_more, map-id}
 use Rattle.std.specs.List.{flat_map}
-use Rattle.command_line.specs.Shown.{shown_char}
-use Rattle.command_line.proofs.shown.write_name.Goals as goal
+use Rattle.shown_names.specs.Shown.{shown_char}
+use Rattle.shown_names.proofs.names.write_name.Goals as goal
 
 pub loop-c-preserved : goal.loop-c-preserved
 loop-c-preserved g c = λ plain.

@@ -1,13 +1,23 @@
 -- What a line shows of a name.
-use Rattle.std.specs.Prelude.{ℕ, List, ◌++◌, Bool, ◌||◌, ◌==◌, false, if◌then◌else◌, codes, encode_utf8}
+use Rattle.std.specs.Prelude.{ℕ, List, ◌++◌, Bool, ◌||◌, ◌&&◌, ◌==◌, nat_le, false, if◌then◌else◌, codes, encode_utf8}
 use Rattle.std.specs.Char.{is_control}
 use Rattle.std.specs.Fmt.{digits}
 use Rattle.std.specs.List.{flat_map}
 use Rattle.std.specs.Str.{chars}
 
--- the character can end the line or change what stands there: a control character, or a separator of lines or paragraphs
+-- the number is one of those from the first to the last
+abbrev pub is_within : ℕ → ℕ → ℕ → Bool
+is_within first last c = nat_le first c && nat_le c last
+
+-- The character isn't seen where it stands: it has no width and joins or marks what stands round it, separates lines or paragraphs, turns the direction
+-- of writing, or is a tag.
+abbrev pub is_unseen : ℕ → Bool
+is_unseen c =
+    is_within 0x200b 0x200f c || is_within 0x2028 0x202e c || is_within 0x2066 0x2069 c || c == 0xfeff || is_within 0xe0000 0xe007f c
+
+-- the character can end the line or change what is seen of it
 abbrev pub breaks_line : ℕ → Bool
-breaks_line c = is_control c || (c == 0x2028 || c == 0x2029)
+breaks_line c = is_control c || is_unseen c
 
 -- its number in base 16
 abbrev pub escaped_number : ℕ → List ℕ
