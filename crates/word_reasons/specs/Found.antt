@@ -1,5 +1,5 @@
 -- Which word of a command line is wrong: what a reason says is true of the words, and by it they ask for nothing.
-use Rattle.std.specs.Prelude.{◌≡◌, ℕ, List, [], ◌∷◌, Some, None, Bool, true, ◌&&◌, ◌||◌, is_none, is_some, Contains, codes, unwrap_or}
+use Rattle.std.specs.Prelude.{◌≡◌, ℕ, List, [], ◌∷◌, Option, Some, None, Bool, true, ◌&&◌, ◌||◌, is_none, is_some, Contains, codes, option_map, unwrap_or}
 use Rattle.clap.specs.Words.{Row, Text, all_of, first_of}
 use Rattle.arguments.specs.Numbers.{IsNumber}
 use Rattle.arguments.specs.Rules.{is_given}
@@ -91,6 +91,10 @@ IsReasonOf rows (reason.Share word parts) = Contains (words_of (codes "set") row
 IsReasonOf rows (reason.Statistic word name) = Contains (words_of (codes "want") rows) word.now × WantsNothing word.now
 IsReasonOf rows reason.Runs = (sweep : Sweep) → ¬ (IsSweepOf (words_of (codes "set") rows) (first_of (codes "seeds") rows) None sweep)
 IsReasonOf rows reason.NoText = ⊥
+
+-- the same of the words of the command that was met
+abbrev pub IsReasonMet : Option (Text × List Row) → WordReason → Type 0
+IsReasonMet met reason = (rows : List Row) × (option_map (λ (p : Text × List Row). p.1) met ≡ Some rows) × IsReasonOf rows reason
 
 -- what is wrong with a word of --set
 abbrev pub IsSettingReason : Text → WordReason → Type 0

@@ -1,7 +1,9 @@
 //! Why words ask for nothing: what `clap` says of them, or what is wrong with those that it takes.
-ghost use Rattle.std.specs.Prelude.{IfOk, IfSome};
-ghost use Rattle.clap.specs.Words.{found_of, rows_of};
-ghost use Rattle.word_reasons.specs.Found.{IsReasonOf};
+ghost use Rattle.std.specs.Prelude.{IfOk, IfSome, map};
+ghost use Rattle.clap.specs.Words.{found_of, rows_of, subcommand_of, subcommand_rows_of};
+ghost use Rattle.command_line.specs.Words.{swimsim_app};
+ghost use Rattle.word_reasons.specs.Found.{IsReasonMet, IsReasonOf};
+ghost use Rattle.word_reasons.specs.Faults.{IsFaultOf};
 
 use crate::options::{join_clash, list_word, parts_word, run_clash, workers_word};
 use crate::sweeping::sweep_reason;
@@ -29,7 +31,9 @@ pub fn words_fault<'a, S: AsStr>(
     alloc: Global,
     words: &'a [S],
     failure: &Failure<'_>,
-) -> Result<Option<WordsFault<'a>>, Memory> {
+) -> Result<Option<WordsFault<'a>>, Memory>
+    ensures { IfOk result (λ fault. IfSome fault (IsFaultOf (subcommand_of swimsim_app (map S.text words.entry.now)))) }
+{
     match matches_of(alloc, words) {
         Ok(matches) => match taken_reason(alloc, &matches, failure)? {
             Some(reason) => Ok(Some(WordsFault::Taken(reason))),
@@ -47,7 +51,9 @@ fn taken_reason<'a>(
     alloc: Global,
     matches: &ArgMatches<'a>,
     failure: &Failure<'_>,
-) -> Result<Option<WordReason<'a>>, Memory> {
+) -> Result<Option<WordReason<'a>>, Memory>
+    ensures { IfOk result (λ reason. IfSome reason (IsReasonMet (subcommand_rows_of matches.now))) }
+{
     if let Some(run) = matches.subcommand_matches("run") {
         return Ok(run_reason(run, failure));
     }
