@@ -8,7 +8,7 @@ use Rattle.scenario.specs.declared.division.DivisionFault.TheVariants as divisio
 use Rattle.clap.specs.Words.{Text}
 use Rattle.base.specs.declared.fault.Fault.{Fault}
 use Rattle.base.specs.declared.fault.Fault.TheVariants as fault
-use Rattle.command_line.specs.Shown.{shown_name}
+use Rattle.shown_names.specs.Shown.{shown_name}
 use Rattle.command_line.specs.Division.{AreParts, AsksForWorkers, DivisionFails, ListFails}
 use Rattle.command_line.specs.declared.words.Split.{Split}
 use Rattle.command_line.specs.declared.failure.Failure.{Failure}

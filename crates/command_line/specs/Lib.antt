@@ -3,4 +3,3 @@ pub mod Asking
 pub mod Words
 pub mod Division
 pub mod Printed
-pub mod Shown

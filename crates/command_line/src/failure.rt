@@ -2,12 +2,12 @@
 ghost use Rattle.std.specs.Prelude.{◌≡◌, ◌≤◌, ◌++◌, Some, OnOk, codes};
 ghost use Rattle.std.specs.Io.KnownBytes.{Appends};
 ghost use Rattle.std.specs.Fmt.{WritesOnOk};
-ghost use Rattle.command_line.specs.Shown.{shown_name};
+ghost use Rattle.shown_names.specs.Shown.{shown_name};
 ghost use Rattle.command_line.specs.Failures.{status_of, message_of, failure_line, fault_number, division_number, case_settings, piece_message};
 
-use crate::shown::write_name;
 use base::Fault;
 use scenario::DivisionFault;
+use shown_names::write_name;
 use std::io::Write;
 use std::{fmt, io};
 

@@ -12,7 +12,6 @@ mod paging;
 mod printing;
 mod release;
 mod running;
-mod shown;
 mod sweeping;
 pub mod system;
 mod telling;
@@ -27,4 +26,4 @@ pub use printing::{
     print_help, print_members, print_preset, print_release, print_rows, print_text,
 };
 pub use release::Release;
-pub use words::{Asked, RunWords, Split, SweepWords, parse};
+pub use words::{Asked, RunWords, Split, SweepWords, matches_of, parse};

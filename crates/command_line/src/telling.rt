@@ -24,7 +24,7 @@ pub(crate) fn with_telling<'a>(
         so_far,
         "want",
         "STATISTIC<=N",
-        "What cases are to meet, as out<=0.01 or confirm_p99<=20000; for any number of statistics",
+        "What cases are to meet, as 'out<=0.01' or 'confirm_p99<=20000', in quotes; for any number of statistics",
     );
     let objects = and_flag(
         alloc,

@@ -175,7 +175,7 @@ fn table_asked<'a>(alloc: Global, matches: &ArgMatches<'a>) -> Result<Asked<'a>,
 }
 
 /// What `clap` makes of the words.
-fn matches_of<'a, S: AsStr>(alloc: Global, words: &'a [S]) -> Result<ArgMatches<'a>, Error>
+pub fn matches_of<'a, S: AsStr>(alloc: Global, words: &'a [S]) -> Result<ArgMatches<'a>, Error>
     ensures run { IfOk result
         (λ m. subcommand_rows_of m ≡ subcommand_of swimsim_app (map S.text words.entry.now)) }
     ensures kinds { FailsBy (fault_of swimsim_app (map S.text words.entry.now)) result }

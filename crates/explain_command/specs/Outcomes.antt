@@ -5,7 +5,7 @@ use Rattle.scenario.specs.Setup.{Setup}
 use Rattle.mistake_text.specs.Told.{TellsDocument, TellsLines}
 use Rattle.accepted.specs.Told.{TellsMeaning, TellsMeaningDocument}
 use Rattle.files.specs.Files.{KnownFile}
-use Rattle.command_line.specs.Shown.{shown_name}
+use Rattle.shown_names.specs.Shown.{shown_name}
 use Rattle.command_line.specs.declared.explaining.ExplainWords.{ExplainWords}
 use Rattle.command_line.specs.declared.failure.Failure.{Failure}
 use Rattle.command_line.specs.declared.failure.Failure.TheVariants.{Mistaken, Output}

@@ -2,11 +2,11 @@
 ghost use Rattle.std.specs.Prelude.{IfOk, string_bytes};
 ghost use Rattle.explain_command.specs.Outcomes.{TellsSetup};
 
-use crate::shown::shown;
 use accepted::{document_of, lines_of};
 use base::Memory;
 use command_line::ExplainWords;
 use scenario::Scenario;
+use shown_names::shown;
 use std::alloc::Global;
 use std::str;
 

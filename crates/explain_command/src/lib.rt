@@ -5,6 +5,5 @@
 mod accepting;
 mod answer;
 mod explaining;
-mod shown;
 
 pub use explaining::explain_file;

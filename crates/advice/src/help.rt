@@ -1,0 +1,21 @@
+//! What users read who give no words: each command in a line, and an example.
+
+/// The commands in short, and what to try.
+pub(crate) const SHORT_HELP: &str = "\
+swimsim simulates clusters of the SWIM membership protocol. Its commands:
+
+  init     prints a scenario to begin with, with a comment on each key
+  check    reads a scenario, and prints how many members it has
+  explain  tells what a scenario means, or all mistakes of one that is refused
+  run      runs a scenario, and writes its trace
+  sweep    runs a scenario by many seeds and settings, and writes a table
+  join     puts the pieces of a sweep together
+  page     makes a sweep's page of the pieces of its table
+
+To try it:
+
+  swimsim init lan > lan.toml
+  swimsim run lan.toml --trace trace.csv --page page.html
+
+swimsim --help and swimsim COMMAND --help tell more.
+";

@@ -1,0 +1,14 @@
+//! What users read below the line of a failure: why, and what to do.
+#![tactic(auto)]
+
+mod files;
+mod help;
+mod lines;
+mod names;
+mod runs;
+mod scenarios;
+mod surroundings;
+mod telling;
+
+pub use surroundings::Surroundings;
+pub use telling::tell_why;

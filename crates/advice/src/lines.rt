@@ -1,0 +1,123 @@
+//! The lines that are told below that of a failure.
+ghost use Rattle.std.specs.Prelude.{◌≡◌};
+
+use crate::files::file_reason;
+use crate::help::SHORT_HELP;
+use crate::runs::run_reason;
+use crate::scenarios::first_mistake;
+use crate::surroundings::Surroundings;
+use base::Memory;
+use command_line::{Asked, Failure, parse};
+use files::Files;
+use reasons::RunReason;
+use std::alloc::Global;
+use std::convert::AsStr;
+use std::fmt::Display;
+use word_reasons::{WordsFault, words_fault};
+
+/// What is told below the line of a failure; nothing where the line says all.
+pub(crate) fn lines_below<'a, S: AsStr, F: Files, A: Surroundings>(
+    alloc: Global,
+    surroundings: &A,
+    words: &'a [S],
+    failure: &Failure<'a>,
+    files: &mut F,
+) -> Result<String, Memory>
+    ensures same { F.known files.new ≡ F.known files.old }
+    ensures making { F.making files.new ≡ F.making files.old }
+    ensures counted { F.refused files.new ≡ F.refused files.old }
+{
+    match failure {
+        Failure::Usage | Failure::Workers | Failure::Division(_) => {
+            words_lines(alloc, words, failure)
+        }
+        Failure::File(name) => file_lines(alloc, surroundings, words, name),
+        Failure::Rule(rule) | Failure::Case { rule, .. } => {
+            scenario_lines(alloc, words, *rule, files)
+        }
+        _ => run_lines(alloc, failure),
+    }
+}
+
+/// What is wrong with the words.
+fn words_lines<'a, S: AsStr>(
+    alloc: Global,
+    words: &'a [S],
+    failure: &Failure<'a>,
+) -> Result<String, Memory> {
+    if words.is_empty() {
+        return Ok(String::from_str(alloc, SHORT_HELP)?);
+    }
+    match words_fault(alloc, words, failure)? {
+        Some(WordsFault::Refused(error)) => Ok(format!(in alloc; "{error}")?),
+        Some(WordsFault::Taken(reason)) => line_of(alloc, &reason),
+        None => Ok(String::new(alloc)),
+    }
+}
+
+/// What is wrong with the file of a name.
+fn file_lines<'a, S: AsStr, A: Surroundings>(
+    alloc: Global,
+    surroundings: &A,
+    words: &'a [S],
+    name: &'a str,
+) -> Result<String, Memory> {
+    match file_reason(alloc, surroundings, words, name)? {
+        Some(reason) => line_of(alloc, &reason),
+        None => Ok(String::new(alloc)),
+    }
+}
+
+/// What is wrong with the scenario whose file stands in the words: its first mistake, and what tells all of them. Where it has
+/// none, it is a setting that it is refused by.
+fn scenario_lines<S: AsStr, F: Files>(
+    alloc: Global,
+    words: &[S],
+    rule: u8,
+    files: &mut F,
+) -> Result<String, Memory>
+    ensures same { F.known files.new ≡ F.known files.old }
+    ensures making { F.making files.new ≡ F.making files.old }
+    ensures counted { F.refused files.new ≡ F.refused files.old }
+{
+    let Ok(asked) = parse(alloc, words) else {
+        return Ok(String::new(alloc));
+    };
+    let Some(name) = scenario_name(&asked) else {
+        return Ok(String::new(alloc));
+    };
+    let mut lines = first_mistake(alloc, name, rule, files)?;
+    let reason = if lines.is_empty() {
+        RunReason::Setting(name)
+    } else {
+        RunReason::Rule(name)
+    };
+    lines.push_str(line_of(alloc, &reason)?.as_str())?;
+    Ok(lines)
+}
+
+/// The name of the file whose scenario a command runs or checks.
+fn scenario_name<'a>(asked: &Asked<'a>) -> Option<&'a str> {
+    match asked {
+        Asked::Run(words) => Some(words.file),
+        Asked::Check(file) => Some(*file),
+        Asked::Sweep(words) => Some(words.file),
+        _ => None,
+    }
+}
+
+/// What is wrong with a run.
+fn run_lines(alloc: Global, failure: &Failure<'_>) -> Result<String, Memory> {
+    match failure {
+        Failure::NoItem { key } => line_of(alloc, &RunReason::NoItem(key.as_str())),
+        _ => match run_reason(failure) {
+            Some(reason) => line_of(alloc, &reason),
+            None => Ok(String::new(alloc)),
+        },
+    }
+}
+
+/// A reason's line.
+fn line_of<D: Display>(alloc: Global, reason: &D) -> Result<String, Memory> {
+    Ok(format!(in alloc; "{reason}\n")?)
+}

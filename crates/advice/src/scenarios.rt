@@ -1,0 +1,57 @@
+//! What is wrong with a scenario: its first mistake, as `explain` prints it.
+ghost use Rattle.std.specs.Prelude.{◌≡◌, IfOk, string_bytes};
+ghost use Rattle.advice.specs.Told.{IsBeginning, TellsFirst};
+
+use base::Memory;
+use files::Files;
+use mistakes::of_refused;
+use scenario_reader::read;
+use std::alloc::Global;
+
+/// The first mistake of the scenario in a file that breaks this rule, as `explain` prints it, with a line feed behind it.
+/// Nothing where the file can't be read once more, as a pipe, or no longer breaks the rule.
+pub(crate) fn first_mistake<F: Files>(
+    alloc: Global,
+    name: &str,
+    rule: u8,
+    files: &mut F,
+) -> Result<String, Memory>
+    ensures told { IfOk result (λ text. TellsFirst rule (string_bytes text)) }
+    ensures same { F.known files.new ≡ F.known files.old }
+    ensures making { F.making files.new ≡ F.making files.old }
+    ensures counted { F.refused files.new ≡ F.refused files.old }
+{
+    match files.read(alloc, name) {
+        Ok(bytes) if breaks(alloc, bytes.as_slice(), rule) => {
+            first_of_text(alloc, name, bytes.as_slice(), rule)
+        }
+        _ => Ok(String::new(alloc)),
+    }
+}
+
+/// Whether a text isn't empty and breaks this rule.
+fn breaks(alloc: Global, bytes: &[u8], rule: u8) -> bool {
+    match read(alloc, bytes) {
+        Ok(_) => false,
+        Err(refusal) => !bytes.is_empty() && refusal.rule == rule,
+    }
+}
+
+/// The first mistake of a text.
+fn first_of_text(alloc: Global, name: &str, bytes: &[u8], rule: u8) -> Result<String, Memory>
+    ensures { IfOk result (λ text. TellsFirst rule (string_bytes text)) }
+{
+    let mistakes = of_refused(alloc, bytes, rule)?;
+    let lines = mistake_text::lines(alloc, name, bytes, &mistakes)?;
+    Ok(String::from_str(alloc, first_block(lines.as_str()))?)
+}
+
+/// What stands before the first empty line, with its line feed; all of it where there is none.
+fn first_block(lines: &str) -> &str
+    ensures { IsBeginning result.now lines.now }
+{
+    match lines.split_once("\n\n") {
+        Some((first, _)) => &lines[..first.len() + 1],
+        None => lines,
+    }
+}

@@ -1,0 +1,3 @@
+pub mod Words
+pub mod Files
+pub mod Runs

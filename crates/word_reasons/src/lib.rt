@@ -1,0 +1,12 @@
+//! Why the words of a command line ask for nothing: which word is wrong, and how.
+#![tactic(auto)]
+
+mod guesses;
+mod options;
+mod settings;
+mod shares;
+mod sweeping;
+mod wants;
+mod words;
+
+pub use words::{WordsFault, words_fault};

@@ -1,0 +1,132 @@
+//! What is wrong with the words of `--set`.
+ghost use Rattle.std.specs.Prelude.{◌≡◌, IfOk, IfSome, Contains, map};
+ghost use Rattle.clap.specs.Words.{found_of, rows_of};
+ghost use Rattle.word_reasons.specs.Found.{IsNoValue, IsReasonOf, IsSettingReason, NamesNoKey, SetsNothing};
+
+use crate::guesses::guess_of;
+use crate::shares::parts_of;
+use arguments::values_of;
+use base::Memory;
+use cases::{Plan, PlanFault, SettingKey, SettingValue};
+use clap::ArgMatches;
+use reasons::{WordFault, WordReason};
+use std::alloc::Global;
+
+/// What is wrong with the words of `--set`: the first that sets nothing, else the first whose key an earlier one sets.
+pub(crate) fn settings_reason<'a>(
+    alloc: Global,
+    sweep: &ArgMatches<'a>,
+) -> Result<Option<WordReason<'a>>, Memory>
+    ensures { IfOk result (λ reason. IfSome reason (IsReasonOf (rows_of (found_of sweep.now)))) }
+{
+    let words = values_of(alloc, sweep, "set")?;
+    if let Some(word) = refused_setting(alloc, &words)? {
+        return Ok(Some(setting_reason(alloc, word)?));
+    }
+    match repeated_setting(&words) {
+        Some(word) => Ok(Some(WordReason::Word {
+            fault: WordFault::KeyTwice,
+            word,
+        })),
+        None => Ok(None),
+    }
+}
+
+/// The first word that sets nothing, even by itself.
+fn refused_setting<'a>(alloc: Global, words: &[&'a str]) -> Result<Option<&'a str>, Memory>
+    ensures { IfOk result (λ refused. IfSome refused (λ word. Contains words.now word × SetsNothing word.now)) }
+{
+    for word in words {
+        match Plan::read(alloc, &[*word], None, None) {
+            Ok(_) => {}
+            Err(PlanFault::Words) => return Ok(Some(*word)),
+            Err(PlanFault::Memory) => return Err(Memory),
+        }
+    }
+    Ok(None)
+}
+
+/// What is wrong with a word that sets nothing.
+fn setting_reason<'a>(alloc: Global, word: &'a str) -> Result<WordReason<'a>, Memory>
+    ensures { IfOk result (IsSettingReason word.entry.now) }
+{
+    let Some((key, list)) = word.split_once('=') else {
+        return Ok(form_reason(word));
+    };
+    if SettingKey::named(key).is_none() {
+        return key_reason(alloc, word, key);
+    }
+    match refused_value(list) {
+        Some(value) => Ok(value_reason(word, key, value)),
+        None => Ok(form_reason(word)),
+    }
+}
+
+/// The word is no key with values.
+fn form_reason<'a>(word: &'a str) -> WordReason<'a>
+    ensures { IsSettingReason word.entry.now result }
+{
+    WordReason::Word {
+        fault: WordFault::Setting,
+        word,
+    }
+}
+
+/// There is no such key.
+fn key_reason<'a>(alloc: Global, word: &'a str, key: &'a str) -> Result<WordReason<'a>, Memory>
+    requires { NamesNoKey key.now }
+    ensures { IfOk result (IsSettingReason word.entry.now) }
+{
+    let guess = guess_of(alloc, key)?;
+    Ok(WordReason::Key { word, key, guess })
+}
+
+/// The first item of a list that is no value.
+fn refused_value<'a>(list: &'a str) -> Option<&'a str>
+    ensures { IfSome result (λ value. IsNoValue value.now) }
+{
+    for item in list.split(',') {
+        if SettingValue::read(item).is_none() {
+            return Some(item);
+        }
+    }
+    None
+}
+
+/// What is wrong with a value of a key: of a share, perhaps, that it isn't in parts of a million.
+fn value_reason<'a>(word: &'a str, key: &str, value: &'a str) -> WordReason<'a>
+    requires { IsNoValue value.now }
+    ensures { IsSettingReason word.entry.now result }
+{
+    match parts_of(key, value) {
+        Some(parts) => WordReason::Share { word, parts },
+        None => WordReason::Value { word, value },
+    }
+}
+
+/// The first word whose key an earlier one sets.
+fn repeated_setting<'a>(words: &[&'a str]) -> Option<&'a str>
+    ensures { IfSome result (λ word. Contains words.now word) }
+{
+    for (place, word) in words.iter().enumerate() {
+        if sets_again(&words[..place], word) {
+            return Some(*word);
+        }
+    }
+    None
+}
+
+/// Whether one of the words sets the key that another one sets.
+fn sets_again(words: &[&str], word: &str) -> bool {
+    words
+        .iter()
+        .any(|earlier| key_part(earlier) == key_part(word))
+}
+
+/// What stands before the equals sign of a setting.
+fn key_part(word: &str) -> &str {
+    match word.split_once('=') {
+        Some((key, _)) => key,
+        None => word,
+    }
+}
