@@ -4,7 +4,7 @@ Written from docs/PAGES.md ("The page of a run") alone.
 """
 
 from model_drawing import (FIGURE_END, PLOT_END, area, axis_across, axis_up, band, dot, escaped, figure, grouped, legend,
-                           legend_entry, line, plot, rule)
+                           legend_entry, line, page_opening, plot, rule)
 from model_run_series import MOST_HEALTH, MOST_SPANS, Series
 from model_text import CONFIRM, SUSPECT
 from scenarios import keys_of
@@ -335,8 +335,5 @@ class Settings:
 
 def page_of(name, release, style, scenario, rows):
     """The page of the run of a scenario's file of this name."""
-    head = ('<!DOCTYPE html>\n<html lang="en"><head><meta charset="utf-8">'
-            '<meta name="viewport" content="width=device-width,initial-scale=1">'
-            f'<title>{escaped(name)} - swimsim</title><style>{style}</style></head>\n'
-            f'<body><main><header><h1>{escaped(name)}</h1></header>\n')
+    head = page_opening(name, ' - swimsim', style) + f'{escaped(name)}</h1></header>\n'
     return head + Page(scenario, rows).text(release) + '</main></body></html>\n'
