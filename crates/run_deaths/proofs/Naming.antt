@@ -1,5 +1,5 @@
 -- What is told of deaths names members of the cluster.
-use Rattle.std.proofs.Common.{◌≡◌, ℕ, zero, suc, ◌+◌, ◌<◌, Bool, true, false, cond, List, [], ◌∷◌, ◌++◌, map, All, length, Option, Some, None, refl, sym, ap, subst, ◌∙◌, arith, append-nil, append_assoc}
+use Rattle.std.proofs.Common.{◌≡◌, ℕ, zero, suc, ◌+◌, ◌<◌, Bool, true, false, List, [], ◌∷◌, ◌++◌, All, length, Option, Some, None, refl, sym, ap, subst, ◌∙◌, arith, append-nil, append_assoc}
 use Rattle.std.specs.Prelude.{IfSome, filter, flat_map, nat_le, if◌then◌else◌, take, slice_get, slice_index_or}
 use Rattle.std.specs.List.{list_any, last_or}
 use Rattle.std.specs.Option.{option_map_or, option_to_list}
@@ -10,8 +10,7 @@ use Rattle.scenario.specs.Setup.{Setup, member_count}
 use Rattle.trace.specs.Text.{NamesMembers}
 use Rattle.trace.specs.declared.row.What.TheVariants as what
 use Rattle.trace.specs.declared.row.Row.{Row}
-use Rattle.reports.specs.Rows.{Placed, placed_after, rows_in_place}
-use Rattle.series.specs.declared.accusers.Accusation.{Accusation}
+use Rattle.reports.specs.Rows.{placed_after, rows_in_place}
 use Rattle.series.specs.declared.deaths.Death.{Death}
 use Rattle.series.proofs.Dying.{filter-push, last-if}
 use Rattle.series.specs.Deaths.{Reached, reached_at, reached, line_reached, since, reaches, is_new, accuses, IsDeathOf, IsToldOf, accusation_told, accusations, begins_death, deaths_of}
@@ -23,19 +22,19 @@ placed_named s earlier (row ∷ rows) before after =
     All-cons (λ p. IsNamed s (reached_at p)) (record { earlier = earlier; row = row; later = rows }) (placed_after (earlier ++ row ∷ []) rows)
     (record { row = All-head (NamesMembers s) row rows after; earlier = before })
     (placed_named s (earlier ++ row ∷ []) rows
-        (All-append (NamesMembers s) earlier (row ∷ []) before (All-cons (NamesMembers s) row [] (All-head (NamesMembers s) row rows after) (All-nil (NamesMembers s))))
-        (All-tail (NamesMembers s) row rows after))
+    (All-append (NamesMembers s) earlier (row ∷ []) before (All-cons (NamesMembers s) row [] (All-head (NamesMembers s) row rows after) (All-nil (NamesMembers s))))
+    (All-tail (NamesMembers s) row rows after))
 
 pub reached_named : (s : Setup) (rows : List Row) → All (NamesMembers s) rows → All (IsNamed s) (reached rows)
 reached_named s rows named = All-map (IsNamed s) reached_at (rows_in_place rows) (placed_named s [] rows (All-nil (NamesMembers s)) named)
 
 since_all : {X : Type 0} (P : X → Type 0) (test : X → Bool) (xs : List X) → All P xs → All P (since test xs)
 since_all P test [] all = all
-since_all P test (x ∷ xs) all = by (list_any test xs)
+since_all {X = X} P test (x ∷ xs) all = by (list_any test xs) (since test xs) (since_all P test xs (All-tail P x xs all))
   where
-    by : (t : Bool) → All P (if t then since test xs else x ∷ xs)
-    by true = since_all P test xs (All-tail P x xs all)
-    by false = all
+    by : (t : Bool) (later : List X) → All P later → All P (if t then later else x ∷ xs)
+    by true later held = held
+    by false later held = all
 
 pub accusers_named : (s : Setup) (subject : ℕ) (rows : List Row) → All (NamesMembers s) rows → AreNamed s (accusations subject rows)
 accusers_named s subject rows named =
@@ -87,8 +86,8 @@ can_tell s (Some death) (Some r) told named = record { reached = r; is = told; n
 can_tell s (Some death) None told named = absurd told
 
 -- what is said of a member that may be there is said of it
-pub of_some : {P : ℕ → Type 0} (o : Option ℕ) (m : ℕ) → o ≡ Some m → IfSome o P → P m
-of_some {P = P} o m is held = let Q : Option ℕ → Type 0 = λ x. IfSome x P in subst Q is held
+pub of_some : (P : ℕ → Type 0) (o : Option ℕ) (m : ℕ) → o ≡ Some m → IfSome o P → P m
+of_some P o m is held = let Q : Option ℕ → Type 0 = λ x. IfSome x P in subst Q is held
 
 one-told : {X : Type 0} (f : X → List ℕ) (o : Option X) → flat_map f (option_to_list o) ≡ option_map_or f o []
 one-told f None = refl
@@ -106,10 +105,10 @@ told_next f list place first before after so_far is =
     ∙ ap (λ l. first ++ flat_map f l) (sym (take_next place list))
 
 -- the last so far, with one more
-pub last_next : {X : Type 0} (test : X → Bool) (xs : List X) (n : ℕ) (x : X) (old new : Option X) → n < length xs → x ≡ slice_index_or xs n x → old ≡ last_or None (filter test (take n xs))
+pub last_next : {X : Type 0} (test : X → Bool) (xs : List X) (n : ℕ) (d x : X) (old new : Option X) → n < length xs → x ≡ slice_index_or xs n d → old ≡ last_or None (filter test (take n xs))
     → new ≡ (if test x then Some x else old) → new ≡ last_or None (filter test (take (n + 1) xs))
-last_next test xs n x old new low at so_far is =
+last_next test xs n d x old new low at so_far is =
     is ∙ ap (λ o. if test x then Some x else o) so_far
     ∙ sym (last-if (filter test (take n xs)) (test x) x)
     ∙ ap (last_or None) (sym (filter-push test (take n xs) x))
-    ∙ ap (λ l. last_or None (filter test l)) (sym (take_more xs n x low ∙ ap (λ y. take n xs ++ y ∷ []) (sym at)))
+    ∙ ap (λ l. last_or None (filter test l)) (sym (take_more xs n d low ∙ ap (λ y. take n xs ++ y ∷ []) (sym at)))

@@ -1,5 +1,5 @@
 -- How false deaths came about, in words.
-use Rattle.std.specs.Prelude.{◌≡◌, ℕ, ◌+◌, ◌-◌, ◌<◌, Bool, nat_eq, nat_lt, if◌then◌else◌, Option, Some, None, IfSome, List, [], ◌++◌, All, codes, decimal, flat_map, take, length, slice_get}
+use Rattle.std.specs.Prelude.{ℕ, ◌+◌, ◌-◌, ◌<◌, Bool, nat_eq, nat_lt, if◌then◌else◌, Option, Some, None, List, [], ◌++◌, All, codes, decimal, flat_map, take, length, slice_get}
 use Rattle.std.specs.Option.{option_map_or}
 use Rattle.std.specs.List.{list_any}
 use Rattle.scenario.specs.Setup.{Setup, name_of, member_count}
@@ -31,11 +31,11 @@ line_words number = codes ", on line " ++ decimal number
 abbrev pub fate : Bool → List ℕ
 fate lost = if lost then codes ", was lost." else codes ", wasn't lost."
 
-unfoldable pub ping_words : Probe → List ℕ
-ping_words probe = codes " Its ping of " ++ grouped probe.ping.at ++ line_words probe.ping.number ++ fate probe.lost
+unfoldable pub ping_words : ℕ → ℕ → Bool → List ℕ
+ping_words at line lost = codes " Its ping of " ++ grouped at ++ line_words line ++ fate lost
 
 abbrev pub ping_told : Option Probe → List ℕ
-ping_told (Some probe) = ping_words probe
+ping_told (Some probe) = ping_words probe.ping.at probe.ping.number probe.lost
 ping_told None = []
 
 -- who accused the member, when and on which line
@@ -78,8 +78,11 @@ unfoldable pub declared_item : Setup → Line → ℕ → List ℕ
 declared_item s line number = declared_words s line number ++ states s line.member line.at line.at ++ codes "</li>"
 
 -- what the member itself was from a moment until its death
+unfoldable pub own_opening : ℕ → List ℕ
+own_opening since = codes "<li>From " ++ grouped since ++ codes " until its death:"
+
 unfoldable pub own_item : Setup → ℕ → ℕ → ℕ → List ℕ
-own_item s subject since at = codes "<li>From " ++ grouped since ++ codes " until its death:" ++ states s subject since at ++ codes "</li>"
+own_item s subject since at = own_opening since ++ states s subject since at ++ codes "</li>"
 
 -- since when: since the probe of its first accuser began, where it has one
 abbrev pub since_first : List Accusation → ℕ → ℕ
@@ -122,9 +125,13 @@ unfoldable pub causes_figure : Setup → List Reached → List ℕ
 causes_figure s deaths =
     figure_opening (codes "causes") (codes "How false deaths came about") ++ intro ++ flat_map (cause s) (take 20 deaths) ++ more_told (length deaths) ++ figure_end
 
--- the same of these rows; nothing where there are none
+-- the same, where there are any
+abbrev pub causes_where : Setup → List Reached → ℕ → List ℕ
+causes_where s deaths count = if nat_eq count 0 then [] else causes_figure s deaths
+
+-- the same of these rows
 abbrev pub causes_text : Setup → List Row → List ℕ
-causes_text s rows = if nat_eq (length (deaths_of rows)) 0 then [] else causes_figure s (deaths_of rows)
+causes_text s rows = causes_where s (deaths_of rows) (length (deaths_of rows))
 
 -- ---- names
 

@@ -1,5 +1,5 @@
 -- What a member was in a time: slow, paused, cut off or well.
-use Rattle.std.specs.Prelude.{ℕ, Bool, ◌&&◌, ◌==◌, nat_le, nat_lt, if◌then◌else◌, Option, Some, None, List, [], ◌++◌, codes, filter}
+use Rattle.std.specs.Prelude.{ℕ, Bool, ◌&&◌, ◌==◌, nat_le, nat_lt, Option, Some, None, List, [], ◌++◌, codes, filter}
 use Rattle.std.specs.List.{last_or}
 use Rattle.scenario.specs.Setup.{Setup, name_of, group_at}
 use Rattle.scenario.specs.declared.settings.Slow.{Slow}

@@ -26,20 +26,17 @@ pub(crate) fn push_accusers(
     scenario: &Scenario,
     accusers: &Accusers,
 ) -> Result<(), AllocError>
-    requires { (list : List AnAccusation) × AreAccusers accusers.now list × AreNamed scenario.now list }
+    requires those { (list : List AnAccusation) × AreAccusers accusers.now list × AreNamed scenario.now list }
     ensures { OnOk result ((list : List AnAccusation) → AreAccusers accusers.now list → string_bytes text.new ≡ string_bytes text.old ++ accusers_told scenario.now list) }
 {
     push_first(text, scenario, accusers)?;
-    push_end(text, accusers.count())
+    push_end(text, accusers.count())?;
+    Ok(())
 }
 
 /// Appends the first of them.
-fn push_first(
-    text: &mut String,
-    scenario: &Scenario,
-    accusers: &Accusers,
-) -> Result<(), AllocError>
-    requires { (list : List AnAccusation) × AreAccusers accusers.now list × AreNamed scenario.now list }
+fn push_first(text: &mut String, scenario: &Scenario, accusers: &Accusers) -> Result<(), AllocError>
+    requires those { (list : List AnAccusation) × AreAccusers accusers.now list × AreNamed scenario.now list }
     ensures { OnOk result ((list : List AnAccusation) → AreAccusers accusers.now list → string_bytes text.new ≡ string_bytes text.old ++ flat_map (accuser_item scenario.now) (take 4 list)) }
 {
     for place in 0..TOLD {
@@ -73,11 +70,18 @@ fn push_accuser(
     requires { accusation.now.claim.member < member_count scenario.now }
     ensures { OnOk result (string_bytes text.new ≡ string_bytes text.old ++ accuser_item scenario.now accusation.now) }
 {
-    let claim = accusation.claim;
-    push_claim(text, scenario, claim)?;
-    push_ping_told(text, accusation.probe)?;
-    push_states(text, scenario, claim.member, began(accusation), claim.at)?;
-    text.push_str("</li>")
+    push_claim(text, scenario, &accusation.claim)?;
+    push_ping_told(text, &accusation.probe)?;
+    let from = began(accusation);
+    push_states(
+        text,
+        scenario,
+        accusation.claim.member,
+        from,
+        accusation.claim.at,
+    )?;
+    text.push_str("</li>")?;
+    Ok(())
 }
 
 /// When an accuser's probe began, where that is known; else when it accused.
@@ -91,32 +95,38 @@ pub(crate) fn began(accusation: &Accusation) -> Moment
 }
 
 /// Appends who accused the member, when and on which line.
-fn push_claim(text: &mut String, scenario: &Scenario, claim: Line) -> Result<(), AllocError>
-    requires { claim.member < member_count scenario.now }
-    ensures { OnOk result (string_bytes text.new ≡ string_bytes text.old ++ claim_words scenario.now claim) }
+fn push_claim(text: &mut String, scenario: &Scenario, claim: &Line) -> Result<(), AllocError>
+    requires { claim.now.member < member_count scenario.now }
+    ensures { OnOk result (string_bytes text.new ≡ string_bytes text.old ++ claim_words scenario.now claim.now) }
 {
-    push_claim_of(text, scenario.name(claim.member), claim.at, claim.number)
+    push_claim_of(
+        text,
+        scenario.name(claim.member),
+        claim.at.ticks(),
+        claim.number,
+    )
 }
 
 /// Appends how a ping fared, where there is one.
-fn push_ping_told(text: &mut String, probe: Option<Probe>) -> Result<(), AllocError>
-    ensures { OnOk result (string_bytes text.new ≡ string_bytes text.old ++ ping_told probe) }
+fn push_ping_told(text: &mut String, probe: &Option<Probe>) -> Result<(), AllocError>
+    ensures { OnOk result (string_bytes text.new ≡ string_bytes text.old ++ ping_told probe.now) }
 {
     match probe {
-        Some(probe) => push_ping(text, &probe),
+        Some(probe) => push_ping(text, probe.ping.at.ticks(), probe.ping.number, probe.lost),
         None => Ok(()),
     }
 }
 
-/// Appends how a ping fared.
+/// Appends how a ping fared that was sent at a moment, on a line of that number.
 #[tactic(auto, unfolding(crate::specs::Causes::ping_words))]
-fn push_ping(text: &mut String, probe: &Probe) -> Result<(), AllocError>
-    ensures { OnOk result (string_bytes text.new ≡ string_bytes text.old ++ ping_words probe.now) }
+fn push_ping(text: &mut String, at: u64, line: u64, lost: bool) -> Result<(), AllocError>
+    ensures { OnOk result (string_bytes text.new ≡ string_bytes text.old ++ ping_words at line lost) }
 {
     text.push_str(" Its ping of ")?;
-    push_grouped(text, probe.ping.at.ticks())?;
-    push_line(text, probe.ping.number)?;
-    text.push_str(fate(probe.lost))
+    push_grouped(text, at)?;
+    push_line(text, line)?;
+    text.push_str(fate(lost))?;
+    Ok(())
 }
 
 /// How a ping fared.
@@ -132,15 +142,16 @@ fn fate(lost: bool) -> &'static str
 
 /// Appends who accused the member: one of that name.
 #[tactic(auto, unfolding(crate::specs::Causes::claim_of))]
-fn push_claim_of(text: &mut String, name: &str, at: Moment, number: u64) -> Result<(), AllocError>
+fn push_claim_of(text: &mut String, name: &str, at: u64, number: u64) -> Result<(), AllocError>
     ensures { OnOk result (string_bytes text.new ≡ string_bytes text.old ++ claim_of name.now at number) }
 {
     text.push_str("<li>")?;
     push_escaped(text, name)?;
     text.push_str(" accused it at ")?;
-    push_grouped(text, at.ticks())?;
+    push_grouped(text, at)?;
     push_line(text, number)?;
-    text.push_str(".")
+    text.push_str(".")?;
+    Ok(())
 }
 
 /// Appends the number of a line.
@@ -175,5 +186,6 @@ fn push_more(text: &mut String, more: u64) -> Result<(), AllocError>
         more,
         " more accusation isn't shown.</li>",
         " more accusations aren't shown.</li>",
-    ))
+    ))?;
+    Ok(())
 }

@@ -1,11 +1,11 @@
 //! How false deaths came about: the first of them.
-ghost use Rattle.std.specs.Prelude.{◌≡◌, ◌≤◌, ◌++◌, [], IfSome, OnOk, Option, List, flat_map, take, length};
+ghost use Rattle.std.specs.Prelude.{◌≡◌, ◌≤◌, ◌++◌, [], IfSome, OnOk, Option, None, List, flat_map, take, length, slice_index_or};
 ghost use Rattle.std.specs.String.{string_bytes};
 ghost use Rattle.std.specs.Option.{option_map_or};
 ghost use Rattle.series.specs.Deaths.{Reached, AreToldOf, IsToldOf, deaths_of};
 ghost use Rattle.run_lanes.specs.Numbers.{by_number};
 ghost use Rattle.run_lanes.specs.Run.{IsTold};
-ghost use Rattle.run_deaths.specs.Causes.{cause, causes_figure, causes_text, intro, more_told, more_words, CanTell};
+ghost use Rattle.run_deaths.specs.Causes.{cause, causes_figure, causes_where, causes_text, intro, more_told, more_words, CanTell};
 
 use crate::death::push_death;
 use drawing::{close_figure, open_figure, push_grouped};
@@ -23,10 +23,26 @@ pub fn push_causes(text: &mut String, run: &Run) -> Result<(), AllocError>
     ensures { OnOk result (string_bytes text.new ≡ string_bytes text.old ++ causes_text run.now.scenario.now run.now.tallies.now) }
 {
     let deaths = run.series.deaths();
-    if deaths.count() == 0 {
+    let count = deaths.count();
+    let told = deaths.told();
+    push_where(text, run, told, count)
+}
+
+/// Appends the figure of these deaths, where there are any.
+fn push_where(
+    text: &mut String,
+    run: &Run,
+    told: &[Option<Death>],
+    count: u64,
+) -> Result<(), AllocError>
+    requires told { IsTold run.now }
+    requires those { AreToldOf told.now count run.now.tallies.now }
+    ensures { OnOk result (string_bytes text.new ≡ string_bytes text.old ++ causes_where run.now.scenario.now (deaths_of run.now.tallies.now) count) }
+{
+    if count == 0 {
         return Ok(());
     }
-    push_figure(text, run, deaths.told(), deaths.count())
+    push_figure(text, run, told, count)
 }
 
 /// Appends the figure of these deaths.
@@ -45,7 +61,8 @@ fn push_figure(
     push_intro(text)?;
     push_each(text, run, told, count)?;
     push_more(text, count)?;
-    close_figure(text)
+    close_figure(text)?;
+    Ok(())
 }
 
 /// Appends which deaths are told of.
@@ -70,9 +87,20 @@ fn push_each(
     ensures { OnOk result (string_bytes text.new ≡ string_bytes text.old ++ flat_map (cause run.now.scenario.now) (take 20 (deaths_of run.now.tallies.now))) }
 {
     for place in 0..TOLD {
-        push_slot(text, run.scenario, told[place])?;
+        let slot = slot_at(told, place);
+        push_slot(text, run.scenario, slot)?;
     }
     Ok(())
+}
+
+/// The death at a place, where there is one.
+fn slot_at(told: &[Option<Death>], place: usize) -> Option<Death>
+    ensures { result ≡ slice_index_or told.now place None }
+{
+    match told.get(place) {
+        Some(slot) => *slot,
+        None => None,
+    }
 }
 
 /// Appends how a death came about, where there is one.
@@ -103,9 +131,5 @@ fn push_more_than(text: &mut String, more: u64) -> Result<(), AllocError>
 {
     text.push_str("<p class=\"soft\">")?;
     push_grouped(text, more)?;
-    text.push_str(by_number(
-        more,
-        " more isn't shown.</p>",
-        " more aren't shown.</p>",
-    ))
+    text.push_str(by_number(more, " more isn't shown.</p>", " more aren't shown.</p>"))
 }

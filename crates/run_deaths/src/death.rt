@@ -6,7 +6,7 @@ ghost use Rattle.scenario.specs.Setup.{member_count};
 ghost use Rattle.series.specs.Accusers.{AreAccusers};
 ghost use Rattle.series.specs.declared.accusers.Accusation.{Accusation as AnAccusation};
 ghost use Rattle.series.specs.Deaths.{Reached, IsDeathOf};
-ghost use Rattle.run_deaths.specs.Causes.{cause, cause_opening, cause_words, declared_by, declared_words, declared_item, own_item, since_first, later_item, AreNamed, CanTell};
+ghost use Rattle.run_deaths.specs.Causes.{cause, cause_opening, cause_words, declared_by, declared_words, declared_item, own_opening, own_item, since_first, later_item, AreNamed, CanTell};
 
 use crate::accusers::{began, push_accusers, push_line};
 use crate::troubles::push_states;
@@ -29,7 +29,7 @@ pub(crate) fn push_death(
         text,
         scenario,
         death.subject,
-        death.line,
+        &death.line,
         death.number,
         is_later(death),
         death.standing.accusers(),
@@ -53,35 +53,38 @@ fn push_words(
     text: &mut String,
     scenario: &Scenario,
     subject: MemberId,
-    line: Line,
+    line: &Line,
     number: u64,
     is_later: bool,
     accusers: &Accusers,
 ) -> Result<(), AllocError>
     requires subject { subject < member_count scenario.now }
-    requires by { line.member < member_count scenario.now }
+    requires by { line.now.member < member_count scenario.now }
     requires accusers { (list : List AnAccusation) × AreAccusers accusers.now list × AreNamed scenario.now list }
     ensures { OnOk result ((list : List AnAccusation) → AreAccusers accusers.now list
-        → string_bytes text.new ≡ string_bytes text.old ++ cause_words scenario.now subject line number is_later list) }
+        → string_bytes text.new ≡ string_bytes text.old ++ cause_words scenario.now subject line.now number is_later list) }
 {
-    open_cause(text, scenario.name(subject), line.at)?;
+    open_cause(text, scenario.name(subject), line.at.ticks())?;
     push_declared(text, scenario, line, number)?;
-    push_own(text, scenario, subject, since_first(accusers, line.at), line.at)?;
+    let since = since_first(accusers, line.at);
+    push_own(text, scenario, subject, since, line.at)?;
     push_later(text, is_later)?;
     push_accusers(text, scenario, accusers)?;
-    text.push_str("</ul></div>\n")
+    text.push_str("</ul></div>\n")?;
+    Ok(())
 }
 
 /// Begins what is told of the death of a member of that name.
 #[tactic(auto, unfolding(crate::specs::Causes::cause_opening))]
-fn open_cause(text: &mut String, name: &str, at: Moment) -> Result<(), AllocError>
+fn open_cause(text: &mut String, name: &str, at: u64) -> Result<(), AllocError>
     ensures { OnOk result (string_bytes text.new ≡ string_bytes text.old ++ cause_opening name.now at) }
 {
     text.push_str("<div class=\"cause\"><h3>")?;
     push_escaped(text, name)?;
     text.push_str(" at ")?;
-    push_grouped(text, at.ticks())?;
-    text.push_str("</h3><ul>")
+    push_grouped(text, at)?;
+    text.push_str("</h3><ul>")?;
+    Ok(())
 }
 
 /// Appends who declared the member dead, on which line and under which number, and what that one was.
@@ -89,25 +92,21 @@ fn open_cause(text: &mut String, name: &str, at: Moment) -> Result<(), AllocErro
 fn push_declared(
     text: &mut String,
     scenario: &Scenario,
-    line: Line,
+    line: &Line,
     number: u64,
 ) -> Result<(), AllocError>
-    requires { line.member < member_count scenario.now }
-    ensures { OnOk result (string_bytes text.new ≡ string_bytes text.old ++ declared_item scenario.now line number) }
+    requires { line.now.member < member_count scenario.now }
+    ensures { OnOk result (string_bytes text.new ≡ string_bytes text.old ++ declared_item scenario.now line.now number) }
 {
     push_declared_by(text, scenario.name(line.member), line.number, number)?;
     push_states(text, scenario, line.member, line.at, line.at)?;
-    text.push_str("</li>")
+    text.push_str("</li>")?;
+    Ok(())
 }
 
 /// Appends who declared the member dead: one of that name.
 #[tactic(auto, unfolding(crate::specs::Causes::declared_by))]
-fn push_declared_by(
-    text: &mut String,
-    name: &str,
-    line: u64,
-    number: u64,
-) -> Result<(), AllocError>
+fn push_declared_by(text: &mut String, name: &str, line: u64, number: u64) -> Result<(), AllocError>
     ensures { OnOk result (string_bytes text.new ≡ string_bytes text.old ++ declared_by name.now line number) }
 {
     text.push_str("<li>")?;
@@ -131,11 +130,21 @@ fn push_own(
     requires { subject < member_count scenario.now }
     ensures { OnOk result (string_bytes text.new ≡ string_bytes text.old ++ own_item scenario.now subject since at) }
 {
-    text.push_str("<li>From ")?;
-    push_grouped(text, since.ticks())?;
-    text.push_str(" until its death:")?;
+    open_own(text, since.ticks())?;
     push_states(text, scenario, subject, since, at)?;
-    text.push_str("</li>")
+    text.push_str("</li>")?;
+    Ok(())
+}
+
+/// Begins what the member itself was from a moment on.
+#[tactic(auto, unfolding(crate::specs::Causes::own_opening))]
+fn open_own(text: &mut String, since: u64) -> Result<(), AllocError>
+    ensures { OnOk result (string_bytes text.new ≡ string_bytes text.old ++ own_opening since) }
+{
+    text.push_str("<li>From ")?;
+    push_grouped(text, since)?;
+    text.push_str(" until its death:")?;
+    Ok(())
 }
 
 /// When the probe of its first accuser began, where it has one; else its death.

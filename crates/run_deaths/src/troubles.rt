@@ -1,5 +1,5 @@
 //! What a member was in a time: slow, paused, cut off or well.
-ghost use Rattle.std.specs.Prelude.{◌≡◌, ◌<◌, ◌++◌, OnOk, None, filter};
+ghost use Rattle.std.specs.Prelude.{◌≡◌, ◌<◌, ◌++◌, OnOk, Some, None, if◌then◌else◌, filter};
 ghost use Rattle.std.specs.String.{string_bytes};
 ghost use Rattle.std.specs.List.{last_or};
 ghost use Rattle.scenario.specs.Setup.{member_count};
@@ -26,7 +26,7 @@ pub(crate) fn push_states(
     let slow = last_slow(scenario.slows(), member, first, last);
     let pause = last_pause(scenario.pauses(), member, first, last);
     let cut = last_cut(scenario.cuts(), group, first, last);
-    push_all(text, scenario.name(member), slow, pause, cut)
+    push_all(text, scenario.name(member), &slow, &pause, &cut)
 }
 
 /// Appends what a member of that name was.
@@ -34,44 +34,51 @@ pub(crate) fn push_states(
 fn push_all(
     text: &mut String,
     name: &str,
-    slow: Option<Slow>,
-    pause: Option<Pause>,
-    cut: Option<Cut>,
+    slow: &Option<Slow>,
+    pause: &Option<Pause>,
+    cut: &Option<Cut>,
 ) -> Result<(), AllocError>
-    ensures { OnOk result (string_bytes text.new ≡ string_bytes text.old ++ states_told name.now slow pause cut) }
+    ensures { OnOk result (string_bytes text.new ≡ string_bytes text.old ++ states_told name.now slow.now pause.now cut.now) }
 {
     push_slow_told(text, name, slow)?;
     push_pause_told(text, name, pause)?;
     push_cut_told(text, name, cut)?;
-    push_well(text, name, slow, pause, cut)
+    push_well(text, name, slow, pause, cut)?;
+    Ok(())
 }
 
 /// Appends that it was slow, where it was.
-fn push_slow_told(text: &mut String, name: &str, slow: Option<Slow>) -> Result<(), AllocError>
-    ensures { OnOk result (string_bytes text.new ≡ string_bytes text.old ++ slow_told name.now slow) }
+fn push_slow_told(text: &mut String, name: &str, slow: &Option<Slow>) -> Result<(), AllocError>
+    ensures { OnOk result (string_bytes text.new ≡ string_bytes text.old ++ slow_told name.now slow.now) }
 {
     match slow {
-        Some(slow) => push_slow(text, name, slow.extra, slow.from, slow.until),
+        Some(slow) => push_slow(
+            text,
+            name,
+            slow.extra,
+            slow.from.ticks(),
+            slow.until.ticks(),
+        ),
         None => Ok(()),
     }
 }
 
 /// Appends that it was paused, where it was.
-fn push_pause_told(text: &mut String, name: &str, pause: Option<Pause>) -> Result<(), AllocError>
-    ensures { OnOk result (string_bytes text.new ≡ string_bytes text.old ++ pause_told name.now pause) }
+fn push_pause_told(text: &mut String, name: &str, pause: &Option<Pause>) -> Result<(), AllocError>
+    ensures { OnOk result (string_bytes text.new ≡ string_bytes text.old ++ pause_told name.now pause.now) }
 {
     match pause {
-        Some(pause) => push_pause(text, name, pause.from, pause.until),
+        Some(pause) => push_pause(text, name, pause.from.ticks(), pause.until.ticks()),
         None => Ok(()),
     }
 }
 
 /// Appends that it was cut off, where it was.
-fn push_cut_told(text: &mut String, name: &str, cut: Option<Cut>) -> Result<(), AllocError>
-    ensures { OnOk result (string_bytes text.new ≡ string_bytes text.old ++ cut_told name.now cut) }
+fn push_cut_told(text: &mut String, name: &str, cut: &Option<Cut>) -> Result<(), AllocError>
+    ensures { OnOk result (string_bytes text.new ≡ string_bytes text.old ++ cut_told name.now cut.now) }
 {
     match cut {
-        Some(cut) => push_cut(text, name, cut.at, cut.until),
+        Some(cut) => push_cut(text, name, cut.at.ticks(), cut.until.ticks()),
         None => Ok(()),
     }
 }
@@ -80,11 +87,11 @@ fn push_cut_told(text: &mut String, name: &str, cut: Option<Cut>) -> Result<(), 
 fn push_well(
     text: &mut String,
     name: &str,
-    slow: Option<Slow>,
-    pause: Option<Pause>,
-    cut: Option<Cut>,
+    slow: &Option<Slow>,
+    pause: &Option<Pause>,
+    cut: &Option<Cut>,
 ) -> Result<(), AllocError>
-    ensures { OnOk result (string_bytes text.new ≡ string_bytes text.old ++ well_told name.now slow pause cut) }
+    ensures { OnOk result (string_bytes text.new ≡ string_bytes text.old ++ well_told name.now slow.now pause.now cut.now) }
 {
     if slow.is_some() || pause.is_some() || cut.is_some() {
         return Ok(());
@@ -104,13 +111,13 @@ fn open_sentence(text: &mut String, name: &str, words: &str) -> Result<(), Alloc
 
 /// Ends a sentence by a time.
 #[tactic(auto, unfolding(crate::specs::Troubles::time_words))]
-fn push_time(text: &mut String, from: Moment, until: Moment) -> Result<(), AllocError>
+fn push_time(text: &mut String, from: u64, until: u64) -> Result<(), AllocError>
     ensures { OnOk result (string_bytes text.new ≡ string_bytes text.old ++ time_words from until) }
 {
     text.push_str(" from ")?;
-    push_grouped(text, from.ticks())?;
+    push_grouped(text, from)?;
     text.push_str(" until ")?;
-    push_grouped(text, until.ticks())?;
+    push_grouped(text, until)?;
     text.push_str(".")
 }
 
@@ -120,32 +127,35 @@ fn push_slow(
     text: &mut String,
     name: &str,
     extra: u64,
-    from: Moment,
-    until: Moment,
+    from: u64,
+    until: u64,
 ) -> Result<(), AllocError>
     ensures { OnOk result (string_bytes text.new ≡ string_bytes text.old ++ slow_sentence name.now extra from until) }
 {
     open_sentence(text, name, " was slow by ")?;
     push_grouped(text, extra)?;
-    push_time(text, from, until)
+    push_time(text, from, until)?;
+    Ok(())
 }
 
 /// Appends that a member was paused.
 #[tactic(auto, unfolding(crate::specs::Troubles::pause_sentence))]
-fn push_pause(text: &mut String, name: &str, from: Moment, until: Moment) -> Result<(), AllocError>
+fn push_pause(text: &mut String, name: &str, from: u64, until: u64) -> Result<(), AllocError>
     ensures { OnOk result (string_bytes text.new ≡ string_bytes text.old ++ pause_sentence name.now from until) }
 {
     open_sentence(text, name, " was paused")?;
-    push_time(text, from, until)
+    push_time(text, from, until)?;
+    Ok(())
 }
 
 /// Appends that a member was cut off.
 #[tactic(auto, unfolding(crate::specs::Troubles::cut_sentence))]
-fn push_cut(text: &mut String, name: &str, at: Moment, until: Moment) -> Result<(), AllocError>
+fn push_cut(text: &mut String, name: &str, at: u64, until: u64) -> Result<(), AllocError>
     ensures { OnOk result (string_bytes text.new ≡ string_bytes text.old ++ cut_sentence name.now at until) }
 {
     open_sentence(text, name, " was cut off")?;
-    push_time(text, at, until)
+    push_time(text, at, until)?;
+    Ok(())
 }
 
 /// Whether what holds from one moment until another holds at some moment of a time.
@@ -161,9 +171,7 @@ fn last_slow(slows: &[Slow], member: MemberId, first: Moment, last: Moment) -> O
 {
     let mut found = None;
     for slow in slows {
-        if is_slow_in(slow, member, first, last) {
-            found = Some(*slow);
-        }
+        found = later_slow(found, slow, member, first, last);
     }
     found
 }
@@ -181,9 +189,7 @@ fn last_pause(pauses: &[Pause], member: MemberId, first: Moment, last: Moment) -
 {
     let mut found = None;
     for pause in pauses {
-        if is_paused_in(pause, member, first, last) {
-            found = Some(*pause);
-        }
+        found = later_pause(found, pause, member, first, last);
     }
     found
 }
@@ -201,9 +207,7 @@ fn last_cut(cuts: &[Cut], group: usize, first: Moment, last: Moment) -> Option<C
 {
     let mut found = None;
     for cut in cuts {
-        if is_cut_in(cut, group, first, last) {
-            found = Some(*cut);
-        }
+        found = later_cut(found, cut, group, first, last);
     }
     found
 }
@@ -213,4 +217,55 @@ fn is_cut_in(cut: &Cut, group: usize, first: Moment, last: Moment) -> bool
     ensures { result ≡ cuts_in group first last cut.now }
 {
     is_cut_of(cut, group) && meets(first, last, cut.at, cut.until)
+}
+
+/// The last entry so far, with one more.
+fn later_slow(
+    found: Option<Slow>,
+    slow: &Slow,
+    member: MemberId,
+    first: Moment,
+    last: Moment,
+) -> Option<Slow>
+    ensures { result ≡ (if slows_in member first last slow.now then Some slow.now else found) }
+{
+    if is_slow_in(slow, member, first, last) {
+        Some(*slow)
+    } else {
+        found
+    }
+}
+
+/// The last entry so far, with one more.
+fn later_pause(
+    found: Option<Pause>,
+    pause: &Pause,
+    member: MemberId,
+    first: Moment,
+    last: Moment,
+) -> Option<Pause>
+    ensures { result ≡ (if pauses_in member first last pause.now then Some pause.now else found) }
+{
+    if is_paused_in(pause, member, first, last) {
+        Some(*pause)
+    } else {
+        found
+    }
+}
+
+/// The last entry so far, with one more.
+fn later_cut(
+    found: Option<Cut>,
+    cut: &Cut,
+    group: usize,
+    first: Moment,
+    last: Moment,
+) -> Option<Cut>
+    ensures { result ≡ (if cuts_in group first last cut.now then Some cut.now else found) }
+{
+    if is_cut_in(cut, group, first, last) {
+        Some(*cut)
+    } else {
+        found
+    }
 }

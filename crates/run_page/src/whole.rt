@@ -12,6 +12,7 @@ use crate::layout::layout_style;
 use crate::traffic::push_traffic;
 use base::Memory;
 use drawing::{open_page, push_escaped, push_markup};
+use run_deaths::push_causes;
 use run_lanes::{Chosen, Run, all_chosen, push_lanes, push_thrown_out};
 use run_settings::push_settings;
 use run_spread::push_spread;
@@ -55,7 +56,7 @@ fn push_page(alloc: Global, text: &mut String, run: &Run, all: &[Chosen]) -> Res
     Ok(())
 }
 
-/// Appends what happened, the lanes and the table of false deaths.
+/// Appends what happened, the lanes, the table of false deaths and how they came about.
 #[tactic(auto, unfolding(crate::specs::Page::page_front))]
 fn push_front(alloc: Global, text: &mut String, run: &Run, all: &[Chosen]) -> Result<(), Memory>
     requires told { IsTold run.now }
@@ -65,6 +66,7 @@ fn push_front(alloc: Global, text: &mut String, run: &Run, all: &[Chosen]) -> Re
     push_summary(alloc, text, run)?;
     push_lanes(alloc, text, run, all)?;
     push_thrown_out(text, run, all)?;
+    push_causes(text, run)?;
     Ok(())
 }
 
