@@ -203,6 +203,12 @@ class Page:
         text += f'{self.states(row.member, row.moment, row.moment)}</li>'
         since = self.began(death.accusers[0]) if death.accusers else row.moment
         text += f'<li>From {grouped(since)} until its death:{self.states(row.about, since, row.moment)}</li>'
+        if death.refutation:
+            refuted, line, heard = death.refutation
+            text += (f'<li>It had last refuted at {grouped(refuted.moment)}, on line {line}; members that had heard of that by then: '
+                     f'{grouped(heard)}.</li>')
+        else:
+            text += '<li>It had refuted nothing.</li>'
         if death.is_later:
             text += ('<li>It was suspected under a higher incarnation number before that; these are its accusers under that '
                      'one.</li>')

@@ -9,8 +9,9 @@ use Rattle.trace.specs.declared.row.Row.{Row}
 use Rattle.series.specs.declared.lines.Line.{Line}
 use Rattle.series.specs.declared.accusers.Probe.{Probe}
 use Rattle.series.specs.declared.accusers.Accusation.{Accusation}
+use Rattle.series.specs.declared.standing.Refutation.{Refutation}
 use Rattle.series.specs.declared.deaths.Death.{Death}
-use Rattle.series.specs.Deaths.{Reached, line_reached, reaches, accusations, deaths_of, IsDeathOf}
+use Rattle.series.specs.Deaths.{Reached, line_reached, reaches, accusations, last_refutation, times_heard, deaths_of, IsDeathOf}
 use Rattle.drawing.specs.Escaped.{escaped}
 use Rattle.drawing.specs.Numbers.{grouped}
 use Rattle.drawing.specs.Shapes.{figure_opening, figure_end}
@@ -92,13 +93,27 @@ since_first list at = option_map_or began (slice_get list 0) at
 abbrev pub later_item : Bool → List ℕ
 later_item is_later = if is_later then codes "<li>It was suspected under a higher incarnation number before that; these are its accusers under that one.</li>" else []
 
+-- when it had last refuted what was said of it, and how many heard of that
+unfoldable pub refuted_item : ℕ → ℕ → ℕ → List ℕ
+refuted_item at line heard =
+    codes "<li>It had last refuted at " ++ grouped at ++ line_words line ++ codes "; members that had heard of that by then: " ++ grouped heard ++ codes ".</li>"
+
+-- the same, where it had
+abbrev pub refuted_told : Option Refutation → ℕ → List ℕ
+refuted_told (Some refutation) heard = refuted_item refutation.line.at refutation.line.number heard
+refuted_told None heard = codes "<li>It had refuted nothing.</li>"
+
+-- what the member itself was, and its last refutation
+unfoldable pub own_told : Setup → ℕ → ℕ → ℕ → Option Refutation → ℕ → List ℕ
+own_told s subject since at refutation heard = own_item s subject since at ++ refuted_told refutation heard
+
 unfoldable pub cause_opening : List ℕ → ℕ → List ℕ
 cause_opening name at = codes "<div class=\"cause\"><h3>" ++ escaped name ++ codes " at " ++ grouped at ++ codes "</h3><ul>"
 
--- the death of a member on a line, under a number, after these accusations
-unfoldable pub cause_words : Setup → ℕ → Line → ℕ → Bool → List Accusation → List ℕ
-cause_words s subject line number is_later list =
-    cause_opening (name_of s subject) line.at ++ declared_item s line number ++ own_item s subject (since_first list line.at) line.at
+-- the death of a member on a line, under a number, after these accusations and its last refutation, of which so many heard
+unfoldable pub cause_words : Setup → ℕ → Line → ℕ → Bool → List Accusation → Option Refutation → ℕ → List ℕ
+cause_words s subject line number is_later list refutation heard =
+    cause_opening (name_of s subject) line.at ++ declared_item s line number ++ own_told s subject (since_first list line.at) line.at refutation heard
     ++ later_item is_later ++ accusers_told s list ++ codes "</ul></div>\n"
 
 -- the subject was suspected under a higher number before it died
@@ -107,7 +122,7 @@ is_later subject r = list_any (reaches what.Suspect subject (r.row.value + 1)) r
 
 -- the same of a row
 abbrev pub cause : Setup → Reached → List ℕ
-cause s r = option_map_or (λ subject. cause_words s subject (line_reached r) r.row.value (is_later subject r) (accusations subject r.earlier)) r.row.about []
+cause s r = option_map_or (λ subject. cause_words s subject (line_reached r) r.row.value (is_later subject r) (accusations subject r.earlier) (last_refutation subject r.earlier) (times_heard subject r.earlier)) r.row.about []
 
 -- ---- all deaths
 

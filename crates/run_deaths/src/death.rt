@@ -6,14 +6,14 @@ ghost use Rattle.scenario.specs.Setup.{member_count};
 ghost use Rattle.series.specs.Accusers.{AreAccusers};
 ghost use Rattle.series.specs.declared.accusers.Accusation.{Accusation as AnAccusation};
 ghost use Rattle.series.specs.Deaths.{Reached, IsDeathOf};
-ghost use Rattle.run_deaths.specs.Causes.{cause, cause_opening, cause_words, declared_by, declared_words, declared_item, own_opening, own_item, since_first, later_item, AreNamed, CanTell};
+ghost use Rattle.run_deaths.specs.Causes.{cause, cause_opening, cause_words, declared_by, declared_words, declared_item, own_opening, own_item, since_first, own_told, refuted_item, refuted_told, later_item, AreNamed, CanTell};
 
 use crate::accusers::{began, push_accusers, push_line};
 use crate::troubles::push_states;
 use base::{MemberId, Moment};
 use drawing::{push_escaped, push_grouped};
 use scenario::Scenario;
-use series::{Accusers, Death, Line};
+use series::{Accusers, Death, Line, Refutation};
 use std::alloc::AllocError;
 
 /// Appends how a false death came about.
@@ -25,6 +25,7 @@ pub(crate) fn push_death(
     requires { CanTell scenario.now death.now }
     ensures { OnOk result ((r : Reached) → IsDeathOf death.now r → string_bytes text.new ≡ string_bytes text.old ++ cause scenario.now r) }
 {
+    let refutation = death.standing.refuted();
     push_words(
         text,
         scenario,
@@ -33,6 +34,8 @@ pub(crate) fn push_death(
         death.number,
         is_later(death),
         death.standing.accusers(),
+        &refutation,
+        death.standing.heard(),
     )
 }
 
@@ -57,17 +60,19 @@ fn push_words(
     number: u64,
     is_later: bool,
     accusers: &Accusers,
+    refutation: &Option<Refutation>,
+    heard: u64,
 ) -> Result<(), AllocError>
     requires subject { subject < member_count scenario.now }
     requires by { line.now.member < member_count scenario.now }
     requires accusers { (list : List AnAccusation) × AreAccusers accusers.now list × AreNamed scenario.now list }
     ensures { OnOk result ((list : List AnAccusation) → AreAccusers accusers.now list
-        → string_bytes text.new ≡ string_bytes text.old ++ cause_words scenario.now subject line.now number is_later list) }
+        → string_bytes text.new ≡ string_bytes text.old ++ cause_words scenario.now subject line.now number is_later list refutation.now heard) }
 {
     open_cause(text, scenario.name(subject), line.at.ticks())?;
     push_declared(text, scenario, line, number)?;
     let since = since_first(accusers, line.at);
-    push_own(text, scenario, subject, since, line.at)?;
+    push_own_told(text, scenario, subject, since, line.at, refutation, heard)?;
     push_later(text, is_later)?;
     push_accusers(text, scenario, accusers)?;
     text.push_str("</ul></div>\n")?;
@@ -155,6 +160,58 @@ fn since_first(accusers: &Accusers, at: Moment) -> Moment
         Some(first) => began(&first),
         None => at,
     }
+}
+
+/// Appends what the member itself was from a moment until its death, and its last refutation.
+#[tactic(auto, unfolding(crate::specs::Causes::own_told))]
+fn push_own_told(
+    text: &mut String,
+    scenario: &Scenario,
+    subject: MemberId,
+    since: Moment,
+    at: Moment,
+    refutation: &Option<Refutation>,
+    heard: u64,
+) -> Result<(), AllocError>
+    requires { subject < member_count scenario.now }
+    ensures { OnOk result (string_bytes text.new ≡ string_bytes text.old ++ own_told scenario.now subject since at refutation.now heard) }
+{
+    push_own(text, scenario, subject, since, at)?;
+    push_refuted_told(text, refutation, heard)?;
+    Ok(())
+}
+
+/// Appends when the member had last refuted what was said of it, where it had.
+fn push_refuted_told(
+    text: &mut String,
+    refutation: &Option<Refutation>,
+    heard: u64,
+) -> Result<(), AllocError>
+    ensures { OnOk result (string_bytes text.new ≡ string_bytes text.old ++ refuted_told refutation.now heard) }
+{
+    match refutation {
+        Some(refutation) => push_refuted(
+            text,
+            refutation.line.at.ticks(),
+            refutation.line.number,
+            heard,
+        ),
+        None => text.push_str("<li>It had refuted nothing.</li>"),
+    }
+}
+
+/// Appends when the member had last refuted what was said of it, and how many heard of that.
+#[tactic(auto, unfolding(crate::specs::Causes::refuted_item))]
+fn push_refuted(text: &mut String, at: u64, line: u64, heard: u64) -> Result<(), AllocError>
+    ensures { OnOk result (string_bytes text.new ≡ string_bytes text.old ++ refuted_item at line heard) }
+{
+    text.push_str("<li>It had last refuted at ")?;
+    push_grouped(text, at)?;
+    push_line(text, line)?;
+    text.push_str("; members that had heard of that by then: ")?;
+    push_grouped(text, heard)?;
+    text.push_str(".</li>")?;
+    Ok(())
 }
 
 /// Appends that the accusers are those of a later suspicion, where they are.

@@ -1,6 +1,6 @@
 -- What one row more makes of what is known of deaths.
-use Rattle.std.proofs.Common.{◌≡◌, ℕ, zero, suc, ◌+◌, ◌<◌, ◌≤◌, Bool, true, false, cond, ◌&&◌, ◌||◌, ◌==◌, not, List, [], ◌∷◌, ◌++◌, length, map, Option, Some, None, refl, sym, ap, subst, ◌∙◌, arith, append-nil, append_assoc, length-append, true≢false}
-use Rattle.std.specs.Prelude.{filter, if◌then◌else◌, nat_le, nat_lt, nat_eq, take, replicate, slice_get, slice_set, slice_index_or}
+use Rattle.std.proofs.Common.{◌≡◌, ℕ, zero, suc, ◌+◌, ◌<◌, ◌≤◌, Bool, true, false, cond, ◌&&◌, ◌||◌, ◌==◌, not, List, [], ◌∷◌, ◌++◌, length, map, Option, Some, None, refl, sym, ap, subst, ◌∙◌, arith, append-nil, append_assoc, length-append, true≢false, add-zero}
+use Rattle.std.specs.Prelude.{filter, count_by, if◌then◌else◌, nat_le, nat_lt, nat_eq, take, replicate, slice_get, slice_set, slice_index_or}
 use Rattle.std.proofs.lemmas.List.{length-map, length-set, length-replicate, get_or-replicate, get_or-set_same, get_or-set_other}
 use Rattle.std.proofs.lemmas.List.Sums.{length-filter, count_by-le-length}
 use Rattle.std.proofs.lemmas.Option.{slice_get-get_or, slice_get_read, slice_get_within, get_or_from_slice_get}
@@ -16,15 +16,21 @@ use Rattle.reports.proofs.Detections.{tells_of-it, tells_of-other}
 use Rattle.series.specs.declared.lines.Line.{Line}
 use Rattle.series.specs.declared.accusers.Probe.{Probe}
 use Rattle.series.specs.declared.accusers.Accusation.{Accusation}
+use Rattle.series.specs.declared.standing.Refutation.{Refutation}
 use Rattle.series.specs.declared.standing.Standing.{Standing}
 use Rattle.series.specs.declared.deaths.Death.{Death}
 use Rattle.series.specs.Accusers.{AreAccusers}
 use Rattle.series.specs.Lines.{line_at}
-use Rattle.series.specs.Deaths.{Reached, reached_at, reached, since, begins_probe, probe_told, last_probe, last_fail, reaches, is_new, is_line_of, accuses, accusation_told, accusations, begins_death, deaths_of, IsGreatest, IsStandingOf, IsDeathOf, IsToldOf, AreToldOf, AreProbesOf}
-use Rattle.series.proofs.Telling.{last_line-push, lines_other}
+use Rattle.series.specs.Deaths.{Reached, reached_at, reached, since, refutation_told, last_refutation, hears, hears_of, times_heard, begins_probe, probe_told, last_probe, last_fail, reaches, is_new, is_line_of, accuses, accusation_told, accusations, begins_death, deaths_of, IsGreatest, IsStandingOf, IsDeathOf, IsToldOf, AreToldOf, AreProbesOf}
+use Rattle.series.proofs.Telling.{last_line-push, lines_other, count-push}
+use denote.Enum.Bare.{sameb}
+use Rattle.trace.specs.contracts.row.What.{the_type}
 
 abbrev pub met : List Row → Row → Reached
 met earlier row = record { earlier = earlier; row = row }
+
+abbrev pub refutation : Line → ℕ → Refutation
+refutation line number = record { line = line; number = number }
 
 abbrev pub charge : Line → Option Probe → Accusation
 charge claim probe = record { claim = claim; probe = probe }
@@ -179,6 +185,79 @@ accusations-push subject rows row =
     none true l = refl
     none false l = refl
 
+-- ---- refutations
+
+pub refuted-push : (subject : ℕ) (rows : List Row) (row : Row) → last_refutation subject (rows ++ row ∷ [])
+    ≡ (if tells_of what.Refute subject row then Some (record { line = line_at (length rows + 2) row; number = row.value }) else last_refutation subject rows)
+refuted-push subject rows row =
+    let test : Reached → Bool = λ r. tells_of what.Refute subject r.row in
+    ap (λ l. last_or None (map refutation_told (filter test l))) (reached-push rows row)
+    ∙ ap (λ l. last_or None (map refutation_told l)) (filter-push test (reached rows) (met rows row))
+    ∙ ap (last_or None) (map-push refutation_told (filter test (reached rows)) (if tells_of what.Refute subject row then met rows row ∷ [] else [])
+    ∙ ap (λ l. map refutation_told (filter test (reached rows)) ++ l) (map-if refutation_told (tells_of what.Refute subject row) (met rows row)))
+    ∙ last-if (map refutation_told (filter test (reached rows))) (tells_of what.Refute subject row) (record { line = line_at (length rows + 2) row; number = row.value })
+
+-- a refutation takes nobody for alive
+no_hearing : (last : Option Refutation) (row : Row) → has_kind what.Refute row ≡ true → hears last row ≡ false
+no_hearing None row is = refl
+no_hearing (Some refutation) row is = ap (λ t. t && nat_le refutation.number row.value) (other_kind row.what is)
+  where
+    other_kind : (kind : What) → sameb the_type kind what.Refute ≡ true → sameb the_type kind what.Alive ≡ false
+    other_kind what.Start h = refl
+    other_kind what.Crash h = refl
+    other_kind what.Joined h = refl
+    other_kind what.Join h = refl
+    other_kind what.Welcome h = refl
+    other_kind what.Ping h = refl
+    other_kind what.PingReq h = refl
+    other_kind what.Ack h = refl
+    other_kind what.Nack h = refl
+    other_kind what.Fail h = refl
+    other_kind what.Health h = refl
+    other_kind what.Alive h = sym h
+    other_kind what.Suspect h = refl
+    other_kind what.Confirm h = refl
+    other_kind what.Accuse h = refl
+    other_kind what.Refute h = refl
+    other_kind what.Dead h = refl
+    other_kind what.Leave h = refl
+    other_kind what.Bye h = refl
+    other_kind what.Gossip h = refl
+    other_kind what.Call h = refl
+    other_kind what.Answer h = refl
+    other_kind what.Push h = refl
+    other_kind what.Pull h = refl
+
+heard_more : (subject : ℕ) (rows : List Row) (row : Row) → times_heard subject (rows ++ row ∷ [])
+    ≡ count_by (hears_of subject) (if tells_of what.Refute subject row then [] else since (λ r. tells_of what.Refute subject r.row) (reached rows)) + cond (hears_of subject (met rows row)) 1 0
+heard_more subject rows row =
+    let test : Reached → Bool = λ r. tells_of what.Refute subject r.row in
+    ap (λ l. count_by (hears_of subject) (since test l)) (reached-push rows row)
+    ∙ ap (count_by (hears_of subject)) (since-push test (reached rows) (met rows row))
+    ∙ count-push (hears_of subject) (if tells_of what.Refute subject row then [] else since test (reached rows)) (met rows row)
+
+and_true : (b : Bool) → (b && true) ≡ b
+and_true true = refl
+and_true false = refl
+
+and_false : (b : Bool) → (b && false) ≡ false
+and_false true = refl
+and_false false = refl
+
+pub heard-push : (subject : ℕ) (rows : List Row) (row : Row) → is_about subject row ≡ true
+    → times_heard subject (rows ++ row ∷ []) ≡ (if has_kind what.Refute row then 0 else (times_heard subject rows + cond (hears (last_refutation subject rows) row) 1 0))
+heard-push subject rows row about =
+    heard_more subject rows row
+    ∙ ap (λ t. count_by (hears_of subject) (if t then [] else since (λ r. tells_of what.Refute subject r.row) (reached rows)) + cond (hears_of subject (met rows row)) 1 0) (tells_of-it what.Refute subject row about)
+    ∙ ap (λ t. count_by (hears_of subject) (if has_kind what.Refute row then [] else since (λ r. tells_of what.Refute subject r.row) (reached rows)) + cond t 1 0) (ap (λ t. hears (last_refutation subject rows) row && t) about ∙ and_true (hears (last_refutation subject rows) row))
+    ∙ by (has_kind what.Refute row) refl
+  where
+    by : (t : Bool) → has_kind what.Refute row ≡ t
+        → count_by (hears_of subject) (if t then [] else since (λ r. tells_of what.Refute subject r.row) (reached rows)) + cond (hears (last_refutation subject rows) row) 1 0
+        ≡ (if t then 0 else (times_heard subject rows + cond (hears (last_refutation subject rows) row) 1 0))
+    by true is = ap (λ h. 0 + cond h 1 0) (no_hearing (last_refutation subject rows) row is)
+    by false is = refl
+
 -- ---- what is known of a member
 
 -- with one row more about it
@@ -192,13 +271,24 @@ pub stands : (subject number : ℕ) (old new : Standing) (probe : Option Probe) 
     → new.suspected ≡ (if has_kind what.Suspect row && not (option_map_or (nat_le row.value) old.suspected false) then Some row.value else old.suspected)
     → new.declared ≡ (if has_kind what.Confirm row && not (option_map_or (nat_le row.value) old.declared false) then Some row.value else old.declared)
     → new.failed ≡ (if has_kind what.Fail row then Some (line_at number row) else old.failed)
+    → new.heard ≡ (if has_kind what.Refute row then 0 else (old.heard + cond (hears old.refuted row) 1 0))
+    → new.refuted ≡ (if has_kind what.Refute row then Some (record { line = line_at number row; number = row.value }) else old.refuted)
     → IsStandingOf subject new (rows ++ row ∷ [])
-stands subject number old new probe anew charges claim rows row about numbered probed is is_anew is_charge is_claim accusers suspected declared failed =
+stands subject number old new probe anew charges claim rows row about numbered probed is is_anew is_charge is_claim accusers suspected declared failed heard refuted =
     record {
       suspected = greatest-push what.Suspect subject rows row old.suspected new.suspected about is.suspected suspected;
       declared = greatest-push what.Confirm subject rows row old.declared new.declared about is.declared declared;
       failed = last_line-push what.Fail subject rows row number old.failed new.failed about numbered is.failed failed;
       accusers = subst (AreAccusers new.accusers) same (accusers (accusations subject rows) is.accusers);
+      heard =
+          heard ∙ ap (λ n. if has_kind what.Refute row then 0 else (n + cond (hears old.refuted row) 1 0)) is.heard
+          ∙ ap (λ o. if has_kind what.Refute row then 0 else (times_heard subject rows + cond (hears o row) 1 0)) is.refuted
+          ∙ sym (heard-push subject rows row about);
+      refuted =
+          refuted ∙ ap (λ o. if has_kind what.Refute row then Some (refutation (line_at number row) row.value) else o) is.refuted
+          ∙ ap (λ n. if has_kind what.Refute row then Some (refutation (line_at n row) row.value) else last_refutation subject rows) numbered
+          ∙ ap (λ t. if t then Some (refutation (line_at (length rows + 2) row) row.value) else last_refutation subject rows) (sym (tells_of-it what.Refute subject row about))
+          ∙ sym (refuted-push subject rows row);
     }
   where
     r : Reached
@@ -230,6 +320,16 @@ stands_on subject standing rows row other is =
       declared = greatest_other what.Confirm subject rows row standing.declared other is.declared;
       failed = is.failed ∙ ap (last_or None) (lines_other (tells_of what.Fail subject) rows row (tells_of-other what.Fail subject row other));
       accusers = subst (AreAccusers standing.accusers) (sym same) is.accusers;
+      heard =
+          is.heard
+          ∙ sym (heard_more subject rows row
+          ∙ ap (λ t. count_by (hears_of subject) (if t then [] else since (λ q. tells_of what.Refute subject q.row) (reached rows)) + cond (hears_of subject r) 1 0) (tells_of-other what.Refute subject row other)
+          ∙ ap (λ t. times_heard subject rows + cond t 1 0) (ap (λ t. hears (last_refutation subject rows) row && t) other ∙ and_false (hears (last_refutation subject rows) row))
+          ∙ add-zero (times_heard subject rows));
+      refuted =
+          is.refuted
+          ∙ sym (refuted-push subject rows row
+          ∙ ap (λ t. if t then Some (refutation (line_at (length rows + 2) row) row.value) else last_refutation subject rows) (tells_of-other what.Refute subject row other));
     }
   where
     r : Reached
@@ -423,6 +523,17 @@ accused_few subject rows =
       length-filter (accuses subject) all,
       count_by-le-length (accuses subject) all,
       since_few (is_new what.Suspect subject) (reached rows),
+      length-map (rows_in_place rows) reached_at,
+      length-placed [] rows,
+    )
+
+pub heard_few : (subject : ℕ) (rows : List Row) → times_heard subject rows ≤ length rows
+heard_few subject rows =
+    let all = since (λ r. tells_of what.Refute subject r.row) (reached rows) in
+    omega (
+      arith,
+      count_by-le-length (hears_of subject) all,
+      since_few (λ r. tells_of what.Refute subject r.row) (reached rows),
       length-map (rows_in_place rows) reached_at,
       length-placed [] rows,
     )

@@ -1,15 +1,16 @@
 -- How members that are up come to be declared dead: what the rows before tell of it.
-use Rattle.std.specs.Prelude.{◌≡◌, ℕ, ◌+◌, ◌<◌, ◌^◌, Bool, false, ◌&&◌, ◌||◌, ◌==◌, not, nat_le, if◌then◌else◌, Option, Some, None, IfSome, List, [], ◌∷◌, map, filter, length, slice_get, slice_index_or}
+use Rattle.std.specs.Prelude.{◌≡◌, ℕ, ◌+◌, ◌<◌, ◌^◌, Bool, false, ◌&&◌, ◌||◌, ◌==◌, not, nat_le, if◌then◌else◌, Option, Some, None, IfSome, List, [], ◌∷◌, map, filter, count_by, length, slice_get, slice_index_or}
 use Rattle.std.specs.Option.{option_map_or}
 use Rattle.std.specs.List.{last_or, list_any}
 use Rattle.trace.specs.declared.row.What.{What}
 use Rattle.trace.specs.declared.row.What.TheVariants as what
 use Rattle.trace.specs.declared.row.Row.{Row}
-use Rattle.reports.specs.Rows.{Placed, rows_in_place, has_kind, tells_of}
+use Rattle.reports.specs.Rows.{Placed, rows_in_place, has_kind, is_about, tells_of}
 use Rattle.reports.specs.FalsePositives.{ways_to_depart, departed_in, is_false_claim}
 use Rattle.series.specs.declared.lines.Line.{Line}
 use Rattle.series.specs.declared.accusers.Probe.{Probe}
 use Rattle.series.specs.declared.accusers.Accusation.{Accusation}
+use Rattle.series.specs.declared.standing.Refutation.{Refutation}
 use Rattle.series.specs.declared.standing.Standing.{Standing}
 use Rattle.series.specs.declared.deaths.Death.{Death}
 use Rattle.series.specs.declared.deaths.Deaths.{Deaths}
@@ -82,6 +83,27 @@ accusation_told r = record { claim = line_reached r; probe = last_probe r.row.me
 abbrev pub accusations : ℕ → List Row → List Accusation
 accusations subject rows = map accusation_told (filter (accuses subject) (since (is_new what.Suspect subject) (reached rows)))
 
+-- ---- refutations
+
+abbrev pub refutation_told : Reached → Refutation
+refutation_told r = record { line = line_reached r; number = r.row.value }
+
+-- the last refutation of a subject
+abbrev pub last_refutation : ℕ → List Row → Option Refutation
+last_refutation subject rows = last_or None (map refutation_told (filter (λ r. tells_of what.Refute subject r.row) (reached rows)))
+
+-- the row takes somebody for alive under the number of the refutation, or a higher one
+abbrev pub hears : Option Refutation → Row → Bool
+hears last row = option_map_or (λ refutation. has_kind what.Alive row && nat_le refutation.number row.value) last false
+
+-- the row does so of the subject, whose last refutation it follows
+abbrev pub hears_of : ℕ → Reached → Bool
+hears_of subject r = hears (last_refutation subject r.earlier) r.row && is_about subject r.row
+
+-- how often members took the subject for alive since its last refutation: each does so once under a number
+abbrev pub times_heard : ℕ → List Row → ℕ
+times_heard subject rows = count_by (hears_of subject) (since (λ r. tells_of what.Refute subject r.row) (reached rows))
+
 -- ---- deaths
 
 -- A member that is up is declared dead, for the first time under this incarnation number or a higher one. Later rows under
@@ -109,6 +131,8 @@ pub record IsStandingOf (subject : ℕ) (standing : Standing) (rows : List Row) 
   pub declared : IsGreatest what.Confirm subject standing.declared rows
   pub failed : standing.failed ≡ last_fail subject rows
   pub accusers : AreAccusers standing.accusers (accusations subject rows)
+  pub refuted : standing.refuted ≡ last_refutation subject rows
+  pub heard : standing.heard ≡ times_heard subject rows
 
 -- what is kept of a death is what its row tells, and the rows before it
 pub record IsDeathOf (death : Death) (r : Reached) : Type 0 where

@@ -23,5 +23,5 @@ pub use lines::Line;
 pub use series::Series;
 pub use spans::Spans;
 pub use spread::Spread;
-pub use standing::Standing;
+pub use standing::{Refutation, Standing};
 pub use story::Story;

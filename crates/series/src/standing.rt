@@ -1,14 +1,24 @@
 //! What is known of a member that may be declared dead.
-ghost use Rattle.std.specs.Prelude.{◌≡◌, ℕ, ◌+◌, ◌<◌, ◌^◌, Bool, true, false, ◌&&◌, ◌||◌, not, nat_le, ◌++◌, ◌∷◌, [], List, Some, None, if◌then◌else◌, length};
+ghost use Rattle.std.specs.Prelude.{◌≡◌, ℕ, ◌+◌, ◌<◌, ◌^◌, Bool, true, false, ◌&&◌, ◌||◌, not, cond, nat_le, ◌++◌, ◌∷◌, [], List, Some, None, if◌then◌else◌, length};
 ghost use Rattle.std.specs.Option.{option_map_or};
 ghost use Rattle.reports.specs.Rows.{has_kind};
 ghost use Rattle.series.specs.Accusers.{AreAccusers};
-ghost use Rattle.series.specs.Deaths.{is_line_of};
+ghost use Rattle.series.specs.Lines.{line_at};
+ghost use Rattle.series.specs.Deaths.{is_line_of, hears};
 ghost use Rattle.series.specs.declared.accusers.Accusation.{Accusation as AnAccusation};
 
 use crate::accusers::{Accusation, Accusers, Probe};
 use crate::lines::{Line, last_line, line_at};
 use trace::{Row, What};
+
+/// A row by which a member refuted what was said of it.
+#[derive(Clone, Copy, Debug, PartialEq, Eq)]
+pub struct Refutation {
+    /// The row.
+    pub line: Line,
+    /// The member's new incarnation number.
+    pub number: u64,
+}
 
 /// What is known of a member that may be declared dead.
 #[derive(Clone, Copy)]
@@ -21,6 +31,10 @@ pub struct Standing {
     failed: Option<Line>,
     /// Who accused it since it was first suspected under that number.
     accusers: Accusers,
+    /// Its last refutation.
+    refuted: Option<Refutation>,
+    /// How often others took it for alive under that number or a higher one since.
+    heard: u64,
 }
 
 impl Standing {
@@ -37,6 +51,8 @@ impl Standing {
             declared: None,
             failed: None,
             accusers: Accusers::new(),
+            refuted: None,
+            heard: 0,
         }
     }
 
@@ -44,6 +60,7 @@ impl Standing {
     /// probe is the last one that the row's member began.
     pub(crate) fn follow(&mut self, row: &Row, number: u64, probe: Option<Probe>)
         requires few { self.old.accusers.count < 2 ^ 63 }
+        requires heard { self.old.heard < 2 ^ 63 }
         ensures { (subject : ℕ) (rows : List AnyRow) → is_about subject row.now ≡ true → number ≡ length rows + 2
             → probe ≡ last_probe row.now.member rows → IsStandingOf subject self.old rows → IsStandingOf subject self.new (rows ++ row.now ∷ []) }
     {
@@ -59,6 +76,8 @@ impl Standing {
         self.suspected = greatest(self.suspected, What::Suspect, row);
         self.declared = greatest(self.declared, What::Confirm, row);
         self.failed = last_line(self.failed, What::Fail, row, number);
+        self.heard = heard(self.heard, self.refuted, row);
+        self.refuted = refuted(self.refuted, row, number);
     }
 
     /// The greatest incarnation number under which it was suspected.
@@ -80,6 +99,20 @@ impl Standing {
         ensures { result ≡ self.now.failed }
     {
         self.failed
+    }
+
+    /// Its last refutation.
+    pub fn refuted(&self) -> Option<Refutation>
+        ensures { result ≡ self.now.refuted }
+    {
+        self.refuted
+    }
+
+    /// How often others took it for alive since, under its number then or a higher one.
+    pub fn heard(&self) -> u64
+        ensures { result ≡ self.now.heard }
+    {
+        self.heard
     }
 
     /// Who accused it since it was first suspected under its newest number.
@@ -146,5 +179,44 @@ fn follow_accusers(accusers: &mut Accusers, anew: bool, accuses: bool, accusatio
     }
     if accuses {
         accusers.add(accusation);
+    }
+}
+
+/// The last refutation, with one row more.
+fn refuted(last: Option<Refutation>, row: &Row, number: u64) -> Option<Refutation>
+    ensures { result ≡ (if has_kind What.Refute row.now then Some (record { line = line_at number row.now; number = row.now.value }) else last) }
+{
+    if row.what == What::Refute {
+        let line = line_at(number, row);
+        Some(Refutation {
+            line,
+            number: row.value,
+        })
+    } else {
+        last
+    }
+}
+
+/// How often others took the member for alive since its last refutation, with one row more.
+fn heard(before: u64, last: Option<Refutation>, row: &Row) -> u64
+    requires { before < 2 ^ 63 }
+    ensures { result ≡ (if has_kind What.Refute row.now then 0 else (before + cond (hears last row.now) 1 0)) }
+{
+    if row.what == What::Refute {
+        return 0;
+    }
+    if hears(last, row) {
+        return before + 1;
+    }
+    before
+}
+
+/// Whether a row takes for alive under the number of a refutation, or a higher one.
+fn hears(last: Option<Refutation>, row: &Row) -> bool
+    ensures { result ≡ hears last row.now }
+{
+    match last {
+        Some(refutation) => row.what == What::Alive && refutation.number <= row.value,
+        None => false,
     }
 }

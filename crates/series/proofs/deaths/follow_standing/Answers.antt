@@ -3,11 +3,11 @@ use Rattle.std.specs.Prelude.{None, slice_get, slice_index_or}
 use Rattle.std.proofs.lemmas.Option.{slice_get_read}
 use Rattle.series.specs.Deaths.{IsStandingOf}
 use Rattle.series.proofs.Gathering.{set_each, about_none, about_it, about_other, in_some}
-use Rattle.series.proofs.Dying.{stands_on, accused_few, read}
+use Rattle.series.proofs.Dying.{stands_on, accused_few, heard_few, read}
 use Rattle.series.proofs.deaths.follow_standing.Goals as goal
 
-pub follow-requires : goal.follow-requires
-follow-requires c =
+pub follow-requires-clause-few : goal.follow-requires-clause-few
+follow-requires-clause-few c =
     let can = c.requires.can in
     let standings = c.args.standings.now.items in
     let place = c.index-in-Some.result in
@@ -15,6 +15,16 @@ follow-requires c =
     let within : place < length standings = in_some _ place (length standings) is c.requires.about in
     let here : slice_get standings place ≡ Some c.index_mut-standing.result.now = slice_get_read standings (length standings) place c.index_mut-standing.result.now refl within c.index_mut-standing.ensures.value in
     omega (arith, (can.are place c.index_mut-standing.result.now here).accusers.count, accused_few place can.rows, can.few)
+
+pub follow-requires-clause-heard : goal.follow-requires-clause-heard
+follow-requires-clause-heard c =
+    let can = c.requires.can in
+    let standings = c.args.standings.now.items in
+    let place = c.index-in-Some.result in
+    let is : c.args.row.now.about ≡ Some place = c.in-Some.is ∙ ap Some (sym c.index-in-Some.ensures) in
+    let within : place < length standings = in_some _ place (length standings) is c.requires.about in
+    let here : slice_get standings place ≡ Some c.index_mut-standing.result.now = slice_get_read standings (length standings) place c.index_mut-standing.result.now refl within c.index_mut-standing.ensures.value in
+    omega (arith, (can.are place c.index_mut-standing.result.now here).heard, heard_few place can.rows, can.few)
 
 pub returns-in-Some-clause-follows : goal.returns-in-Some-clause-follows
 returns-in-Some-clause-follows c rows numbered probes are =
