@@ -4,12 +4,12 @@ Written from docs/PAGES.md ("The page of a run") alone.
 """
 
 from model_drawing import (FIGURE_END, PLOT_END, area, axis_across, axis_up, band, dot, escaped, figure, grouped, legend,
-                           legend_entry, line, plot, rule)
-from model_run_series import MOST_HEALTH, MOST_SPANS, Series
+                           legend_entry, line, page_opening, plot, rule)
+from model_run_series import MOST_HEALTH, MOST_SPANS, Series, deaths_of
 from model_text import CONFIRM, SUSPECT
 from scenarios import keys_of
 
-MOST_LANES, MOST_FALSE_DEATHS = 60, 200
+MOST_LANES, MOST_FALSE_DEATHS, MOST_CAUSES, MOST_ACCUSERS = 60, 200, 20, 4
 MESSAGE_CLASSES = {
     'ping': 'one', 'ack': 'two', 'join': 'three', 'nack': 'four', 'ping-req': 'five', 'welcome': 'six', 'bye': 'seven',
     'gossip': 'eight', 'push': 'nine', 'pull': 'ten', 'call': 'eleven', 'answer': 'twelve',
@@ -37,9 +37,10 @@ class Page:
         self.others = max(1, len(self.series.names) - 1)
         self.past = self.series.end + 1
         self.lanes = self.series.lanes()
+        self.deaths = deaths_of(rows)
 
     def text(self, release):
-        return (self.summary() + self.lanes_figure() + self.false_deaths() + self.spread() + self.traffic() + self.health()
+        return (self.summary() + self.lanes_figure() + self.false_deaths() + self.causes() + self.spread() + self.traffic() + self.health()
                 + Settings(self.scenario).text(release))
 
     def time_axis(self):
@@ -180,6 +181,71 @@ class Page:
             if any(entry[begin] <= moment < entry['until'] for entry in entries):
                 return word
         return 'well'
+
+    # how false deaths came about
+
+    def causes(self):
+        if not self.deaths:
+            return ''
+        text = figure('causes', 'How false deaths came about')
+        text += ('<p class="soft">Each false death that is the first under its member\'s incarnation number: the later ones under that '
+                 'number follow from it, or have the same cause.</p>')
+        text += ''.join(map(self.cause, self.deaths[:MOST_CAUSES]))
+        if len(self.deaths) > MOST_CAUSES:
+            more = len(self.deaths) - MOST_CAUSES
+            text += f'<p class="soft">{grouped(more)} {"more isn" if more == 1 else "more aren"}\'t shown.</p>'
+        return text + FIGURE_END
+
+    def cause(self, death):
+        row, names = death.row, self.series.names
+        text = f'<div class="cause"><h3>{names[row.about]} at {grouped(row.moment)}</h3><ul>'
+        text += f'<li>{names[row.member]} declared it dead first, on line {death.line}, under incarnation number {grouped(row.value)}.'
+        text += f'{self.states(row.member, row.moment, row.moment)}</li>'
+        since = self.began(death.accusers[0]) if death.accusers else row.moment
+        text += f'<li>From {grouped(since)} until its death:{self.states(row.about, since, row.moment)}</li>'
+        if death.refutation:
+            refuted, line, heard = death.refutation
+            text += (f'<li>It had last refuted at {grouped(refuted.moment)}, on line {line}; members that had heard of that by then: '
+                     f'{grouped(heard)}.</li>')
+        else:
+            text += '<li>It had refuted nothing.</li>'
+        if death.is_later:
+            text += ('<li>It was suspected under a higher incarnation number before that; these are its accusers under that '
+                     'one.</li>')
+        text += ''.join(map(self.accuser, death.accusers[:MOST_ACCUSERS]))
+        if not death.accusers:
+            text += '<li>Nobody accused it on its own evidence.</li>'
+        if len(death.accusers) > MOST_ACCUSERS:
+            more = len(death.accusers) - MOST_ACCUSERS
+            text += f'<li>{counted(more, "more accusation isn", "more accusations aren")}\'t shown.</li>'
+        return text + '</ul></div>\n'
+
+    @staticmethod
+    def began(accuser):
+        """When an accuser's probe began, where that is known; else when it accused."""
+        row, _, ping = accuser
+        return ping[0].moment if ping else row.moment
+
+    def accuser(self, accuser):
+        row, line, ping = accuser
+        text = f'<li>{self.series.names[row.member]} accused it at {grouped(row.moment)}, on line {line}.'
+        if ping:
+            sent, place = ping
+            text += f' Its ping of {grouped(sent.moment)}, on line {place}, {"was" if sent.lost else "wasn" + chr(39) + "t"} lost.'
+        return f'{text}{self.states(row.member, self.began(accuser), row.moment)}</li>'
+
+    def states(self, member, first, last):
+        """What a member was at some moment of a time: of slow times, pauses and cuts the last that the text has."""
+        text = ''
+        for entries, begin, words in ((self.series.those('slow', member), 'from', 'slow by {}'),
+                                      (self.series.those('pause', member), 'from', 'paused'),
+                                      (self.series.cuts(member), 'at', 'cut off')):
+            then = [entry for entry in entries if entry[begin] <= last and first < entry['until']]
+            if then:
+                told = words.format(grouped(then[-1].get('extra', 0)))
+                text += (f' {self.series.names[member]} was {told} from {grouped(then[-1][begin])} until '
+                         f'{grouped(then[-1]["until"])}.')
+        return text or f' {self.series.names[member]} was well.'
 
     # how the news of a crash spread
 
@@ -335,8 +401,5 @@ class Settings:
 
 def page_of(name, release, style, scenario, rows):
     """The page of the run of a scenario's file of this name."""
-    head = ('<!DOCTYPE html>\n<html lang="en"><head><meta charset="utf-8">'
-            '<meta name="viewport" content="width=device-width,initial-scale=1">'
-            f'<title>{escaped(name)} - swimsim</title><style>{style}</style></head>\n'
-            f'<body><main><header><h1>{escaped(name)}</h1></header>\n')
+    head = page_opening(name, ' - swimsim', style) + f'{escaped(name)}</h1></header>\n'
     return head + Page(scenario, rows).text(release) + '</main></body></html>\n'

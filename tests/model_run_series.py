@@ -123,3 +123,38 @@ class Series:
             if claims or moment is not None or self.those('slow', member) or self.those('pause', member):
                 lanes.append((-story.false_deaths, 2**64 if moment is None else moment, -claims, member))
         return [member for *_, member in sorted(lanes)]
+
+
+class Death:
+    """The first death of a member that is up under an incarnation number: of the rows before it, what led to it."""
+
+    def __init__(self, row, line, accusers, is_later, refutation):
+        self.row, self.line, self.accusers, self.is_later, self.refutation = row, line, accusers, is_later, refutation
+
+
+def deaths_of(rows):
+    """The first deaths of members that are up. An accuser is a row's line and its member's last ping by a timer of its own."""
+    departed, greatest, pings, failed, accusers, refuted, deaths = set(), {}, {}, {}, {}, {}, []
+    for place, row in enumerate(rows):
+        line = place + 2
+        is_new = row.value > greatest.get((row.what, row.about), -1)
+        if row.what == CONFIRM and row.about not in departed and is_new:
+            is_later = greatest.get((SUSPECT, row.about), -1) > row.value
+            deaths.append(Death(row, line, list(accusers.get(row.about, ())), is_later, refuted.get(row.about)))
+        if row.what == SUSPECT and is_new:
+            accusers[row.about] = []
+        if row.what in (SUSPECT, 'accuse') and failed.get(row.about) == (row.member, row.moment):
+            accusers.setdefault(row.about, []).append((row, line, pings.get(row.member)))
+        if row.what in (SUSPECT, CONFIRM) and is_new:
+            greatest[row.what, row.about] = row.value
+        if row.what == 'fail':
+            failed[row.about] = row.member, row.moment
+        if row.what == 'refute':
+            refuted[row.member] = row, line, 0
+        if row.what == ALIVE and row.about in refuted and row.value >= refuted[row.about][0].value:
+            refuted[row.about] = *refuted[row.about][:2], refuted[row.about][2] + 1
+        if row.what == 'ping' and row.maker == row.member:
+            pings[row.member] = row, line
+        if row.what in ('crash', 'leave'):
+            departed.add(row.member)
+    return deaths

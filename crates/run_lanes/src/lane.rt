@@ -188,7 +188,7 @@ fn push_cut(text: &mut String, run: &Run, cut: &Cut, group: usize) -> Result<(),
 }
 
 /// Whether a cut is one of a group's: of what its members send, or of what is sent to them.
-pub(crate) fn is_cut_of(cut: &Cut, group: usize) -> bool
+pub fn is_cut_of(cut: &Cut, group: usize) -> bool
     ensures { result ≡ is_cut_of group cut.now }
 {
     cut.from == group || cut.to == group

@@ -2,35 +2,26 @@
 use Rattle.std.specs.Prelude.{ℕ, List, ◌++◌, codes}
 use Rattle.scenario.specs.Setup.{Setup}
 use Rattle.trace.specs.declared.row.Row.{Row}
-use Rattle.drawing.specs.Escaped.{escaped}
+use Rattle.drawing.specs.Escaped.{escaped, markup}
+use Rattle.drawing.specs.Pages.{page_opening}
 use Rattle.run_lanes.specs.declared.chosen.Chosen.{Chosen}
 use Rattle.run_lanes.specs.LaneTable.{lanes_text}
 use Rattle.run_lanes.specs.ThrownOut.{thrown_out_text}
+use Rattle.run_deaths.specs.Causes.{causes_text}
 use Rattle.run_settings.specs.Settings.{settings_text}
 use Rattle.run_summary.specs.Summary.{summary_text}
 use Rattle.run_spread.specs.Spread.{spread_text}
-use Rattle.drawing.specs.Styles.{drawing_style}
 use Rattle.run_page.specs.Styles.{layout_style}
 use Rattle.run_page.specs.Traffic.{traffic_text}
 use Rattle.run_page.specs.Health.{health_text}
 
--- the page's head up to its style
-unfoldable pub head_opening : List ℕ → List ℕ
-head_opening name =
-    codes "<!DOCTYPE html>\n<html lang=\"en\"><head><meta charset=\"utf-8\"><meta name=\"viewport\" content=\"width=device-width,initial-scale=1\"><title>"
-    ++ escaped name ++ codes " - swimsim</title><style>"
-
--- the head's end, and the heading
-unfoldable pub head_end : List ℕ → List ℕ
-head_end name = codes "</style></head>\n<body><main><header><h1>" ++ escaped name ++ codes "</h1></header>\n"
-
 -- what stands before the figures
 unfoldable pub head_text : List ℕ → List ℕ
-head_text name = head_opening name ++ drawing_style ++ layout_style ++ head_end name
+head_text name = page_opening name (codes " - swimsim") layout_style ++ escaped name ++ markup (codes "</h1></header>\n")
 
--- what happened, the lanes and the table of those that were thrown out, where these are all members with a lane in their order
+-- what happened, the lanes, the table of false deaths and how they came about, where these are all members with a lane in their order
 unfoldable pub page_front : Setup → List Row → List Chosen → List ℕ
-page_front s rows all = summary_text s rows ++ lanes_text s rows all ++ thrown_out_text s rows all
+page_front s rows all = summary_text s rows ++ lanes_text s rows all ++ thrown_out_text s rows all ++ causes_text s rows
 
 -- how the news of crashes spread, the messages, the members' health and what was run, by a release of the program
 unfoldable pub page_back : Setup → List Row → List ℕ → List ℕ

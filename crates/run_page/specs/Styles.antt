@@ -22,6 +22,7 @@ layout_style =
     ++ codes ".chart .across,.chart .unit{grid-column:2}.chart.low .plot{height:5rem}"
     ++ codes ".many{display:grid;grid-template-columns:repeat(auto-fill,minmax(min(100%,24rem),1fr));gap:1.2rem 1.5rem}"
     ++ codes ".many h3{font-size:1rem;margin:0}.many .plot{height:8rem}"
+    ++ codes ".cause h3{font-size:1rem;margin:1em 0 0}.cause ul{margin:.2em 0;padding-left:1.2em;font-size:.9rem}"
     ++ codes "details{margin:.5em 0}summary{cursor:pointer;color:var(--soft);font-size:.9rem}"
     ++ codes ".wide{overflow-x:auto}table{border-collapse:collapse;font-size:.85rem;margin:.4em 0}"
     ++ codes "th,td{text-align:right;padding:.15em .8em .15em 0;border-bottom:1px solid var(--line);white-space:nowrap;font-variant-numeric:tabular-nums}"

@@ -5,13 +5,14 @@ ghost use Rattle.scenario.specs.Setup.{member_count};
 ghost use Rattle.run_lanes.specs.declared.chosen.Chosen.{Chosen as AChosen};
 ghost use Rattle.run_lanes.specs.Run.{IsTold};
 ghost use Rattle.run_lanes.specs.Choice.{choices};
-ghost use Rattle.run_page.specs.Page.{head_opening, head_end, head_text, page_front, page_back, page_text};
+ghost use Rattle.run_page.specs.Page.{head_text, page_front, page_back, page_text};
 
 use crate::health::push_health;
 use crate::layout::layout_style;
 use crate::traffic::push_traffic;
 use base::Memory;
-use drawing::{drawing_style, push_escaped};
+use drawing::{open_page, push_escaped, push_markup};
+use run_deaths::push_causes;
 use run_lanes::{Chosen, Run, all_chosen, push_lanes, push_thrown_out};
 use run_settings::push_settings;
 use run_spread::push_spread;
@@ -55,7 +56,7 @@ fn push_page(alloc: Global, text: &mut String, run: &Run, all: &[Chosen]) -> Res
     Ok(())
 }
 
-/// Appends what happened, the lanes and the table of false deaths.
+/// Appends what happened, the lanes, the table of false deaths and how they came about.
 #[tactic(auto, unfolding(crate::specs::Page::page_front))]
 fn push_front(alloc: Global, text: &mut String, run: &Run, all: &[Chosen]) -> Result<(), Memory>
     requires told { IsTold run.now }
@@ -65,6 +66,7 @@ fn push_front(alloc: Global, text: &mut String, run: &Run, all: &[Chosen]) -> Re
     push_summary(alloc, text, run)?;
     push_lanes(alloc, text, run, all)?;
     push_thrown_out(text, run, all)?;
+    push_causes(text, run)?;
     Ok(())
 }
 
@@ -87,33 +89,7 @@ fn push_back(alloc: Global, text: &mut String, run: &Run) -> Result<(), Memory>
 fn push_head(text: &mut String, name: &str) -> Result<(), AllocError>
     ensures { OnOk result (string_bytes text.new ≡ string_bytes text.old ++ head_text name.now) }
 {
-    open_head(text, name)?;
-    text.push_str(drawing_style())?;
-    text.push_str(layout_style())?;
-    close_head(text, name)?;
-    Ok(())
-}
-
-/// Appends the page's head up to its style.
-#[tactic(auto, unfolding(crate::specs::Page::head_opening))]
-fn open_head(text: &mut String, name: &str) -> Result<(), AllocError>
-    ensures { OnOk result (string_bytes text.new ≡ string_bytes text.old ++ head_opening name.now) }
-{
-    text.push_str(
-        "<!DOCTYPE html>\n<html lang=\"en\"><head><meta charset=\"utf-8\"><meta name=\"viewport\" content=\"width=device-width,initial-scale=1\"><title>",
-    )?;
+    open_page(text, name, " - swimsim", layout_style())?;
     push_escaped(text, name)?;
-    text.push_str(" - swimsim</title><style>")?;
-    Ok(())
-}
-
-/// Appends the end of the head, and the heading.
-#[tactic(auto, unfolding(crate::specs::Page::head_end))]
-fn close_head(text: &mut String, name: &str) -> Result<(), AllocError>
-    ensures { OnOk result (string_bytes text.new ≡ string_bytes text.old ++ head_end name.now) }
-{
-    text.push_str("</style></head>\n<body><main><header><h1>")?;
-    push_escaped(text, name)?;
-    text.push_str("</h1></header>\n")?;
-    Ok(())
+    push_markup(text, "</h1></header>\n")
 }

@@ -185,25 +185,25 @@ few_states what.Pull state is = no_state state is
 -- ---- stories, each at its member's number
 
 -- what holds of each place of a list holds after one is written, where it holds of what was written and of what stands elsewhere
-pub set_each : (P : ℕ → Story → Type 0) (xs : List Story) (i : ℕ) (y : Story) → ((j : ℕ) (x : Story) → slice_get xs j ≡ Some x → ¬ (j ≡ i) → P j x) → P i y
-    → (j : ℕ) (x : Story) → slice_get (slice_set xs i y) j ≡ Some x → P j x
-set_each P [] i y others here j x is = absurd (none x is)
+pub set_each : {X : Type 0} (P : ℕ → X → Type 0) (xs : List X) (i : ℕ) (y : X) → ((j : ℕ) (x : X) → slice_get xs j ≡ Some x → ¬ (j ≡ i) → P j x) → P i y
+    → (j : ℕ) (x : X) → slice_get (slice_set xs i y) j ≡ Some x → P j x
+set_each {X = X} P [] i y others here j x is = absurd (none x is)
   where
-    none : (z : Story) → None ≡ Some z → ⊥
+    none : (z : X) → None ≡ Some z → ⊥
     none z h = cc
-set_each P (z ∷ xs) zero y others here zero x is = subst (P 0) (same y x is) here
+set_each {X = X} P (z ∷ xs) zero y others here zero x is = subst (P 0) (same y x is) here
   where
-    same : (a b : Story) → Some a ≡ Some b → a ≡ b
+    same : (a b : X) → Some a ≡ Some b → a ≡ b
     same a b h = cc
-set_each P (z ∷ xs) zero y others here (suc j) x is = others (suc j) x is (later j)
+set_each {X = X} P (z ∷ xs) zero y others here (suc j) x is = others (suc j) x is (later j)
   where
     later : (n : ℕ) → ¬ (suc n ≡ 0)
     later n h = omega (arith, h)
-set_each P (z ∷ xs) (suc i) y others here zero x is = others 0 x is (earlier i)
+set_each {X = X} P (z ∷ xs) (suc i) y others here zero x is = others 0 x is (earlier i)
   where
     earlier : (n : ℕ) → ¬ (0 ≡ suc n)
     earlier n h = omega (arith, h)
-set_each P (z ∷ xs) (suc i) y others here (suc j) x is =
+set_each {X = X} P (z ∷ xs) (suc i) y others here (suc j) x is =
     set_each (λ k. P (suc k)) xs i y (λ k w at apart. others (suc k) w at (λ h. apart (before k i h))) here j x is
   where
     before : (a b : ℕ) → suc a ≡ suc b → a ≡ b

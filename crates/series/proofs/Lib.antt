@@ -7,3 +7,4 @@ pub mod Revived
 pub mod Gathering
 pub mod Holding
 mod Watching
+pub mod Dying

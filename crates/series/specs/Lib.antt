@@ -4,4 +4,6 @@ pub mod Changes
 pub mod Lines
 pub mod Watched
 pub mod Stories
+pub mod Accusers
+pub mod Deaths
 pub mod Series

@@ -10,6 +10,7 @@ use Rattle.series.specs.Spans.{span_width, span_at}
 use Rattle.series.specs.Grid.{count_at}
 use Rattle.series.specs.Changes.{Change, AreFlowsOf, AreOpen}
 use Rattle.series.specs.Stories.{AreStoriesOf}
+use Rattle.series.specs.Deaths.{AreDeathsOf, AreMembers}
 
 -- the row tells of this kind of message in this span, and, of what was lost, likewise
 abbrev pub sends_in : Setup → What → ℕ → Row → Bool
@@ -58,3 +59,5 @@ pub record AreSeriesOf (s : Setup) (series : Series) (rows : List Row) : Type 0 
   pub lost_room : 12 * 120 ≤ length series.lost.counts.items
   pub told : length series.stories.items ≡ member_count s
   pub stories : AreStoriesOf s series.stories.items rows
+  pub deaths : AreDeathsOf series.deaths rows
+  pub deaths_room : AreMembers (member_count s) series.deaths

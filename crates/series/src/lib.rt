@@ -2,6 +2,8 @@
 //! with the members and not with the rows.
 #![tactic(auto)]
 
+mod accusers;
+mod deaths;
 mod flows;
 mod grid;
 mod laws;
@@ -9,8 +11,11 @@ mod lines;
 mod series;
 mod spans;
 mod spread;
+mod standing;
 mod story;
 
+pub use accusers::{Accusation, Accusers, Probe};
+pub use deaths::{Death, Deaths};
 pub use flows::Flows;
 pub use grid::Grid;
 pub use laws::those_who_came_and_did_not_go_are_there;
@@ -18,4 +23,5 @@ pub use lines::Line;
 pub use series::Series;
 pub use spans::Spans;
 pub use spread::Spread;
+pub use standing::{Refutation, Standing};
 pub use story::Story;

@@ -19,7 +19,7 @@ pub struct Line {
 }
 
 /// What is kept of a row on the line of that number.
-fn line_at(number: u64, row: &Row) -> Line
+pub(crate) fn line_at(number: u64, row: &Row) -> Line
     ensures { result ≡ line_at number row.now }
 {
     Line {

@@ -12,6 +12,7 @@ ghost use Rattle.series.specs.Stories.{AreStoriesOf, ComesNext, CanFollow};
 ghost use Rattle.series.specs.Series.{AreSeriesOf, kind_place, health_change};
 ghost use Rattle.series.specs.Watched.{crash_by_end};
 
+use crate::deaths::Deaths;
 use crate::flows::Flows;
 use crate::grid::Grid;
 use crate::spans::Spans;
@@ -44,6 +45,8 @@ pub struct Series {
     health: Flows,
     /// What is told of each member, at its number.
     stories: Vec<Story>,
+    /// How members that were up came to be declared dead.
+    deaths: Deaths,
 }
 
 impl Series {
@@ -58,6 +61,7 @@ impl Series {
         let mut health = Flows::new(alloc);
         health.make_room(scenario.members(), 17)?;
         let stories = new_stories(alloc, scenario)?;
+        let deaths = Deaths::new(alloc, scenario.members())?;
         Ok(Series {
             rows: 0,
             spans: Spans::of(scenario),
@@ -65,6 +69,7 @@ impl Series {
             lost,
             health,
             stories,
+            deaths,
         })
     }
 
@@ -89,6 +94,7 @@ impl Series {
         }
         follow_message(&mut self.sent, &mut self.lost, row, span);
         follow_health(&mut self.health, row, span);
+        self.deaths.follow(row, number);
         self.rows += 1;
         Ok(())
     }
@@ -150,6 +156,13 @@ impl Series {
         ensures { result.now ≡ self.now.stories.items }
     {
         self.stories.as_slice()
+    }
+
+    /// How members that were up came to be declared dead.
+    pub fn deaths(&self) -> &Deaths
+        ensures { result.now ≡ self.now.deaths }
+    {
+        &self.deaths
     }
 }
 

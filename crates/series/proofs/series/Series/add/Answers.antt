@@ -35,6 +35,8 @@ returns-in-Err-clause-err c rows are =
       lost_room = are.lost_room;
       told = c.follow_subject.ensures.all ∙ are.told;
       stories = c.in-Err.ensures.err c.args._scenario.now rows are.stories;
+      deaths = are.deaths;
+      deaths_room = are.deaths_room;
     }
 
 pub follow_message-requires-clause-sent_by_one : goal.follow_message-requires-clause-sent_by_one
@@ -72,6 +74,22 @@ follow_health-requires-clause-can c =
       room = are.ready c.args.row.now.member c.requires.named.member;
     }
 
+pub follow-requires : goal.follow-requires
+follow-requires c =
+    let rows = c.requires.gathered.0 in
+    let are = c.requires.gathered.1 in
+    record {
+      can = record {
+        members = _;
+        rows = rows;
+        room = are.deaths_room;
+        are = are.deaths;
+        few = omega (arith, are.counted, c.if-self-ge-COUNTER_LIMIT.false);
+        member = c.requires.named.member;
+        about = c.requires.named.about;
+      };
+    }
+
 pub returns-clause-ok : goal.returns-clause-ok
 returns-clause-ok c rows are =
     let s = c.args._scenario.now in
@@ -91,4 +109,6 @@ returns-clause-ok c rows are =
       lost_room = omega (arith, are.lost_room, c.follow_message.ensures.lost_kept);
       told = c.follow_subject.ensures.all ∙ are.told;
       stories = c.in-Ok.ensures.ok s rows next are.stories;
+      deaths = c.follow.ensures.follows rows next.numbered are.deaths;
+      deaths_room = c.follow.ensures.kept _ are.deaths_room;
     }
