@@ -2,7 +2,7 @@
 use Rattle.std.proofs.Common.{◌≡◌, ◌≢◌, ℕ, zero, suc, List, [], ◌∷◌, ◌++◌, map, slice_set, Some, refl, sym, subst, arith}
 use Rattle.std.specs.List.{AllByRecursion, slice_get}
 use Rattle.std.proofs.lemmas.Option.{none-some, same_Some}
-use Rattle.base.proofs.Rising.{all_append}
+use Rattle.base.proofs.Rising.{all_append, all_front, all_back}
 
 -- in a list in which one place is written
 pub written_each : {X : Type 0} (P : ℕ → X → Type 0) (xs : List X) (i : ℕ) (y : X) → P i y → ((j : ℕ) (x : X) → j ≢ i → slice_get xs j ≡ Some x → P j x)
@@ -17,6 +17,12 @@ written_each P (z ∷ xs) (suc i) y here others (suc j) x is =
 -- what holds of each item holds with one more of which it holds
 pub all_with_one : {X : Type 0} (P : X → Type 0) (xs more : List X) (x : X) → more ≡ xs ++ x ∷ [] → AllByRecursion P xs → P x → AllByRecursion P more
 all_with_one P xs more x joined all is = subst (AllByRecursion P) (sym joined) (all_append P xs (x ∷ []) all (is, tt))
+
+-- and of all but the last, and of the last
+pub all_but_last : {X : Type 0} (P : X → Type 0) (xs rest : List X) (x : X) → xs ≡ rest ++ x ∷ [] → AllByRecursion P xs → AllByRecursion P rest × P x
+all_but_last P xs rest x joined all =
+    let parted = subst (AllByRecursion P) joined all in
+    (all_front P rest (x ∷ []) parted, (all_back P rest (x ∷ []) parted).0)
 
 -- where something is read of a list's items, it is so of an item at that place
 pub slice_get_behind : {X Y : Type 0} (f : X → Y) (xs : List X) (i : ℕ) (y : Y) → slice_get (map f xs) i ≡ Some y → (x : X) × (slice_get xs i ≡ Some x) × (f x ≡ y)

@@ -15,3 +15,4 @@ mod WorkerRounds
 mod EndingsOfRuns
 mod SentWorkers
 mod WritingTurns
+mod ClosingEndings

@@ -68,9 +68,7 @@ lines_send : (β : NamedLft) (K : RattleType) (k : of_run.Ghosts K.Denot) → Is
 lines_send β K k = search (peer_send, sender_send, delivery_send, crosses, sendable) depth 60 fits 20000
 
 process_send : (β : NamedLft) (K Q : RattleType) (k : of_run.Ghosts K.Denot) → IsSend Q → IsSend (process.the_field β K Q k).row
-process_send β K Q k s =
-    let all : AllSend (shape (process.the_type β K Q k)).fields = (part_send Q s, (search (crosses, sendable) depth 60, (search (crosses, sendable) depth 60, (gathered_send, (lines_send β K k, tt))))) in
-    declared_send (process.the_type β K Q k) all
+process_send β K Q k s = search (part_send, gathered_send, lines_send, crosses, sendable) depth 60 fits 20000
 
 -- what lies on the board of a run may go to another thread, where its queue may
 pub piece_send : (β : NamedLft) (K Q : RattleType) (k : of_run.Ghosts K.Denot) → IsSend Q → IsSend (piece.the_row β K Q k)

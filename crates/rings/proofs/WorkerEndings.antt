@@ -1,5 +1,5 @@
--- By what a worker may end, and what it may deliver.
-use Rattle.std.proofs.Common.{◌≡◌, ◌≢◌, ◌⊎◌, ℕ, ◌+◌, ◌<◌, ◌≤◌, max, Bool, true, List, ◌++◌, Option, Some, None, Result, Ok, Err, IfErr, inl, inr, ◌∙◌, sym, subst, refl, arith}
+-- By what a process may end, and what it may deliver.
+use Rattle.std.proofs.Common.{◌≡◌, ◌≢◌, ◌⊎◌, ℕ, ◌+◌, ◌<◌, ◌≤◌, max, Bool, true, List, ◌++◌, Option, Some, None, Result, Ok, Err, IfErr, OnOk, inl, inr, ◌∙◌, sym, subst, refl, arith}
 use Rattle.std.specs.Bool.{OnTrue}
 use Rattle.std.specs.List.{AllByRecursion}
 use Rattle.std.specs.Result.{IsErrAnd}
@@ -53,6 +53,11 @@ ends_by_sending basis (Err f) (inr is) = subst (MayEndBy basis) (sym is) (ends_b
 pub handed_on : {T : Type 0} (Q : Fault → Type 0) (r : Result T Fault) (f : Fault) → IsErrAnd r (λ y. y ≡ f) → Q f → IfErr r Q
 handed_on Q (Ok x) f gives holds = absurd gives
 handed_on Q (Err y) f gives holds = subst Q (sym gives) holds
+
+-- where all went well, what follows from that
+pub on_ok : {T : Type 0} (r : Result T Fault) (A B : Type 0) → (A → B) → OnOk r A → OnOk r B
+on_ok (Ok x) A B f holds = f holds
+on_ok (Err e) A B f holds = tt
 
 -- ---- lots
 

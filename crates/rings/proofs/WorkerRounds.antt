@@ -1,4 +1,4 @@
--- What a worker knows from round to round.
+-- What a process knows from round to round.
 use Rattle.std.proofs.Common.{◌≡◌, ℕ, zero, suc, ◌+◌, ◌^◌, ◌<◌, ◌≤◌, min, zero-le, List, [], ◌∷◌, ◌++◌, map, get_or, unwrap_or, Option, Some, Vec, Global, append-nil, ap, ◌∙◌, sym, subst, refl, arith}
 use Rattle.std.specs.FinMap.{FinMap}
 use Rattle.std.specs.List.{AllByRecursion, slice_get}
@@ -27,7 +27,7 @@ use Rattle.round_windows.specs.Windows.{HasRan}
 use Rattle.turns.proofs.After.{of_events}
 use Rattle.rings.specs.declared.rows.Gathered.{Gathered}
 use Rattle.rings.specs.declared.peers.Peer.{Peer}
-use Rattle.rings.specs.declared.worker.Lines.{Lines}
+use Rattle.rings.specs.declared.lines.Lines.{Lines}
 use Rattle.rings.specs.Peers.{AreOthers, AreLines, numbers_of}
 use Rattle.rings.specs.Windows.{HasRanRound, Begins, GathersUpTo, GathersSoFar}
 use Rattle.rings.proofs.HearingRounds.{to_pairs}
@@ -55,6 +55,13 @@ module _ (rounds : Rounds) (going : GoBy rounds) (first : Option ℕ) (from : �
   pub common_bound : (number way common bound : ℕ) → slice_get rounds.ways.now number ≡ Some way → common ≡ min (from + rounds.shortest) (rounds.end + 1) → bound ≡ min (from + way) (rounds.end + 1) → common ≤ bound
   common_bound number way common bound here short chosen = let least = all_at (λ w. rounds.shortest ≤ w) rounds.ways.now number way going.shortest here in omega (arith, short, chosen, least)
 
+  -- the moment that all parts have passed is no later than where the part has run to then
+  pub common_passed : (number common : ℕ) → number < rounds.division.now.parts → common ≡ min (from + rounds.shortest) (rounds.end + 1) → common ≤ bound_of (plan_of (basis_of rounds)) first number
+  common_passed number common low short =
+      let there = way_there rounds going number low in
+      let way = get_or rounds.ways.now number 0 in
+      subst (λ t. common ≤ t) (bound_here number way (min (from + way) (rounds.end + 1)) there refl) (common_bound number way common (min (from + way) (rounds.end + 1)) there short refl)
+
 module _ {Q : Type 0} (set : Q → FinMap key_cmp Event) (basis : Basis) (is : IsBasis basis) (number round : ℕ) (first : Option ℕ) (part : Part Q) (begins : Begins set basis number round first part) where
   abbrev s : Setup
   s = basis.setup
@@ -75,7 +82,7 @@ module _ {Q : Type 0} (set : Q → FinMap key_cmp Event) (basis : Basis) (is : I
 
   module _ (low : number < basis.deal.parts) where
     -- up to its bound the part has run as the next round begins
-    runs_to_bound : HasRunTo (plan_of basis) (round + 1) number (bound_of (plan_of basis) first number)
+    pub runs_to_bound : HasRunTo (plan_of basis) (round + 1) number (bound_of (plan_of basis) first number)
     runs_to_bound = let same : suc round ≡ round + 1 = omega arith in subst (λ n. HasRunTo (plan_of basis) n number (bound_of (plan_of basis) first number)) same (begins.world, first, begins.in_round, refl)
 
     -- the window that was run is that of the round

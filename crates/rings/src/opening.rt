@@ -75,11 +75,12 @@ pub(crate) fn processes_of<'b, K: OfRun, Q: EventQueue<Event> + Drop>(
             writers,
         )?;
         let own = std::mem::replace(&mut peers[number], Vec::new(alloc));
+        let gathered = Gathered::new(alloc);
         processes.push(Process {
             part,
             round: 0,
             first: same_moment(&first),
-            gathered: Gathered::new(alloc),
+            gathered,
             lines: Lines {
                 number,
                 peers: own,

@@ -1,5 +1,5 @@
 //! A logical process of a run: a part of the cluster, and its lines to the others.
-ghost use Rattle.std.specs.Prelude.{◌≡◌, ◌⊎◌, ◌≤◌, Some, IfOk, IfErr, OnOk, IfSome, IfNone};
+ghost use Rattle.std.specs.Prelude.{◌≡◌, ◌⊎◌, ◌+◌, ◌≤◌, Some, IfOk, IfErr, OnOk, IfSome, IfNone};
 ghost use Rattle.rounds.specs.Starts.{IsUpTo};
 ghost use Rattle.rounds.specs.Plan.{bound_of};
 ghost use Rattle.round_windows.specs.Basis.{basis_of, plan_of, GoBy};
@@ -177,9 +177,9 @@ fn told<'b, K: OfRun, Q: EventQueue<Event> + Drop>(
     requires pends { window.from ≤ rounds.now.end }
     ensures lines { AreLines (basis_of rounds.now) lines.new }
     ensures own { lines.new.number ≡ lines.old.number }
-    ensures told { IfOk result (λ r. (r.1.from ≡ lines.old.number) × (r.1.round ≡ window.entry.round)) }
-    ensures window { IfOk result (λ r. AfterWindow Q.set (basis_of rounds.now) lines.old.number window.entry.round r.1.least r.0) }
-    ensures gathered { OnOk result (GathersUpTo (basis_of rounds.now) lines.old.number (bound_of (plan_of (basis_of rounds.now)) (Some window.entry.from) lines.old.number) gathered.new) }
+    ensures told { IfOk result (λ r. (r.1.from ≡ lines.old.number) × (r.1.round ≡ window.round)) }
+    ensures window { IfOk result (λ r. AfterWindow Q.set (basis_of rounds.now) lines.old.number window.round r.1.least r.0) }
+    ensures gathered { OnOk result (GathersUpTo (basis_of rounds.now) lines.old.number (bound_of (plan_of (basis_of rounds.now)) (Some window.from) lines.old.number) gathered.new) }
     ensures fault { IfErr result (MayEndBy (basis_of rounds.now)) }
 {
     let bound = round_bound(window.from, rounds.end, rounds.ways[lines.number]);
@@ -269,15 +269,38 @@ fn heard<'b, K: OfRun, Q: EventQueue<Event> + Drop>(
     requires gathered { (to : _) × (due.common ≤ to) × GathersUpTo (basis_of rounds.now) lines.old.number to gathered.old }
     ensures lines { AreLines (basis_of rounds.now) lines.new }
     ensures own { lines.new.number ≡ lines.old.number }
-    ensures next { IfOk result (λ heard. Begins Q.set (basis_of rounds.now) lines.old.number (told.entry.round + 1) heard.first part.new) }
-    ensures gathered { OnOk result ((to : _) → due.entry.common ≤ to → GathersUpTo (basis_of rounds.now) lines.old.number to gathered.old
+    ensures next { IfOk result (λ heard. Begins Q.set (basis_of rounds.now) lines.old.number (told.round + 1) heard.first part.new) }
+    ensures gathered { OnOk result ((to : _) → due.common ≤ to → GathersUpTo (basis_of rounds.now) lines.old.number to gathered.old
         → GathersUpTo (basis_of rounds.now) lines.old.number to gathered.new) }
     ensures fault { IfErr result (MayEndBy (basis_of rounds.now)) }
 {
     let _ = rounds;
     let heard = hear_all(rt, &mut lines.peers, patience, part, told)?;
-    if gathered.are_enough(heard.rows) {
-        lines.send_lot(rt, gathered, due.common, due.next, false)?;
-    }
+    send_due(rt, heard.rows, due, gathered, lines, rounds)?;
     Ok(heard)
+}
+
+/// Sends a lot, where all parts together have written enough rows with those of a round.
+fn send_due<'b, K: OfRun>(
+    rt: &impl Wait,
+    rows: u64,
+    due: Due,
+    gathered: &mut Gathered,
+    lines: &mut Lines<'b, K>,
+    rounds: &Rounds,
+) -> Result<(), Fault>
+    requires rounds { GoBy rounds.now }
+    requires run { K.basis ≡ Some (basis_of rounds.now) }
+    requires gathered { (to : _) × (due.common ≤ to) × GathersUpTo (basis_of rounds.now) lines.old.number to gathered.old }
+    ensures own { lines.new.number ≡ lines.old.number }
+    ensures peers { lines.new.peers ≡ lines.old.peers }
+    ensures gathered { OnOk result ((to : _) → due.common ≤ to → GathersUpTo (basis_of rounds.now) lines.old.number to gathered.old
+        → GathersUpTo (basis_of rounds.now) lines.old.number to gathered.new) }
+    ensures fault { IfErr result (λ fault. (fault ≡ Fault.Memory) ⊎ (fault ≡ Fault.Relay)) }
+{
+    let _ = rounds;
+    if !gathered.are_enough(rows) {
+        return Ok(());
+    }
+    lines.send_lot(rt, gathered, due.common, due.next, false)
 }

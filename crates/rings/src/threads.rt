@@ -141,16 +141,16 @@ fn start_workers<
         let Some(post) = posts.pop() else {
             return Err(Fault::Relay);
         };
-        let place = Place {
-            number,
-            share: share_of(hands, number),
-            all: hands.all,
-        };
+        let share = share_of(hands, number);
+        let all = hands.all;
         let thread = scope.spawn(
             move || -> RunPost<K, Q, J>
-                requires { GoBy rounds.now × (K.basis ≡ Some (basis_of rounds.now)) × G.knows place.number
+                requires { GoBy rounds.now × (K.basis ≡ Some (basis_of rounds.now)) × G.knows number
                     × AwaitsAll G.awaits rounds.now.division.now.parts }
-            { work(rt, alloc, post, place, crew, rounds, gate) },
+            {
+                let place = Place { number, share, all };
+                work(rt, alloc, post, place, crew, rounds, gate)
+            },
         );
         let Ok(thread) = thread else {
             return Err(Fault::Relay);

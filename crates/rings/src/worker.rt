@@ -78,7 +78,7 @@ pub(crate) fn clear<'p, 'b, K: OfRun, Q: EventQueue<Event> + Drop, J: Site>(
                 let mut process = process;
                 process.lines.tell_end(rt, fault);
             }
-            Some(Piece::Ended(_)) => {}
+            Some(Piece::Ended(_lines)) => {}
             None => return,
         }
     }

@@ -50,7 +50,7 @@ loop-part-preserved g c =
     subst (λ n. AreOthers (length c.args.parts.items) n (numbers_of own.items)) is_next
     (subst (λ (v : Vec (Peer g.row.K.Denot) Global). AreOthers (length c.args.parts.items) number (numbers_of v.items)) (sym c.replace-own.ensures.value) (so_far.others number c.index_mut.result.now (omega arith) there)) in
     let lines : Lines g.row.K.Denot = record { number = number; peers = own; lots = c.in_ok-lots.lots } in
-    let process : Process g.row.K.Denot g.row.Q.Denot = record { part = part; round = 0; first = c.same_moment.result; gathered = c.new-3.result; lines = lines } in
+    let process : Process g.row.K.Denot g.row.Q.Denot = record { part = part; round = 0; first = c.same_moment.result; gathered = c.new-gathered.result; lines = lines } in
     record {
       left = append_assoc yielded (part ∷ []) rest ∙ all;
       count = omega (arith, c.in_ok-push.ensures.len, more, so_far.count);
@@ -61,5 +61,5 @@ loop-part-preserved g c =
           let given = c.requires.run basis is in
           let begun = begins_first g.Q.EventQueue.set basis c.args.parts.items yielded rest part c.same_moment.result lines given.1 (subst (IsFirstMoment (opening basis.setup)) (sym c.same_moment.ensures) given.2) all is_next others in
           all_with_one (IsReady g.Q.EventQueue.set basis) c.loop-part.processes.items c.push.new.self.items process c.in_ok-push.ensures.items (so_far.processes basis is)
-          (record { begins = begun.0; gathered = gathers_none basis given.0 number c.new-3.result c.new-3.ensures.since c.new-3.ensures.none; lines = begun.1 });
+          (record { begins = begun.0; gathered = gathers_none basis given.0 number c.new-gathered.result c.new-gathered.ensures.since c.new-gathered.ensures.none; lines = begun.1 });
     }

@@ -1,14 +1,54 @@
-use Rattle.std.proofs.Common.{Some, subst, refl}
+use Rattle.std.proofs.Common.{Some, ◌∙◌, subst, refl}
 use Rattle.windows.specs.WorldOf.{world_of}
 use Rattle.windows.specs.Wears.{WearsInWindow}
-use Rattle.round_windows.specs.Basis.{basis_of}
+use Rattle.round_windows.specs.Basis.{Basis, IsBasis, basis_of}
 use Rattle.round_windows.specs.Windows.{HasRan}
+use Rattle.rings.specs.Peers.{AreLines}
 use Rattle.rings.specs.Telling.{MayEndBy}
-use Rattle.rings.specs.Windows.{GathersSoFar, HasRanRound}
-use Rattle.rings.proofs.WorkerEndings.{of_the_run, ends_by_window, handed_on}
+use Rattle.rings.specs.Windows.{GathersUpTo, GathersSoFar, HasRanRound}
+use Rattle.rings.proofs.WorkerEndings.{of_the_run, on_ok, ends_by_window, handed_on}
 use Rattle.rings.proofs.WorkerRounds.{way_there, bound_here, consistent_here, ran_round, wears_here}
 use Rattle.rings.proofs.process.told.Goals as goal
 
 pub run_window-requires-clause-consistent : goal.run_window-requires-clause-consistent
 run_window-requires-clause-consistent g c =
     consistent_here g.Q.EventQueue.set (basis_of c.args.rounds.now) c.requires.rounds.basis c.args.lines.now.number c.args.window.round (Some c.args.window.from) c.args.part c.requires.begins
+
+pub returns-in_err-came-clause-fault : goal.returns-in_err-came-clause-fault
+returns-in_err-came-clause-fault g c =
+    let rounds = c.args.rounds.now in
+    let number = c.args.lines.now.number in
+    let bound = bound_here rounds c.requires.rounds (Some c.args.window.from) c.args.window.from refl number _ c.round_bound-bound.result (way_there rounds c.requires.rounds number c.requires.lines.own) c.round_bound-bound.ensures in
+    handed_on (MayEndBy (basis_of rounds)) _ _ c.from_residual.ensures.1
+    (ends_by_window (basis_of rounds) _ (WearsInWindow rounds.cluster.scenario.now c.round_bound-bound.result (world_of g.Q.EventQueue.set c.args.part))
+    (λ wears.
+    wears_here g.Q.EventQueue.set (basis_of rounds) c.requires.rounds.basis number c.args.window.round (Some c.args.window.from) c.args.part c.requires.begins c.requires.lines.own
+    (subst (λ t. WearsInWindow rounds.cluster.scenario.now t (world_of g.Q.EventQueue.set c.args.part)) bound wears))
+    c.in_err-came.ensures.fault)
+
+pub returns-clause-gathered : goal.returns-clause-gathered
+returns-clause-gathered g c =
+    let rounds = c.args.rounds.now in
+    let number = c.args.lines.now.number in
+    let bound = bound_here rounds c.requires.rounds (Some c.args.window.from) c.args.window.from refl number _ c.round_bound-bound.result (way_there rounds c.requires.rounds number c.requires.lines.own) c.round_bound-bound.ensures in
+    on_ok c.tell.result _ _ (λ gathers. subst (λ t. GathersUpTo (basis_of rounds) number t c.tell.new.gathered) (c.in_ok-came.ensures.ran.until ∙ bound) (gathers (basis_of rounds) c.requires.run)) c.tell.ensures.gathered
+
+pub tell-requires-clause-basis : goal.tell-requires-clause-basis
+tell-requires-clause-basis g c = of_the_run IsBasis g.K.OfRun.basis (basis_of c.args.rounds.now) c.requires.run c.requires.rounds.basis
+
+pub tell-requires-clause-lines : goal.tell-requires-clause-lines
+tell-requires-clause-lines g c = of_the_run (λ basis. AreLines basis c.args.lines.now) g.K.OfRun.basis (basis_of c.args.rounds.now) c.requires.run c.requires.lines
+
+pub tell-requires-clause-came : goal.tell-requires-clause-came
+tell-requires-clause-came g c =
+    let rounds = c.args.rounds.now in
+    let one = basis_of rounds in
+    let number = c.args.lines.now.number in
+    let bound = bound_here rounds c.requires.rounds (Some c.args.window.from) c.args.window.from refl number _ c.round_bound-bound.result (way_there rounds c.requires.rounds number c.requires.lines.own) c.round_bound-bound.ensures in
+    of_the_run (λ basis. HasRanRound g.Q.EventQueue.set basis number c.args.window.round c.in_ok-came.came) g.K.OfRun.basis one c.requires.run
+    (ran_round g.Q.EventQueue.set one c.requires.rounds.basis number c.args.window.round (Some c.args.window.from) c.args.part c.requires.begins c.requires.lines.own c.in_ok-came.came
+    (subst (λ t. HasRan g.Q.EventQueue.set one t (world_of g.Q.EventQueue.set c.args.part) c.in_ok-came.came) bound c.in_ok-came.ensures.ran))
+
+pub tell-requires-clause-gathered : goal.tell-requires-clause-gathered
+tell-requires-clause-gathered g c =
+    of_the_run (λ basis. GathersSoFar basis c.args.lines.now.number c.args.window.round c.args.gathered.now) g.K.OfRun.basis (basis_of c.args.rounds.now) c.requires.run c.requires.gathered

@@ -27,11 +27,11 @@ first_of_parts set basis parts slice first is stand same least t =
 pub returns-in_err-bells-clause-trace : goal.returns-in_err-bells-clause-trace
 returns-in_err-bells-clause-trace g c = no_memory c.args.rounds.now.cluster.scenario.now (g.T.TakeRows.held c.args.place.now) (g.T.TakeRows.failed c.args.place.now) c.from_residual.result c.requires.rounds.basis.plan.sound c.from_residual.ensures.1
 
-pub returns-in_err-workers-clause-trace : goal.returns-in_err-workers-clause-trace
-returns-in_err-workers-clause-trace g c = no_memory c.args.rounds.now.cluster.scenario.now (g.T.TakeRows.held c.args.place.now) (g.T.TakeRows.failed c.args.place.now) c.from_residual-in_err-workers.result c.requires.rounds.basis.plan.sound c.from_residual-in_err-workers.ensures.1
+pub returns-in_err-processes-clause-trace : goal.returns-in_err-processes-clause-trace
+returns-in_err-processes-clause-trace g c = no_memory c.args.rounds.now.cluster.scenario.now (g.T.TakeRows.held c.args.place.now) (g.T.TakeRows.failed c.args.place.now) c.from_residual-in_err-processes.result c.requires.rounds.basis.plan.sound c.from_residual-in_err-processes.ensures.1
 
-pub workers_of-requires-clause-run : goal.workers_of-requires-clause-run
-workers_of-requires-clause-run g c = λ basis known.
+pub processes_of-requires-clause-run : goal.processes_of-requires-clause-run
+processes_of-requires-clause-run g c = λ basis known.
     let own = basis_of c.args.rounds.now in
     let set = g.Q.EventQueue.set in
     subst (λ (b : Basis). IsBasis b × StandFor set b.deal c.args.parts.items (opening b.setup) × IsFirstMoment (opening b.setup) c.first_pending-first.result) (one_basis g.K.OfRun.basis own basis c.requires.run known) (
@@ -40,17 +40,22 @@ workers_of-requires-clause-run g c = λ basis known.
       first_of_parts set own c.args.parts.items c.deref.result.now c.first_pending-first.result c.requires.rounds.basis c.requires.opened c.deref.ensures.value c.first_pending-first.ensures,
     )
 
-pub within-requires-clause-start : goal.within-requires-clause-start
-within-requires-clause-start g c = λ loans lives. record {
+pub returns-in_err-crew-clause-trace : goal.returns-in_err-crew-clause-trace
+returns-in_err-crew-clause-trace g c = no_memory c.args.rounds.now.cluster.scenario.now (g.T.TakeRows.held c.args.place.now) (g.T.TakeRows.failed c.args.place.now) c.from_residual-in_err-crew.result c.requires.rounds.basis.plan.sound c.from_residual-in_err-crew.ensures.1
+
+pub returns-in_err-board-clause-trace : goal.returns-in_err-board-clause-trace
+returns-in_err-board-clause-trace g c = no_memory c.args.rounds.now.cluster.scenario.now (g.T.TakeRows.held c.args.place.now) (g.T.TakeRows.failed c.args.place.now) c.from_residual-in_err-board.result c.requires.rounds.basis.plan.sound c.from_residual-in_err-board.ensures.1
+
+pub over_board-outcome-requires-clause-start : goal.over_board-outcome-requires-clause-start
+over_board-outcome-requires-clause-start g c = λ loans lives. record {
   going = c.requires.rounds;
   run = c.requires.run;
-  ready = c.in_ok-workers.ensures.workers (basis_of c.args.rounds.now) c.requires.run;
   known = c.requires.known;
   windows = c.requires.windows;
   writes = record {
     basis_is = c.requires.rounds.basis;
     one = refl;
-    takers = c.in_ok-workers.ensures.takers ∙ c.requires.opened.count;
+    takers = c.in_ok-processes.ensures.takers ∙ c.requires.opened.count;
     none_tallied = c.new.ensures;
   };
 }

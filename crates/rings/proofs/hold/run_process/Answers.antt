@@ -1,0 +1,10 @@
+use Rattle.std.proofs.Common.{arith}
+use Rattle.round_windows.specs.Basis.{basis_of}
+use Rattle.rings.proofs.WorkerRounds.{round_low}
+use Rattle.rings.proofs.hold.run_process.Goals as goal
+
+pub overflow_add-process : goal.overflow_add-process
+overflow_add-process g c =
+    let own = c.args.process in
+    let low = round_low g.Q.EventQueue.set (basis_of c.args.rounds.now) c.requires.rounds.basis own.lines.number own.round own.first own.part c.requires.ready.begins c.in-Some.from c.args.rounds.now.end c.in-Some.ensures.some c.requires.rounds.end in
+    omega (arith, low)
