@@ -72,10 +72,13 @@ impl<F: OpenFile + Drop> Opened<F> {
         }
     }
 
-    /// Whether the file has so many bytes. One that doesn't keep what it is given needs none.
+    /// Whether the file has so many first bytes that can stay. One that doesn't keep what it is given, as a pipe, has none.
     fn has(&self, kept: u64) -> bool {
+        if kept == 0 {
+            return true;
+        }
         match self.file.metadata() {
-            Ok(metadata) => !metadata.is_file() || kept <= metadata.len(),
+            Ok(metadata) => metadata.is_file() && kept <= metadata.len(),
             Err(_) => false,
         }
     }
