@@ -48,9 +48,12 @@ impl<F> Lead<F> {
         }
     }
 
-    /// Whether it leads to none.
-    pub(crate) fn is_missing(&self) -> bool {
-        self.missing().is_some()
+    /// Whether it leads to a plain file.
+    pub(crate) fn is_open(&self) -> bool {
+        match self {
+            Lead::Open(_, _) => true,
+            _ => false,
+        }
     }
 
     /// Whether both lead to one file, or would.

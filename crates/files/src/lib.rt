@@ -105,7 +105,7 @@ pub trait Files {
 
     /// Opens a file that goes on behind its first `kept` bytes, which stay in place at every moment: what is behind them is cut
     /// off, and what is written stands there. Where no file has the name and `kept` is 0 it is made. After a fault no file has
-    /// changed. What isn't a plain file, as a pipe, is written as it is.
+    /// changed. What isn't a plain file, as a pipe, holds no first bytes, and is written as it is.
     ///
     /// Faults: `Refused` where it can't be made, is the file of `source` or that of a standard stream, or holds fewer bytes
     /// than `kept`; `Memory`.

@@ -72,10 +72,10 @@ impl<F: OpenFile + Drop> Opened<F> {
         }
     }
 
-    /// Whether the file has so many bytes. One that doesn't keep what it is given needs none.
+    /// Whether the file has so many bytes. One that doesn't keep what it is given, as a pipe, has none.
     fn has(&self, kept: u64) -> bool {
         match self.file.metadata() {
-            Ok(metadata) => !metadata.is_file() || kept <= metadata.len(),
+            Ok(metadata) => kept <= metadata.len(),
             Err(_) => false,
         }
     }
@@ -245,10 +245,10 @@ impl<'r, R: std::rt::Files + AllocGlobal> SystemFiles<'r, R> {
         kept: u64,
     ) -> Result<Opened<R::File>, FileFault> {
         let found = self.find(name, taken)?;
-        let found = self.open_found(name, found)?;
-        if 0 < kept && found.lead.is_missing() {
+        if 0 < kept && !found.lead.is_open() {
             return Err(FileFault::Refused);
         }
+        let found = self.open_found(name, found)?;
         let opened = self.open(found, taken, [None, None])?;
         if !opened.has(kept) {
             return Err(FileFault::Refused);
