@@ -301,6 +301,29 @@ def pieces(uses, room, whole):
         (folder / 'old').unlink()
 
 
+def going_on(uses, room, whole):
+    """Tables that go on by --resume: through a link, and where they can't be cut off, as pipes and devices."""
+    folder = folder_of(room, 'going_on')
+    words = ['sweep', 's.toml', '--shard', '1/1', '--seeds', '1..9', '--resume', '--table']
+    uses.call(folder, [*words, 'whole'])
+    table = (folder / 'whole').read_bytes()
+    (folder / 't').write_bytes(table[:-20])
+    (folder / 'link').symlink_to('t')
+    left = uses.call(folder, [*words, 'link'])
+    is_well = left[0] == 0 and (folder / 'link').is_symlink() and (folder / 't').read_bytes() == table
+    uses.judge('a table that goes on through a link', is_well, left)
+    left = uses.call(folder, [*words, '/dev/null'])
+    uses.judge('a table that goes on in /dev/null', left == (0, b'', b''), left)
+    os.mkfifo(folder / 'pipe')
+    for held, wanted, told in ((table[:-20], 1, b''), (b'', 0, table)):
+        started = subprocess.Popen([uses.program, *words, 'pipe'], cwd=folder, stdout=subprocess.PIPE, stderr=subprocess.PIPE)
+        (folder / 'pipe').write_bytes(held)
+        got = (folder / 'pipe').read_bytes() if wanted == 0 else b''
+        err = started.communicate(timeout=20)[1]
+        is_well = started.returncode == wanted and got == told and err == (b'' if wanted == 0 else b'swimsim: file pipe\n')
+        uses.judge(f'a table that goes on in a pipe that held {len(held)} bytes', is_well, (started.returncode, err, got))
+
+
 def main():
     uses = Uses(program_at(parser_of(__doc__).parse_args().program))
     with tempfile.TemporaryDirectory() as name:
@@ -310,7 +333,7 @@ def main():
         if status != 0:
             sys.exit(f'hostile: status {status} of a plain run')
         whole = (folder / 't').read_bytes()
-        for group in (names, texts, outputs, pipes, ends, words, sizes, removals, replaced, error_stream, pieces):
+        for group in (names, texts, outputs, pipes, ends, words, sizes, removals, replaced, error_stream, pieces, going_on):
             group(uses, room, whole)
     end(uses.well, uses.wrong)
 

@@ -1,5 +1,5 @@
 -- A piece of whole cases that was cut off goes on as the piece that it is.
-use Rattle.std.proofs.Common.{◌≡◌, ◌∙◌, ◌<◌, ◌≤◌, ◌+◌, ◌-◌, ◌⊎◌, ℕ, zero, suc, Bool, List, [], ◌∷◌, ◌++◌, Option, Some, inl, inr, length, take, take_at, add-zero, arith, refl, sym, ap, subst, append_assoc, append-nil}
+use Rattle.std.proofs.Common.{◌≡◌, ◌∙◌, ◌<◌, ◌≤◌, ◌+◌, ◌-◌, ◌⊎◌, ℕ, zero, suc, Bool, List, [], ◌∷◌, ◌++◌, Option, Some, inl, inr, length, take, take_at, drop, add-zero, arith, refl, sym, ap, subst, append_assoc, append-nil}
 use Rattle.std.specs.Prelude.{All}
 use Rattle.std.specs.List.{AllZip, flat_map, range_with_len}
 use Rattle.std.specs.Io.KnownBytes.{Appends}
@@ -12,7 +12,8 @@ use Rattle.toml.specs.Data.{Data}
 use Rattle.cases.specs.Sweep.{Sweep, seed_count}
 use Rattle.pieces.specs.declared.piece.Piece.{Piece}
 use Rattle.sweep.specs.Pieces.{piece_header, piece_table}
-use Rattle.sweep.specs.Resumed.{StandsSo, rest_text}
+use Rattle.sweep.specs.Resumed.{StandsSo, bytes_kept}
+use Rattle.sweep.proofs.Kept.{first_stand, goes_behind, no_front}
 use Rattle.sweep.specs.declared.begun.BegunFault.TheVariants as begun_fault
 use Rattle.sweep.specs.Runs.{Made}
 use Rattle.sweep.specs.Table.{noted_line, tells_revived}
@@ -33,7 +34,6 @@ use Rattle.begun_cases.specs.Cut.{IsCutPieceOfCases}
 use Rattle.begun_cases.proofs.CutLines.{cases_cut, whole_lines}
 use Rattle.begun_cases.proofs.Divisions.{no_lines, none_need}
 use Rattle.begun_cases.proofs.Encoded.{encoded_cases, encoded_lines, encoded_made}
-use Rattle.begun_cases.proofs.Standing.{no_front}
 
 -- numbers in a row are the first of them and those behind
 range_split : (first a b : ℕ) → range_with_len first (a + b) ≡ range_with_len first a ++ range_with_len (first + a) b
@@ -124,17 +124,19 @@ module _ (tree : Data) (mark : List ℕ) (sweep : Sweep) (width : ℕ) (p : Piec
     none_more = λ all. refl;
   }
 
-  stands_by : ((behind : List ℕ) × (text ≡ header ++ behind)) ⊎ ((more : List ℕ) × (header ≡ text ++ more)) → (lines : List ℕ) × (cases : ℕ) × IsBegunCases revived mark sweep width p text lines cases
+  stands_by : ((behind : List ℕ) × (text ≡ header ++ behind)) ⊎ ((more : List ℕ) × (header ≡ text ++ more)) → (kept : ℕ) × (cases : ℕ) × IsBegunCases revived mark sweep width p text kept cases
   stands_by (inl it) =
       let parts = cases_cut width each (some_runs sweep cut.asked) true_cases it.0 cut.rest true_sound (encoded_made revived made cut.told) (behind_first it.0 it.1) in
       let own = flat_map piece_case parts.own in
       let lines = whole_lines width each true_cases it.0 parts in (
-        own,
+        bytes_kept header text own,
         length parts.own,
         record {
           all = own ++ piece_case parts.next;
           count = lines.0;
           stands = inr (record { rest = it.0; written = it.1; are = lines.1 });
+          lines = own;
+          stay = refl;
           begun = record {
             encoded = IsUtf8-from_ascii (own ++ piece_case parts.next)
                 (IsAscii-append own (piece_case parts.next) (encoded_cases parts.own parts.encoded) (encoded_lines parts.next parts.next_encoded));
@@ -152,9 +154,16 @@ module _ (tree : Data) (mark : List ℕ) (sweep : Sweep) (width : ℕ) (p : Piec
         },
       )
   stands_by (inr it) = (
-    [],
+    bytes_kept header text [],
     0,
-    record { all = []; count = 0; stands = inl (record { rest = it.0; written = it.1; none = refl; no_run = refl }); begun = nothing_stands },
+    record {
+      all = [];
+      count = 0;
+      stands = inl (record { rest = it.0; written = it.1; none = refl; no_run = refl });
+      lines = [];
+      begun = nothing_stands;
+      stay = refl;
+    },
   )
 
   pub taken_for_one : ¬ (RefusesBegunCases revived mark sweep width p text begun_fault.Other)
@@ -164,7 +173,7 @@ module _ (tree : Data) (mark : List ℕ) (sweep : Sweep) (width : ℕ) (p : Piec
 
   -- ---- and what goes on behind what stands there is the piece
 
-  module _ (lines : List ℕ) (cases : ℕ) (is : IsBegunCases revived mark sweep width p text lines cases) where
+  module _ (kept cases : ℕ) (is : IsBegunCases revived mark sweep width p text kept cases) where
     -- the cases that stand there are the first that were made
     first_cases : StandsSo header text is.all is.count → is.begun.own ≡ take cases true_cases
     first_cases (inl short) =
@@ -186,30 +195,37 @@ module _ (tree : Data) (mark : List ℕ) (sweep : Sweep) (width : ℕ) (p : Piec
         sym (front ∙ take_at is.begun.own split.0 cases (omega (arith, is.begun.many)))
 
     -- so their lines are the same
-    lines_are : lines ≡ flat_map (noted_line revived) (all_of (take cases made))
+    lines_are : is.lines ≡ flat_map (noted_line revived) (all_of (take cases made))
     lines_are =
         is.begun.are ∙ ap (flat_map piece_case) (first_cases is.stands ∙ take-map (case_from revived) cases made) ∙ cases_in_piece revived (take cases made)
 
-    module _ (old new : Option (List ℕ)) (writes : WritesRestUntil tree mark sweep p lines cases old new) where
+    module _ (new : Option (List ℕ)) (writes : WritesRestUntil tree mark sweep p kept cases (Some (take kept text)) new) where
       abbrev all : List (List Made)
       all = take cases made ++ writes.made
 
-      text_is : rest_text revived mark sweep p lines (all_of writes.made) ≡ piece_table revived mark sweep p (all_of all)
+      text_is : (header ++ is.lines) ++ flat_map (noted_line revived) (all_of writes.made) ≡ piece_table revived mark sweep p (all_of all)
       text_is =
           let first = all_of (take cases made) in
           let later = all_of writes.made in
-          append_assoc header lines (flat_map (noted_line revived) later)
+          append_assoc header is.lines (flat_map (noted_line revived) later)
           ∙ ap (λ l. header ++ l) (ap (λ l. l ++ flat_map (noted_line revived) later) lines_are ∙ sym (flat_map-append (noted_line revived) first later)
           ∙ ap (flat_map (noted_line revived)) (sym (flat_map-append (λ (case : List Made). case) (take cases made) writes.made)))
 
       behind_made : AreCasesBehind tree sweep width p cases writes.made
       behind_made = subst (λ w. AreCasesBehind tree sweep w p cases writes.made) (same_width writes.width width (sym writes.wanted ∙ cut.wanted)) writes.are
 
-      pub going_on : WritesPieceUntil tree mark sweep p old new
+      -- behind the bytes that stay they come behind the first line and its whole cases
+      behind_text : Appends (Some []) new ((header ++ is.lines) ++ flat_map (noted_line revived) (all_of writes.made))
+      behind_text =
+          goes_behind header text is.lines (first_stand header text is.all is.count is.stands is.lines (piece_case is.begun.next) is.begun.written) new
+          (flat_map (noted_line revived) (all_of writes.made))
+          (subst (λ n. Appends (Some (take n text)) new (drop n header ++ flat_map (noted_line revived) (all_of writes.made))) is.stay writes.written)
+
+      pub going_on : WritesPieceUntil tree mark sweep p (Some []) new
       going_on = record {
         width = width;
         wanted = cut.wanted;
         made = all;
         are = both_made tree sweep width (first_case sweep p) (cases_in sweep p) cases made writes.made is.begun.few cut.are behind_made;
-        written = subst (Appends old new) text_is writes.written;
+        written = subst (Appends (Some []) new) text_is behind_text;
       }

@@ -15,7 +15,7 @@ use Rattle.noted_lines.proofs.Bytes.{lacks_both, lacks_cons, note_lacks}
 use Rattle.begun_cases.specs.Begun.{NeedMore}
 use Rattle.begun_cases.proofs.Divisions.{all_front, none_need}
 use Rattle.begun_cases.proofs.Encoded.{IsEncoded}
-use Rattle.begun_cases.proofs.Standing.{no_front}
+use Rattle.sweep.proofs.Kept.{no_front}
 
 -- ---- a line that is cut off
 

@@ -1,14 +1,15 @@
 -- Cases and lines that are read one by one.
-use Rattle.std.proofs.Common.{◌≡◌, ◌∙◌, ◌<◌, ◌≤◌, ◌+◌, ℕ, Bool, true, false, List, [], ◌∷◌, ◌++◌, length, length-append, arith, refl, sym, ap, subst, append_assoc, append-nil}
+use Rattle.std.proofs.Common.{◌≡◌, ◌∙◌, ◌<◌, ◌≤◌, ◌+◌, ◌-◌, ℕ, Bool, true, false, List, [], ◌∷◌, ◌++◌, inl, inr, length, length-append, arith, refl, sym, ap, subst, append_assoc, append-nil}
 use Rattle.std.specs.Prelude.{All, nat_le}
 use Rattle.std.proofs.lemmas.Bool.Decides.{nat_tests}
 use Rattle.std.proofs.lemmas.List.Elements.{All-head, All-nil}
 use Rattle.cases.specs.Sweep.{Sweep, seed_count}
 use Rattle.pieces.specs.declared.piece.Piece.{Piece}
 use Rattle.sweep.specs.Pieces.{piece_header}
-use Rattle.sweep.specs.Resumed.{RefusesStart, StandsSo}
+use Rattle.sweep.specs.Resumed.{RefusesStart, StandsSo, bytes_kept}
 use Rattle.sweep.specs.declared.begun.BegunFault.{BegunFault}
 use Rattle.sweep.specs.declared.begun.BegunFault.TheVariants as begun_fault
+use Rattle.sweep.proofs.Kept.{all_stand, lines_kept, long_kept}
 use Rattle.sweep_until.specs.Pieces.{cases_in}
 use Rattle.noted_lines.specs.Items.{BeginsWith}
 use Rattle.noted_lines.specs.Lines.{HasLine, Line, IsLine, piece_line}
@@ -94,15 +95,40 @@ module _ (revived : Bool) (mark : List ℕ) (sweep : Sweep) (width : ℕ) (p : P
   header = piece_header revived mark sweep p
 
   pub no_start : (f : BegunFault) → RefusesStart header text f → RefusesBegunCases revived mark sweep width p text f
-  no_start begun_fault.Other apart = λ lines cases is. never_stands header text is.all is.count apart is.stands
+  no_start begun_fault.Other apart = λ kept cases is. never_stands header text is.all is.count apart is.stands
   no_start begun_fault.Memory apart = tt
 
   module _ (all : List ℕ) (count : ℕ) (stands : StandsSo header text all count) where
-    pub cases_stand : (lines : List ℕ) (cases : ℕ) → AreCasesBegun width (seed_count sweep.seeds) (cases_in sweep p) all lines cases → IsBegunCases revived mark sweep width p text lines cases
-    cases_stand lines cases begun = record { all = all; count = count; stands = stands; begun = begun }
+    -- the lines behind the whole cases don't stay
+    module _ (lines : List ℕ) (cases : ℕ) (begun : AreCasesBegun width (seed_count sweep.seeds) (cases_in sweep p) all lines cases) (all_kept : ℕ) (stay : all_kept ≡ bytes_kept header text all) where
+      lines_first : length all ≡ length lines + length (piece_case begun.next)
+      lines_first = ap length begun.written ∙ length-append lines (piece_case begun.next)
+
+      pub no_longer : length lines ≤ length all
+      no_longer = omega (arith, lines_first)
+
+      pub all_stay : length all - length lines ≤ all_kept
+      all_stay = omega (arith, lines_kept header text all (all_stand header text all count stands), stay)
+
+      stay_by : StandsSo header text all count → all_kept - (length all - length lines) ≡ bytes_kept header text lines
+      stay_by (inl short) =
+          let none : length all ≡ 0 = ap length short.none in
+          omega (arith, none, lines_first, stay)
+      stay_by (inr long) = omega (arith, long_kept header text all count long, lines_first, stay)
+
+      pub cases_stand : IsBegunCases revived mark sweep width p text (all_kept - (length all - length lines)) cases
+      cases_stand = record { all = all; count = count; stands = stands; lines = lines; begun = begun; stay = stay_by stands }
 
     pub no_cases_stand : (f : BegunFault) → RefusesCases width (seed_count sweep.seeds) (cases_in sweep p) all f → RefusesBegunCases revived mark sweep width p text f
-    no_cases_stand begun_fault.Other none = λ lines cases is.
-        none lines cases
-        (subst (λ l. AreCasesBegun width (seed_count sweep.seeds) (cases_in sweep p) l lines cases) (one_standing header text is.all all is.count count is.stands stands) is.begun)
+    no_cases_stand begun_fault.Other none = λ kept cases is.
+        none is.lines cases
+        (subst (λ l. AreCasesBegun width (seed_count sweep.seeds) (cases_in sweep p) l is.lines cases) (one_standing header text is.all all is.count count is.stands stands) is.begun)
     no_cases_stand begun_fault.Memory none = tt
+
+    -- by whatever stands for how many runs a case has, how many cases there are, and the fault
+    pub refused_as : (f e : BegunFault) (each most : ℕ) → e ≡ f → each ≡ seed_count sweep.seeds → most ≡ cases_in sweep p → RefusesCases width each most all f
+        → RefusesBegunCases revived mark sweep width p text e
+    refused_as f e each most same is_each is_most none =
+        no_cases_stand e
+        (subst (λ (g : BegunFault). RefusesCases width (seed_count sweep.seeds) (cases_in sweep p) all g) (sym same)
+        (subst (λ (m : ℕ). RefusesCases width (seed_count sweep.seeds) m all f) is_most (subst (λ (n : ℕ). RefusesCases width n most all f) is_each none)))

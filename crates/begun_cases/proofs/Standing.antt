@@ -5,6 +5,7 @@ use Rattle.std.proofs.lemmas.List.{append_cancel_left}
 use Rattle.std.proofs.lemmas.List.Elements.{All-head, All-tail}
 use Rattle.cases.proofs.Words.{cut_once}
 use Rattle.sweep.specs.Resumed.{AreWholeLines, IsApart, IsOneLine, StandsSo, fed}
+use Rattle.sweep.proofs.Kept.{no_front}
 
 -- a text without line feed has none behind its front
 no_feed : (front back : List ℕ) → IsOneLine (front ++ 10 ∷ back) → ⊥
@@ -31,10 +32,6 @@ one_whole text v w m n a b =
     a.are ∙ same_fed a.bodies b.bodies a.torn b.torn a.one b.one a.cut b.cut same ∙ sym b.are
 
 -- a text that is none has no parts
-pub no_front : (front back : List ℕ) → [] ≡ front ++ back → front ≡ []
-no_front [] back same = refl
-no_front (x ∷ front) back same = cc
-
 no_back : (front back : List ℕ) → front ++ back ≡ [] → back ≡ []
 no_back [] back same = same
 no_back (x ∷ front) back same = cc

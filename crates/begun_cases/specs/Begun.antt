@@ -7,7 +7,7 @@ use Rattle.noted_lines.specs.Cases.{HasCase, IsCase, piece_case}
 use Rattle.noted_lines.specs.Lines.{Line, IsLine, notes_of}
 use Rattle.pieces.specs.declared.piece.Piece.{Piece}
 use Rattle.sweep.specs.Pieces.{piece_header}
-use Rattle.sweep.specs.Resumed.{StandsSo}
+use Rattle.sweep.specs.Resumed.{StandsSo, bytes_kept}
 use Rattle.sweep.specs.declared.begun.BegunFault.{BegunFault}
 use Rattle.sweep.specs.declared.begun.BegunFault.TheVariants.{Other, Memory}
 use Rattle.sweep_until.specs.Pieces.{cases_in}
@@ -31,16 +31,19 @@ pub record AreCasesBegun (width each most : ℕ) (text lines : List ℕ) (cases 
   pub few : cases ≤ most
   pub none_more : cases ≡ most → next ≡ []
 
--- so much of the table of a piece stands in the text: the whole lines behind its first one begin with these, which are those of so many whole cases
-pub record IsBegunCases (revived : Bool) (mark : List ℕ) (sweep : Sweep) (width : ℕ) (p : Piece) (text lines : List ℕ) (cases : ℕ) : Type 0 where
+-- So much of the table of a piece stands in the text: the whole lines behind its first one begin with these, which are those of so many whole cases.
+-- So many bytes stay, with these lines.
+pub record IsBegunCases (revived : Bool) (mark : List ℕ) (sweep : Sweep) (width : ℕ) (p : Piece) (text : List ℕ) (kept cases : ℕ) : Type 0 where
   pub all : List ℕ
   pub count : ℕ
   pub stands : StandsSo (piece_header revived mark sweep p) text all count
+  pub lines : List ℕ
   pub begun : AreCasesBegun width (seed_count sweep.seeds) (cases_in sweep p) all lines cases
+  pub stay : kept ≡ bytes_kept (piece_header revived mark sweep p) text lines
 
 -- nothing of the table stands in the text, unless memory was refused
 abbrev pub RefusesBegunCases : Bool → List ℕ → Sweep → ℕ → Piece → List ℕ → BegunFault → Type 0
-RefusesBegunCases revived mark sweep width p text Other = (lines : List ℕ) (cases : ℕ) → ¬ (IsBegunCases revived mark sweep width p text lines cases)
+RefusesBegunCases revived mark sweep width p text Other = (kept cases : ℕ) → ¬ (IsBegunCases revived mark sweep width p text kept cases)
 RefusesBegunCases revived mark sweep width p text Memory = Unit {0}
 
 -- ---- what was read

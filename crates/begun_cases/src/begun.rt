@@ -17,28 +17,32 @@ use toml::Value;
 
 /// What stands of a piece's table in a text, where a case has as many runs as make its interval so many hundredths wide at
 /// most: its first line or a beginning of that, whole cases behind it, lines of a case that isn't whole, and a beginning of a
-/// line, neither of which counts.
+/// line, neither of which counts nor stays.
 ///
 /// Faults: `Other` where the text begins otherwise, where a whole line behind the whole cases is none with a note, or where one
 /// comes behind as many cases as the piece has; `Memory`.
-pub fn begun_cases_of<'a>(
+pub fn begun_cases_of(
     alloc: Global,
     plan: &Plan,
     piece: Piece,
     mark: &str,
     width: u64,
     document: &Value,
-    text: &'a [u8],
-) -> Result<BegunCases<'a>, BegunFault>
+    text: &[u8],
+) -> Result<BegunCases, BegunFault>
     requires asked { IsAskedFor plan.now }
     requires piece { IsPiece piece }
     requires wanted { plan.now.until ≡ Some width }
-    ensures begun { IfOk result (λ begun. IsBegunCases (tells_revived (view document.now)) mark.now plan.now width piece text.entry.now begun.lines.now begun.cases) }
-    ensures refused { IfErr result (RefusesBegunCases (tells_revived (view document.now)) mark.now plan.now width piece text.entry.now) }
+    ensures begun { IfOk result (λ begun. IsBegunCases (tells_revived (view document.now)) mark.now plan.now width piece text.now begun.kept begun.cases) }
+    ensures refused { IfErr result (RefusesBegunCases (tells_revived (view document.now)) mark.now plan.now width piece text.now) }
 {
-    let begun = begun_lines(alloc, plan, piece, mark, document, text)?;
+    let stood = begun_lines(alloc, plan, piece, mark, document, text)?;
     let most = cases_of(plan, piece);
-    whole_cases(alloc, begun.lines, width, plan.runs_of_case(), most)
+    let whole = whole_cases(alloc, stood.lines, width, plan.runs_of_case(), most)?;
+    Ok(BegunCases {
+        kept: stood.kept - (stood.lines.len() - whole.lines.len()),
+        cases: whole.cases,
+    })
 }
 
 /// How many cases a piece has.

@@ -1,5 +1,5 @@
 //! What holds of a piece of whole cases that was cut off.
-ghost use Rattle.std.specs.Prelude.{ℕ, List, Option};
+ghost use Rattle.std.specs.Prelude.{ℕ, List, [], Option, Some, take};
 ghost use Rattle.toml.specs.Data.{Data};
 ghost use Rattle.cases.specs.Sweep.{Sweep};
 ghost use Rattle.pieces.specs.declared.piece.Piece.{Piece};
@@ -10,12 +10,12 @@ ghost use Rattle.sweep.specs.declared.begun.BegunFault.TheVariants as begun_faul
 ghost use Rattle.begun_cases.specs.Begun.{IsBegunCases, RefusesBegunCases};
 ghost use Rattle.begun_cases.specs.Cut.{IsCutPieceOfCases};
 
-/// Where a text is a beginning of a piece that was made, it is taken for one, and the table that goes on behind its whole
-/// cases is that piece.
+/// Where a text is a beginning of a piece that was made, it is taken for one, and what goes on behind the bytes of it that
+/// stay, its whole cases, is that piece with them.
 pub fn a_cut_piece_of_cases_goes_on()
-    ensures goes_on { (tree : Data) (mark : List ℕ) (sweep : Sweep) (width : ℕ) (p : Piece) (made : List (List Made)) (text lines : List ℕ) (cases : ℕ) (old new : Option (List ℕ))
-        → IsCutPieceOfCases tree mark sweep width p made text → IsBegunCases (tells_revived tree) mark sweep width p text lines cases
-        → WritesRestUntil tree mark sweep p lines cases old new → WritesPieceUntil tree mark sweep p old new }
+    ensures goes_on { (tree : Data) (mark : List ℕ) (sweep : Sweep) (width : ℕ) (p : Piece) (made : List (List Made)) (text : List ℕ) (kept cases : ℕ) (new : Option (List ℕ))
+        → IsCutPieceOfCases tree mark sweep width p made text → IsBegunCases (tells_revived tree) mark sweep width p text kept cases
+        → WritesRestUntil tree mark sweep p kept cases (Some (take kept text)) new → WritesPieceUntil tree mark sweep p (Some []) new }
     ensures taken { (tree : Data) (mark : List ℕ) (sweep : Sweep) (width : ℕ) (p : Piece) (made : List (List Made)) (text : List ℕ)
         → IsCutPieceOfCases tree mark sweep width p made text → ¬ (RefusesBegunCases (tells_revived tree) mark sweep width p text begun_fault.Other) }
 {}

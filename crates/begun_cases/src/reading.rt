@@ -10,7 +10,15 @@ use noted_lines::{LineFault, read_case, read_line};
 use std::alloc::Global;
 use std::str::from_utf8;
 use sweep::{BegunFault, NothingGathered};
-use sweep_until::{BegunCases, CaseRuns};
+use sweep_until::CaseRuns;
+
+/// The lines of whole cases with which whole lines begin.
+#[derive(Clone, Copy)]
+pub(crate) struct CaseLines<'a> {
+    pub(crate) lines: &'a [u8],
+    /// How many cases they are.
+    pub(crate) cases: usize,
+}
 
 /// The whole cases with which a text of whole lines begins.
 #[derive(Clone, Copy)]
@@ -30,10 +38,10 @@ pub(crate) fn whole_cases<'a>(
     width: u64,
     each: usize,
     most: usize,
-) -> Result<BegunCases<'a>, BegunFault>
+) -> Result<CaseLines<'a>, BegunFault>
     requires narrow { width ≤ 100 }
     requires some { 0 < each }
-    ensures begun { IfOk result (λ begun. AreCasesBegun width each most lines.entry.now begun.lines.now begun.cases) }
+    ensures begun { IfOk result (λ whole. AreCasesBegun width each most lines.entry.now whole.lines.now whole.cases) }
     ensures refused { IfErr result (RefusesCases width each most lines.entry.now) }
 {
     let Ok(text) = from_utf8(lines) else {
@@ -43,7 +51,7 @@ pub(crate) fn whole_cases<'a>(
     if !may_stand(alloc, whole.left, whole.cases, most)? {
         return Err(BegunFault::Other);
     }
-    Ok(BegunCases {
+    Ok(CaseLines {
         lines: &lines[..lines.len() - whole.left.len()],
         cases: whole.cases,
     })

@@ -1,6 +1,6 @@
 -- A piece that was cut off goes on as the piece that it is.
-use Rattle.std.proofs.Common.{◌≡◌, ◌⊎◌, ◌≤◌, ◌+◌, ◌-◌, ℕ, zero, suc, Bool, List, [], ◌∷◌, ◌++◌, inl, inr, length, take, drop, lit<, arith, refl, sym, ap, subst, ◌∙◌, append_assoc}
-use Rattle.std.specs.Prelude.{Option, All}
+use Rattle.std.proofs.Common.{◌≡◌, ◌⊎◌, ◌≤◌, ◌+◌, ◌-◌, ℕ, zero, suc, Bool, List, [], ◌∷◌, ◌++◌, inl, inr, length, take, drop, lit<, arith, refl, sym, ap, subst, ◌∙◌, append_assoc, append-nil}
+use Rattle.std.specs.Prelude.{Option, Some, All}
 use Rattle.std.specs.List.{AllZip, flat_map}
 use Rattle.std.specs.Io.KnownBytes.{Appends}
 use Rattle.std.proofs.Math.Seq.{take-add, take-take}
@@ -16,9 +16,10 @@ use Rattle.pieces.specs.Pieces.{first_run, past_run}
 use Rattle.sweep.specs.Runs.{Made, AreMadeBetween, IsMadeAs, noted, runs_between, runs_of}
 use Rattle.sweep.specs.Table.{noted_line, tells_revived}
 use Rattle.sweep.specs.Pieces.{WritesPiece, piece_header}
-use Rattle.sweep.specs.Resumed.{IsBegun, IsLong, IsOneLine, IsShort, RefusesBegun, WritesRest, fed}
+use Rattle.sweep.specs.Resumed.{AreMadeBehind, IsBegun, IsLong, IsOneLine, IsShort, RefusesBegun, WritesRest, fed}
 use Rattle.sweep.specs.declared.begun.BegunFault.TheVariants as begun_fault
-use Rattle.sweep.proofs.PieceCourse.{rest_is_whole}
+use Rattle.sweep.proofs.Kept.{all_stand, goes_behind}
+use Rattle.sweep.proofs.PieceCourse.{all_runs}
 use Rattle.sweep.proofs.Steps.{zipped_long}
 use Rattle.noted_lines.specs.Made.{IsTellable}
 use Rattle.noted_lines.proofs.Beginnings.{one_begins_with_other}
@@ -108,14 +109,29 @@ module _ (tree : Data) (mark : List ℕ) (sweep : Sweep) (p : Piece) (made : Lis
       sym (append_assoc (fed whole.bodies) whole.torn cut.rest) ∙ ap (λ l. (l ++ whole.torn) ++ cut.rest) (sym whole.are) ∙ ap (λ l. l ++ cut.rest) (sym whole.written) ∙ body in
       first_lines revived whole.bodies made (whole.torn ++ cut.rest) whole.one cut.told start
 
-  pub going_on : (lines : List ℕ) (runs : ℕ) (old new : Option (List ℕ)) → IsBegun revived mark sweep p text lines runs → WritesRest tree mark sweep p lines runs old new
-      → WritesPiece tree mark sweep p old new
-  going_on lines runs old new begun writes = by begun.begun
+  pub going_on : (kept runs : ℕ) (new : Option (List ℕ)) → IsBegun revived mark sweep p text kept runs → WritesRest tree mark sweep p kept runs (Some (take kept text)) new
+      → WritesPiece tree mark sweep p (Some []) new
+  going_on kept runs new begun writes = by begun.begun
     where
-      by : IsShort header text lines runs ⊎ IsLong header text lines runs → WritesPiece tree mark sweep p old new
-      by (inl short) = rest_is_whole tree sweep mark p lines old new short.none (subst (λ n. WritesRest tree mark sweep p lines n old new) short.no_run writes)
+      lines : List ℕ
+      lines = begun.lines
+
+      made_lines : Made → List ℕ
+      made_lines = noted_line revived
+
+      -- behind the bytes that stay they come behind the first line and the whole lines
+      behind : Appends (Some []) new ((header ++ lines) ++ flat_map made_lines writes.made)
+      behind =
+          goes_behind header text lines (all_stand header text lines runs begun.begun) new (flat_map made_lines writes.made)
+          (subst (λ n. Appends (Some (take n text)) new (drop n header ++ flat_map made_lines writes.made)) begun.stay writes.written)
+
+      by : IsShort header text lines runs ⊎ IsLong header text lines runs → WritesPiece tree mark sweep p (Some []) new
+      by (inl short) = record {
+        made = writes.made;
+        are = all_runs tree sweep p writes.made (subst (λ n. AreMadeBehind tree sweep p n writes.made) short.no_run writes.are);
+        written = subst (λ l. Appends (Some []) new (l ++ flat_map made_lines writes.made)) (ap (λ l. header ++ l) short.none ∙ append-nil header) behind;
+      }
       by (inr long) =
-          let made_lines : Made → List ℕ = noted_line revived in
           let its = first_of lines runs long in
           let before : lines ≡ flat_map made_lines (take runs made) = long.are.are ∙ its.same ∙ ap (λ n. flat_map made_lines (take n made)) long.are.all in
           let text_is : (header ++ lines) ++ flat_map made_lines writes.made ≡ header ++ flat_map made_lines (take runs made ++ writes.made) =
@@ -124,7 +140,7 @@ module _ (tree : Data) (mark : List ℕ) (sweep : Sweep) (p : Piece) (made : Lis
           record {
             made = take runs made ++ writes.made;
             are = both_made tree sweep (first_run p (run_count sweep)) (past_run p (run_count sweep)) runs made writes.made cut.are begun.few writes.are;
-            written = subst (Appends old new) text_is writes.written;
+            written = subst (Appends (Some []) new) text_is behind;
           }
 
   pub taken_for_one : RefusesBegun revived mark sweep p text begun_fault.Other → ⊥

@@ -1,5 +1,5 @@
 //! What holds of pieces that are put together.
-ghost use Rattle.std.specs.Prelude.{◌≡◌, ℕ, Bool, List, [], Option, Some, None, All, Vec, length};
+ghost use Rattle.std.specs.Prelude.{◌≡◌, ℕ, Bool, List, [], Option, Some, None, All, Vec, length, take};
 ghost use Rattle.std.specs.declared.alloc.Global.{Global};
 ghost use Rattle.toml.specs.Data.{Data};
 ghost use Rattle.cases.specs.Sweep.{Sweep, case_count, run_count};
@@ -33,12 +33,12 @@ pub fn all_pieces_of_cases_are_the_whole()
         → ArePiecesOfCases tree texts mark sweep of made → IsWholeUntil tree mark sweep width old new read revived cases }
 {}
 
-/// Where a text is a beginning of a piece that was made, it is taken for one, and the table that goes on behind its whole
-/// lines is that piece.
+/// Where a text is a beginning of a piece that was made, it is taken for one, and what goes on behind the bytes of it that
+/// stay, its whole lines, is that piece with them.
 pub fn a_cut_piece_goes_on()
-    ensures goes_on { (tree : Data) (mark : List ℕ) (sweep : Sweep) (p : Piece) (made : List Made) (text lines : List ℕ) (runs : ℕ) (old new : Option (List ℕ))
-        → IsCutPiece tree mark sweep p made text → IsBegun (tells_revived tree) mark sweep p text lines runs → WritesRest tree mark sweep p lines runs old new
-        → WritesPiece tree mark sweep p old new }
+    ensures goes_on { (tree : Data) (mark : List ℕ) (sweep : Sweep) (p : Piece) (made : List Made) (text : List ℕ) (kept runs : ℕ) (new : Option (List ℕ))
+        → IsCutPiece tree mark sweep p made text → IsBegun (tells_revived tree) mark sweep p text kept runs → WritesRest tree mark sweep p kept runs (Some (take kept text)) new
+        → WritesPiece tree mark sweep p (Some []) new }
     ensures taken { (tree : Data) (mark : List ℕ) (sweep : Sweep) (p : Piece) (made : List Made) (text : List ℕ)
         → IsCutPiece tree mark sweep p made text → ¬ (RefusesBegun (tells_revived tree) mark sweep p text begun_fault.Other) }
 {}

@@ -5,7 +5,7 @@ use Rattle.pieces.specs.declared.piece.Piece.{Piece}
 use Rattle.pieces.specs.Pieces.{IsPiece, first_run, past_run}
 use Rattle.pieces.proofs.Bounds.{share_grows}
 use Rattle.sweep.specs.Pieces.{piece_header}
-use Rattle.sweep.specs.Resumed.{AreWholeLines, IsBegun, RefusesBegun, RefusesStart, StandsSo}
+use Rattle.sweep.specs.Resumed.{AreWholeLines, IsBegun, RefusesBegun, RefusesStart, StandsSo, bytes_kept}
 use Rattle.sweep.specs.declared.begun.BegunFault.{BegunFault}
 use Rattle.sweep.specs.declared.begun.BegunFault.TheVariants as begun_fault
 
@@ -36,8 +36,10 @@ module _ (revived : Bool) (mark : List ℕ) (sweep : Sweep) (p : Piece) (text : 
   abbrev count : ℕ
   count = past_run p (run_count sweep) - first_run p (run_count sweep)
 
-  pub few_begun : (lines : List ℕ) (runs : ℕ) → IsPiece p → StandsSo header text lines runs → runs ≤ count → IsBegun revived mark sweep p text lines runs
-  few_begun lines runs sound stands few = record { begun = stands; few = omega (arith, few, in_order p (run_count sweep) sound) }
+  pub few_begun : (lines : List ℕ) (kept runs : ℕ) → IsPiece p → StandsSo header text lines runs → kept ≡ bytes_kept header text lines → runs ≤ count
+      → IsBegun revived mark sweep p text kept runs
+  few_begun lines kept runs sound stands stay few =
+      record { lines = lines; begun = stands; stay = stay; few = omega (arith, few, in_order p (run_count sweep) sound) }
 
   -- too many lines
   pub has_more : (lines : List ℕ) (runs : ℕ) → StandsSo header text lines runs → count < runs → RefusesBegun revived mark sweep p text begun_fault.Other

@@ -12,6 +12,7 @@ mod CaseTexts
 pub mod Sizes
 pub mod PieceCourse
 mod WholeLines
+pub mod Kept
 mod Begins
 pub mod Fronts
 mod WholeSweep

@@ -1,5 +1,5 @@
 -- The lines of a piece, of which some were made before.
-use Rattle.std.proofs.Common.{◌≡◌, ◌+◌, ℕ, List, [], ◌++◌, Option, subst, ◌∙◌, ap, append-nil, add-zero}
+use Rattle.std.proofs.Common.{◌≡◌, ◌+◌, ℕ, List, ◌++◌, Option, subst, ap, add-zero, drop}
 use Rattle.std.specs.List.{flat_map}
 use Rattle.std.specs.Io.KnownBytes.{Appends}
 use Rattle.toml.specs.Data.{Data}
@@ -19,32 +19,34 @@ use Rattle.sweep.specs.Pieces.{piece_header, BeginsPiece, WritesPiece}
 use Rattle.sweep.specs.Resumed.{AreMadeBehind, BeginsRest, WritesRest, rest_course}
 use Rattle.sweep.proofs.Steps.{begun_lines}
 
-module _ (tree : Data) (sweep : Sweep) (mark : List ℕ) (p : Piece) (lines : List ℕ) (old new : Option (List ℕ)) where
+-- all runs of a piece are left
+pub all_runs : (tree : Data) (sweep : Sweep) (p : Piece) (made : List Made) → AreMadeBehind tree sweep p 0 made
+    → AreMadeBetween tree sweep (first_run p (run_count sweep)) (past_run p (run_count sweep)) made
+all_runs tree sweep p made are = subst (λ n. AreMadeBetween tree sweep n (past_run p (run_count sweep)) made) (add-zero (first_run p (run_count sweep))) are
+
+module _ (tree : Data) (sweep : Sweep) (mark : List ℕ) (p : Piece) (kept : ℕ) (old new : Option (List ℕ)) where
   module _ (runs : ℕ) where
     -- all its lines are the piece
-    pub rest_whole : (HasGathered : List Note → Type 0) → HasCome tree sweep (rest_course tree mark sweep p lines runs old) new HasGathered (past_run p (run_count sweep))
-        → WritesRest tree mark sweep p lines runs old new
+    pub rest_whole : (HasGathered : List Note → Type 0) → HasCome tree sweep (rest_course tree mark sweep p kept runs old) new HasGathered (past_run p (run_count sweep))
+        → WritesRest tree mark sweep p kept runs old new
     rest_whole HasGathered come = record { made = come.lines.made; are = come.lines.are; written = come.lines.written }
 
     -- a beginning of its lines is one of the piece
     pub rest_begun : ((s : Setup) → IsSound s → (rows : List Row) × IsRunOf s rows) → AreAccepted tree sweep
-        → BeginsLines tree sweep (rest_course tree mark sweep p lines runs old) new → BeginsRest tree mark sweep p lines runs old new
+        → BeginsLines tree sweep (rest_course tree mark sweep p kept runs old) new → BeginsRest tree mark sweep p kept runs old new
     rest_begun exists all begins =
-        let begun = begun_lines tree sweep exists (rest_course tree mark sweep p lines runs old) new all begins in
+        let begun = begun_lines tree sweep exists (rest_course tree mark sweep p kept runs old) new all begins in
         record { made = begun.0; are = begun.1; written = begun.2 }
 
   -- where none were made before, the rest is the whole
-  module _ (none : lines ≡ []) where
-    all_runs : (made : List Made) → AreMadeBehind tree sweep p 0 made → AreMadeBetween tree sweep (first_run p (run_count sweep)) (past_run p (run_count sweep)) made
-    all_runs made are = subst (λ n. AreMadeBetween tree sweep n (past_run p (run_count sweep)) made) (add-zero (first_run p (run_count sweep))) are
+  module _ (none : kept ≡ 0) where
+    no_front : (text : List ℕ) → drop kept (piece_header (tells_revived tree) mark sweep p) ++ text ≡ piece_header (tells_revived tree) mark sweep p ++ text
+    no_front text = ap (λ n. drop n (piece_header (tells_revived tree) mark sweep p) ++ text) none
 
-    no_lines : (text : List ℕ) → (piece_header (tells_revived tree) mark sweep p ++ lines) ++ text ≡ piece_header (tells_revived tree) mark sweep p ++ text
-    no_lines text = ap (λ l. l ++ text) (ap (λ l. piece_header (tells_revived tree) mark sweep p ++ l) none ∙ append-nil (piece_header (tells_revived tree) mark sweep p))
-
-    pub rest_is_whole : WritesRest tree mark sweep p lines 0 old new → WritesPiece tree mark sweep p old new
+    pub rest_is_whole : WritesRest tree mark sweep p kept 0 old new → WritesPiece tree mark sweep p old new
     rest_is_whole writes =
-        record { made = writes.made; are = all_runs writes.made writes.are; written = subst (Appends old new) (no_lines (flat_map (noted_line (tells_revived tree)) writes.made)) writes.written }
+        record { made = writes.made; are = all_runs tree sweep p writes.made writes.are; written = subst (Appends old new) (no_front (flat_map (noted_line (tells_revived tree)) writes.made)) writes.written }
 
-    pub rest_begins_whole : BeginsRest tree mark sweep p lines 0 old new → BeginsPiece tree mark sweep p old new
+    pub rest_begins_whole : BeginsRest tree mark sweep p kept 0 old new → BeginsPiece tree mark sweep p old new
     rest_begins_whole begins =
-        record { made = begins.made; are = all_runs begins.made begins.are; written = subst (AppendsBeginning old new) (no_lines (flat_map (noted_line (tells_revived tree)) begins.made)) begins.written }
+        record { made = begins.made; are = all_runs tree sweep p begins.made begins.are; written = subst (AppendsBeginning old new) (no_front (flat_map (noted_line (tells_revived tree)) begins.made)) begins.written }

@@ -1,5 +1,5 @@
 -- The table of a piece that was cut off, and how it goes on.
-use Rattle.std.specs.Prelude.{◌≡◌, ◌≢◌, ◌==◌, ◌⊎◌, ◌<◌, ◌≤◌, ◌+◌, ◌-◌, ℕ, Bool, List, [], ◌∷◌, ◌++◌, false, Option, All, length}
+use Rattle.std.specs.Prelude.{◌≡◌, ◌≢◌, ◌==◌, ◌⊎◌, ◌<◌, ◌≤◌, ◌+◌, ◌-◌, ℕ, Bool, List, [], ◌∷◌, ◌++◌, false, Option, All, drop, length, min}
 use Rattle.std.specs.List.{flat_map}
 use Rattle.std.specs.Io.KnownBytes.{Appends}
 use Rattle.toml.specs.Data.{Data}
@@ -46,9 +46,15 @@ pub record IsLong (header text lines : List ℕ) (runs : ℕ) : Type 0 where
 abbrev pub StandsSo : List ℕ → List ℕ → List ℕ → ℕ → Type 0
 StandsSo header text lines runs = IsShort header text lines runs ⊎ IsLong header text lines runs
 
--- So much of the table of a piece stands in the text: no more lines than the piece has runs.
-pub record IsBegun (revived : Bool) (mark : List ℕ) (sweep : Sweep) (p : Piece) (text lines : List ℕ) (runs : ℕ) : Type 0 where
+-- How many bytes stay of a text of which so much stands: the first line and these lines; where the text is a beginning of that line, all of it.
+abbrev pub bytes_kept : List ℕ → List ℕ → List ℕ → ℕ
+bytes_kept header text lines = min (length header + length lines) (length text)
+
+-- So much of the table of a piece stands in the text: so many bytes stay, with the lines of so many runs, no more than the piece has.
+pub record IsBegun (revived : Bool) (mark : List ℕ) (sweep : Sweep) (p : Piece) (text : List ℕ) (kept runs : ℕ) : Type 0 where
+  pub lines : List ℕ
   pub begun : StandsSo (piece_header revived mark sweep p) text lines runs
+  pub stay : kept ≡ bytes_kept (piece_header revived mark sweep p) text lines
   pub few : first_run p (run_count sweep) + runs ≤ past_run p (run_count sweep)
 
 -- of the text and the first line neither begins with the other
@@ -75,31 +81,31 @@ RefusesBegun revived mark sweep p text Other =
     ⊎ HasMore (piece_header revived mark sweep p) text (past_run p (run_count sweep) - first_run p (run_count sweep))
 RefusesBegun revived mark sweep p text Memory = Unit {0}
 
--- the first line of a piece, lines that were made before, and those of the runs that were left
-abbrev pub rest_text : Bool → List ℕ → Sweep → Piece → List ℕ → List Made → List ℕ
-rest_text revived mark sweep p lines made = (piece_header revived mark sweep p ++ lines) ++ flat_map (noted_line revived) made
+-- what comes behind so many bytes of a piece's table: what they lack of its first line, and the lines of the runs that were left
+abbrev pub rest_text : Bool → List ℕ → Sweep → Piece → ℕ → List Made → List ℕ
+rest_text revived mark sweep p kept made = drop kept (piece_header revived mark sweep p) ++ flat_map (noted_line revived) made
 
 -- the runs of a piece but for so many, the first
 abbrev pub AreMadeBehind : Data → Sweep → Piece → ℕ → List Made → Type 0
 AreMadeBehind tree sweep p runs made = AreMadeBetween tree sweep (first_run p (run_count sweep) + runs) (past_run p (run_count sweep)) made
 
--- how these lines come, behind the first line and the lines that were made before
-abbrev pub rest_course : Data → List ℕ → Sweep → Piece → List ℕ → ℕ → Option (List ℕ) → Course
-rest_course tree mark sweep p lines runs start = record {
+-- how these lines come, behind so many bytes that were written before, and what these lack of the first line
+abbrev pub rest_course : Data → List ℕ → Sweep → Piece → ℕ → ℕ → Option (List ℕ) → Course
+rest_course tree mark sweep p kept runs start = record {
   start = start;
-  front = piece_header (tells_revived tree) mark sweep p ++ lines;
+  front = drop kept (piece_header (tells_revived tree) mark sweep p);
   from = first_run p (run_count sweep) + runs;
   till = past_run p (run_count sweep);
 }
 
 -- that was appended
-pub record WritesRest (tree : Data) (mark : List ℕ) (sweep : Sweep) (p : Piece) (lines : List ℕ) (runs : ℕ) (old new : Option (List ℕ)) : Type 0 where
+pub record WritesRest (tree : Data) (mark : List ℕ) (sweep : Sweep) (p : Piece) (kept runs : ℕ) (old new : Option (List ℕ)) : Type 0 where
   pub made : List Made
   pub are : AreMadeBehind tree sweep p runs made
-  pub written : Appends old new (rest_text (tells_revived tree) mark sweep p lines made)
+  pub written : Appends old new (rest_text (tells_revived tree) mark sweep p kept made)
 
 -- a beginning of it was
-pub record BeginsRest (tree : Data) (mark : List ℕ) (sweep : Sweep) (p : Piece) (lines : List ℕ) (runs : ℕ) (old new : Option (List ℕ)) : Type 0 where
+pub record BeginsRest (tree : Data) (mark : List ℕ) (sweep : Sweep) (p : Piece) (kept runs : ℕ) (old new : Option (List ℕ)) : Type 0 where
   pub made : List Made
   pub are : AreMadeBehind tree sweep p runs made
-  pub written : AppendsBeginning old new (rest_text (tells_revived tree) mark sweep p lines made)
+  pub written : AppendsBeginning old new (rest_text (tells_revived tree) mark sweep p kept made)

@@ -1,42 +1,50 @@
 //! What stands of the table of a piece that was cut off.
-ghost use Rattle.std.specs.Prelude.{◌≡◌, ◌≢◌, ◌++◌, [], true, false, List, ℕ, IfOk, IfErr, IfSome, IsNone};
+ghost use Rattle.std.specs.Prelude.{◌≡◌, ◌≢◌, ◌++◌, true, false, List, ℕ, IfOk, IfErr, IfSome, IsNone};
 ghost use Rattle.toml.specs.View.{view};
 ghost use Rattle.pieces.specs.Pieces.{IsPiece};
 ghost use Rattle.sweep.specs.Pieces.{piece_header};
 ghost use Rattle.sweep.specs.Runs.{IsAskedFor};
 ghost use Rattle.sweep.specs.Table.{tells_revived};
-ghost use Rattle.sweep.specs.Resumed.{AreWholeLines, IsBegun, RefusesBegun, RefusesStart, StandsSo};
+ghost use Rattle.sweep.specs.Resumed.{AreWholeLines, IsBegun, RefusesBegun, RefusesStart, StandsSo, bytes_kept};
 ghost use Rattle.sweep.specs.declared.begun.BegunFault.TheVariants as begun_fault;
 
-use crate::piece_tables::write_front;
+use crate::piece_tables::front_of;
 use crate::revived::tells_revived;
+use base::Memory;
 use cases::Plan;
 use pieces::Piece;
 use std::alloc::Global;
 use thiserror::Error;
 use toml::Value;
-use trace::Put;
 
 /// What of the table of a piece was made before it was cut off.
 #[derive(Clone, Copy)]
-pub struct Begun<'a> {
-    /// The whole lines behind the first.
-    pub lines: &'a [u8],
-    /// How many they are: so many of the piece's runs are made.
+pub struct Begun {
+    /// How many bytes of it stay: its first line, or a beginning of that, and whole lines.
+    pub kept: usize,
+    /// How many lines these are: so many of the piece's runs are made.
     pub runs: usize,
 }
 
-impl Begun<'_> {
+impl Begun {
     /// Nothing of it.
-    pub fn nothing() -> Begun<'static>
-        ensures lines { result.lines.now ≡ [] }
+    pub fn nothing() -> Begun
+        ensures kept { result.kept ≡ 0 }
         ensures runs { result.runs ≡ 0 }
     {
-        Begun {
-            lines: b"",
-            runs: 0,
-        }
+        Begun { kept: 0, runs: 0 }
     }
+}
+
+/// What stands in a text of the table of a piece.
+#[derive(Clone, Copy)]
+pub struct Standing<'a> {
+    /// The whole lines behind the first.
+    pub lines: &'a [u8],
+    /// How many they are.
+    pub count: usize,
+    /// How many bytes of the text the first line and these have; all, where it is a beginning of that line.
+    pub kept: usize,
 }
 
 /// Why a text is no beginning of the table of a piece.
@@ -54,25 +62,28 @@ pub enum BegunFault {
 /// beginning of one, which doesn't count.
 ///
 /// Faults: `Other` where the text begins otherwise, or has more lines than the piece has runs; `Memory`.
-pub fn begun_of<'a>(
+pub fn begun_of(
     alloc: Global,
     plan: &Plan,
     piece: Piece,
     mark: &str,
     document: &Value,
-    text: &'a [u8],
-) -> Result<Begun<'a>, BegunFault>
+    text: &[u8],
+) -> Result<Begun, BegunFault>
     requires asked { IsAskedFor plan.now }
     requires piece { IsPiece piece }
-    ensures begun { IfOk result (λ begun. IsBegun (tells_revived (view document.now)) mark.now plan.now piece text.entry.now begun.lines.now begun.runs) }
-    ensures refused { IfErr result (RefusesBegun (tells_revived (view document.now)) mark.now plan.now piece text.entry.now) }
+    ensures begun { IfOk result (λ begun. IsBegun (tells_revived (view document.now)) mark.now plan.now piece text.now begun.kept begun.runs) }
+    ensures refused { IfErr result (RefusesBegun (tells_revived (view document.now)) mark.now plan.now piece text.now) }
 {
-    let begun = begun_lines(alloc, plan, piece, mark, document, text)?;
+    let stood = begun_lines(alloc, plan, piece, mark, document, text)?;
     let runs = plan.runs();
-    if begun.runs > piece.past(runs) - piece.first(runs) {
+    if stood.count > piece.past(runs) - piece.first(runs) {
         return Err(BegunFault::Other);
     }
-    Ok(begun)
+    Ok(Begun {
+        kept: stood.kept,
+        runs: stood.count,
+    })
 }
 
 /// What stands of a piece's table in a text, however many lines that are.
@@ -85,21 +96,28 @@ pub fn begun_lines<'a>(
     mark: &str,
     document: &Value,
     text: &'a [u8],
-) -> Result<Begun<'a>, BegunFault>
-    ensures begun { IfOk result (λ begun. StandsSo (piece_header (tells_revived (view document.now)) mark.now plan.now piece) text.entry.now begun.lines.now begun.runs) }
+) -> Result<Standing<'a>, BegunFault>
+    ensures begun { IfOk result (λ stood. StandsSo (piece_header (tells_revived (view document.now)) mark.now plan.now piece) text.entry.now stood.lines.now stood.count) }
+    ensures kept { IfOk result (λ stood. stood.kept ≡ bytes_kept (piece_header (tells_revived (view document.now)) mark.now plan.now piece) text.entry.now stood.lines.now) }
     ensures refused { IfErr result (RefusesStart (piece_header (tells_revived (view document.now)) mark.now plan.now piece) text.entry.now) }
 {
     let header = header_of(alloc, plan, piece, mark, tells_revived(document))?;
     if is_beginning(text, &header) {
-        return Ok(Begun {
+        return Ok(Standing {
             lines: &text[..0],
-            runs: 0,
+            count: 0,
+            kept: text.len(),
         });
     }
     let Some(rest) = rest_behind(text, &header) else {
         return Err(BegunFault::Other);
     };
-    Ok(whole_lines(rest))
+    let (lines, count) = whole_lines(rest);
+    Ok(Standing {
+        lines,
+        count,
+        kept: text.len() - (rest.len() - lines.len()),
+    })
 }
 
 /// The first line of a piece.
@@ -113,11 +131,9 @@ fn header_of(
     ensures header { IfOk result (λ header. header.items ≡ piece_header revived mark.now plan.now piece) }
     ensures memory { IfErr result (λ fault. fault ≡ begun_fault.Memory) }
 {
-    let mut header = Put::new(Vec::new(alloc));
-    match write_front(alloc, plan, piece, mark, revived, &mut header) {
-        Ok(()) => Ok(header.into_inner()),
-        // A text in memory fails by want of that.
-        Err(_) => Err(BegunFault::Memory),
+    match front_of(alloc, plan, piece, mark, revived) {
+        Ok(header) => Ok(header),
+        Err(Memory) => Err(BegunFault::Memory),
     }
 }
 
@@ -138,8 +154,8 @@ fn rest_behind<'a>(text: &'a [u8], header: &[u8]) -> Option<&'a [u8]>
 }
 
 /// The whole lines of a text, and how many they are.
-fn whole_lines(text: &[u8]) -> Begun<'_>
-    ensures { AreWholeLines text.entry.now result.lines.now result.runs }
+fn whole_lines(text: &[u8]) -> (&[u8], usize)
+    ensures { AreWholeLines text.entry.now result.0.now result.1 }
 {
     let mut end = 0;
     let mut count = 0;
@@ -149,8 +165,5 @@ fn whole_lines(text: &[u8]) -> Begun<'_>
             count += 1;
         }
     }
-    Begun {
-        lines: &text[..end],
-        runs: count,
-    }
+    (&text[..end], count)
 }

@@ -18,12 +18,12 @@ mod values;
 mod work;
 mod writing;
 
-pub use begun::{Begun, BegunFault, begun_lines, begun_of};
+pub use begun::{Begun, BegunFault, Standing, begun_lines, begun_of};
 pub use chunks::sweep;
 pub use gathering::{Gather, Gathering, NothingGathered};
 pub use judging::{Refused, judge};
 pub use making::{MadeRun, make_side_by_side};
-pub use piece_tables::{write_begun, write_front, write_piece, write_rest};
+pub use piece_tables::{write_front, write_front_behind, write_piece, write_rest};
 pub use planned::first_run;
 pub use progress::{NoProgress, Progress};
 pub use reading::read_run;

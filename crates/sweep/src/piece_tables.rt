@@ -1,5 +1,5 @@
 //! The runs of a piece of a sweep, and the table of one that was cut off.
-ghost use Rattle.std.specs.Prelude.{◌≡◌, ◌≤◌, ◌<◌, ◌^◌, ◌+◌, ◌++◌, [], OnOk, OnErr, IfErr};
+ghost use Rattle.std.specs.Prelude.{◌≡◌, ◌≤◌, ◌<◌, ◌^◌, ◌+◌, [], OnOk, OnErr, IfErr, IfOk, drop};
 ghost use Rattle.std.specs.Io.KnownBytes.{Appends};
 ghost use Rattle.toml.specs.View.{view};
 ghost use Rattle.cases.specs.Sweep.{run_count, seed_count};
@@ -20,7 +20,7 @@ use crate::gathering::{Gather, NothingGathered};
 use crate::progress::Progress;
 use crate::revived::tells_revived;
 use crate::values::write_names;
-use base::Fault;
+use base::{Fault, Memory};
 use cases::Plan;
 use outputs::flush;
 use pieces::{Piece, head_cell};
@@ -29,7 +29,7 @@ use std::alloc::Global;
 use std::marker::Sync;
 use std::thread::Threads;
 use toml::Value;
-use trace::{Sink, WriteError, put_all};
+use trace::{Put, Sink, WriteError, put_all};
 use whole_runs::a_run_exists;
 
 /// Makes the runs of a piece of a sweep, and writes its table: a header, ahead of which stands the piece's name, and a
@@ -63,15 +63,15 @@ pub fn write_piece<S: Sink, P: Progress>(
     )
 }
 
-/// Makes the runs of a piece that aren't made yet, and writes its table: the first line, the lines that were made before,
-/// and those of the runs that are left; at the end the table is flushed. All else is as in `write_piece`.
+/// Makes the runs of a piece that aren't made yet, and writes its table behind the bytes that stay of it: what these lack of
+/// the first line, and the lines of the runs that are left; at the end the table is flushed. All else is as in `write_piece`.
 pub fn write_rest<S: Sink, P: Progress>(
     rt: &(impl Threads + Sync),
     alloc: Global,
     plan: &Plan,
     piece: Piece,
     mark: &str,
-    begun: Begun<'_>,
+    begun: Begun,
     document: &Value,
     workers: Workers,
     progress: &mut P,
@@ -82,8 +82,8 @@ pub fn write_rest<S: Sink, P: Progress>(
     requires piece { IsPiece piece }
     requires few { first_run piece (run_count plan.now) + begun.runs ≤ past_run piece (run_count plan.now) }
     requires countable { S.failed table.old < 2 ^ 63 }
-    ensures whole { OnOk result (WritesRest (view document.now) mark.now plan.now piece begun.entry.lines.now begun.entry.runs (S.held table.old) (S.held table.new)) }
-    ensures part { OnErr result (BeginsRest (view document.now) mark.now plan.now piece begun.entry.lines.now begun.entry.runs (S.held table.old) (S.held table.new)) }
+    ensures whole { OnOk result (WritesRest (view document.now) mark.now plan.now piece begun.kept begun.runs (S.held table.old) (S.held table.new)) }
+    ensures part { OnErr result (BeginsRest (view document.now) mark.now plan.now piece begun.kept begun.runs (S.held table.old) (S.held table.new)) }
     ensures causes { IfErr result (HasCause (view document.now) plan.now) }
     ensures failures { S.failed table.new ≡ S.failed table.old + sink_failures result }
 {
@@ -102,14 +102,14 @@ pub fn write_rest<S: Sink, P: Progress>(
     )
 }
 
-/// Writes that table, and gathers what is told of the runs that are made.
+/// Writes that rest, and gathers what is told of the runs that are made.
 pub(crate) fn write_table<S: Sink, P: Progress, G: Gather>(
     rt: &(impl Threads + Sync),
     alloc: Global,
     plan: &Plan,
     piece: Piece,
     mark: &str,
-    begun: Begun<'_>,
+    begun: Begun,
     document: &Value,
     workers: Workers,
     progress: &mut P,
@@ -122,9 +122,9 @@ pub(crate) fn write_table<S: Sink, P: Progress, G: Gather>(
     requires few { first_run piece (run_count plan.now) + begun.runs ≤ past_run piece (run_count plan.now) }
     requires fresh { G.has gathering.old (seed_count plan.now.seeds) [] }
     requires countable { S.failed table.old < 2 ^ 63 }
-    ensures whole { OnOk result (HasCome (view document.now) plan.now (rest_course (view document.now) mark.now plan.now piece begun.entry.lines.now begun.entry.runs (S.held table.old))
+    ensures whole { OnOk result (HasCome (view document.now) plan.now (rest_course (view document.now) mark.now plan.now piece begun.kept begun.runs (S.held table.old))
         (S.held table.new) (G.has gathering.new (seed_count plan.now.seeds)) (past_run piece (run_count plan.now))) }
-    ensures part { OnErr result (BeginsRest (view document.now) mark.now plan.now piece begun.entry.lines.now begun.entry.runs (S.held table.old) (S.held table.new)) }
+    ensures part { OnErr result (BeginsRest (view document.now) mark.now plan.now piece begun.kept begun.runs (S.held table.old) (S.held table.new)) }
     ensures causes { IfErr result (HasCause (view document.now) plan.now) }
     ensures failures { S.failed table.new ≡ S.failed table.old + sink_failures result }
 {
@@ -132,12 +132,12 @@ pub(crate) fn write_table<S: Sink, P: Progress, G: Gather>(
     let first = piece.first(runs);
     let from = first + begun.runs;
     a_run_exists();
-    write_begun(
+    write_front_behind(
         alloc,
         plan,
         piece,
         mark,
-        begun.lines,
+        begun.kept,
         tells_revived(document),
         table,
     )?;
@@ -158,24 +158,49 @@ pub(crate) fn write_table<S: Sink, P: Progress, G: Gather>(
     Ok(())
 }
 
-/// Puts the first line of a piece, as `write_front` does, and lines that were made before.
-pub fn write_begun<S: Sink>(
+/// Puts what so many bytes lack of the first line of a piece, which `write_front` puts whole.
+pub fn write_front_behind<S: Sink>(
     alloc: Global,
     plan: &Plan,
     piece: Piece,
     mark: &str,
-    lines: &[u8],
+    kept: usize,
     revived: bool,
     table: &mut S,
 ) -> Result<(), WriteError>
     requires { S.failed table.old < 2 ^ 63 }
-    ensures whole { OnOk result (Appends (S.held table.old) (S.held table.new) (piece_header revived mark.now plan.now piece ++ lines.now)) }
-    ensures part { OnErr result (AppendsBeginning (S.held table.old) (S.held table.new) (piece_header revived mark.now plan.now piece ++ lines.now)) }
+    ensures whole { OnOk result (Appends (S.held table.old) (S.held table.new) (drop kept (piece_header revived mark.now plan.now piece))) }
+    ensures part { OnErr result (AppendsBeginning (S.held table.old) (S.held table.new) (drop kept (piece_header revived mark.now plan.now piece))) }
     ensures failures { S.failed table.new ≡ S.failed table.old + failures_of_write result }
 {
-    write_front(alloc, plan, piece, mark, revived, table)?;
-    put_all(lines, table)?;
+    let front = front_of(alloc, plan, piece, mark, revived)?;
+    put_all(behind(&front, kept), table)?;
     Ok(())
+}
+
+/// What a text has behind so many bytes; nothing, where it has no more.
+fn behind(text: &[u8], count: usize) -> &[u8]
+    ensures { result.now ≡ drop count text.entry.now }
+{
+    &text[count.min(text.len())..]
+}
+
+/// The first line of a piece.
+pub(crate) fn front_of(
+    alloc: Global,
+    plan: &Plan,
+    piece: Piece,
+    mark: &str,
+    revived: bool,
+) -> Result<Vec<u8>, Memory>
+    ensures { IfOk result (λ front. front.items ≡ piece_header revived mark.now plan.now piece) }
+{
+    let mut front = Put::new(Vec::new(alloc));
+    match write_front(alloc, plan, piece, mark, revived, &mut front) {
+        Ok(()) => Ok(front.into_inner()),
+        // A text in memory fails by want of that.
+        Err(_) => Err(Memory),
+    }
 }
 
 /// Puts the first line of a piece: its name, and the header of the sweep's table. Whether that tells of members that

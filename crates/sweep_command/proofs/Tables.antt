@@ -1,20 +1,22 @@
 -- What the file holds that the table of a sweep was written to.
-use Rattle.std.proofs.Common.{◌≡◌, ◌∙◌, ℕ, Bool, false, true, List, [], Option, Some, None, Result, Ok, Err, IfSome, IfOk, OnOk, OnErr, refl, sym, subst}
-use Rattle.std.specs.Option.{ForSome}
+use Rattle.std.proofs.Common.{◌≡◌, ◌∙◌, ◌≤◌, ◌++◌, ℕ, Bool, false, true, List, [], Option, Some, None, Result, Ok, Err, IfSome, IfOk, OnOk, OnErr, inl, inr, ap, arith, length, sym, subst, take}
 use Rattle.std.specs.Io.KnownBytes.{Appends}
 use Rattle.toml.specs.Data.{Data}
 use Rattle.base.specs.declared.fault.Fault.{Fault}
-use Rattle.files.specs.Files.{KnownFile, HoldsNow, ClosesAs, KeepsOthers}
+use Rattle.files.specs.Files.{KnownFile, HoldsAtLeast, HoldsNow, ClosesAs, KeepsOthers, bytes_held}
+use Rattle.files.specs.Files as files
 use Rattle.trace.specs.Sinks.{AppendsBeginning}
 use Rattle.trace.proofs.Beginnings.{beginning-whole}
 use Rattle.cases.specs.Sweep.{Sweep}
 use Rattle.pieces.specs.declared.piece.Piece.{Piece}
 use Rattle.pieces.specs.Pieces.{whole}
+use Rattle.sweep.specs.Pieces.{piece_header}
 use Rattle.sweep.specs.Table.{tells_revived}
+use Rattle.sweep.proofs.Kept.{kept_within}
 use Rattle.figures.specs.declared.summary.CaseSummary.{CaseSummary}
 use Rattle.command_line.specs.declared.words.SweepWords.{SweepWords}
 use Rattle.scenario_files.specs.Shelves.{Shelf, HoldsBeginning}
-use Rattle.sweep_command.specs.Outcomes.{BeginsAsked, BeginsPart, BreaksOff, BreaksOffPart, BreaksOffRuns, FitResumed, GoesOn, IsCaused, MakesAsked, MakesLines, MakesPart, StoresPlain, StoresPart, StoresRuns, Stood, piece_resumed}
+use Rattle.sweep_command.specs.Outcomes.{BeginsAsked, BeginsPart, BreaksOff, BreaksOffPart, BreaksOffRest, BreaksOffRuns, FitResumed, GoesOn, GoesOnWith, HeldSoFar, IsCaused, MakesAsked, MakesLines, MakesPart, StoresPlain, StoresPart, StoresRest, StoresRuns, Stood, piece_resumed}
 use Rattle.sweep_command.specs.Runs.{AreBegun, AreRuns, BeginsAllRuns, BeginsRuns, FitPiece, MakesRuns, RunsBy, rest_table, runs_table}
 use Rattle.scenario_files.proofs.Held.{holds_beginning, holds_text}
 
@@ -24,32 +26,77 @@ both_ok P Q (Ok x) p q = (p, q)
 both_ok P Q (Err e) p q = tt
 
 -- what is asked for is the piece, where one is named, and else the whole
-module _ {T E : Type 0} (bytes : T → List ℕ) (tree : Data) (mark : List ℕ) (sweep : SweepWords) (stood : List ℕ) (count : ℕ) (old new : Option (List ℕ)) (told : Result T E) (asked : Option Piece) where
-  pub piece_told : (p : Piece) → asked ≡ Some p → OnOk told (MakesPart sweep.resume tree mark sweep p stood count old new) → IfOk told (λ lines. bytes lines ≡ [])
-      → IfOk told (λ lines. MakesAsked asked tree mark sweep stood count old new (bytes lines))
+module _ {T E : Type 0} (bytes : T → List ℕ) (tree : Data) (mark : List ℕ) (sweep : SweepWords) (kept count : ℕ) (old new : Option (List ℕ)) (told : Result T E) (asked : Option Piece) where
+  pub piece_told : (p : Piece) → asked ≡ Some p → OnOk told (MakesPart sweep.resume tree mark sweep p kept count old new) → IfOk told (λ lines. bytes lines ≡ [])
+      → IfOk told (λ lines. MakesAsked asked tree mark sweep kept count old new (bytes lines))
   piece_told p is written untold =
-      subst (λ (o : Option Piece). IfOk told (λ lines. MakesAsked o tree mark sweep stood count old new (bytes lines))) (sym is)
-      (both_ok (MakesPart sweep.resume tree mark sweep p stood count old new) (λ lines. bytes lines ≡ []) told written untold)
+      subst (λ (o : Option Piece). IfOk told (λ lines. MakesAsked o tree mark sweep kept count old new (bytes lines))) (sym is)
+      (both_ok (MakesPart sweep.resume tree mark sweep p kept count old new) (λ lines. bytes lines ≡ []) told written untold)
 
-  pub whole_told : asked ≡ None → IfOk told (λ lines. MakesLines tree mark sweep old new (bytes lines)) → IfOk told (λ lines. MakesAsked asked tree mark sweep stood count old new (bytes lines))
-  whole_told is tells = subst (λ (o : Option Piece). IfOk told (λ lines. MakesAsked o tree mark sweep stood count old new (bytes lines))) (sym is) tells
+  pub whole_told : asked ≡ None → IfOk told (λ lines. MakesLines tree mark sweep old new (bytes lines)) → IfOk told (λ lines. MakesAsked asked tree mark sweep kept count old new (bytes lines))
+  whole_told is tells = subst (λ (o : Option Piece). IfOk told (λ lines. MakesAsked o tree mark sweep kept count old new (bytes lines))) (sym is) tells
 
-  pub piece_begun : (p : Piece) → asked ≡ Some p → OnErr told (BeginsPart sweep.resume tree mark sweep p stood count old new) → OnErr told (BeginsAsked asked tree mark sweep stood count old new)
-  piece_begun p is begun = subst (λ (o : Option Piece). OnErr told (BeginsAsked o tree mark sweep stood count old new)) (sym is) begun
+  pub piece_begun : (p : Piece) → asked ≡ Some p → OnErr told (BeginsPart sweep.resume tree mark sweep p kept count old new) → OnErr told (BeginsAsked asked tree mark sweep kept count old new)
+  piece_begun p is begun = subst (λ (o : Option Piece). OnErr told (BeginsAsked o tree mark sweep kept count old new)) (sym is) begun
 
-  pub whole_begun : asked ≡ None → OnErr told (BeginsAllRuns sweep.plan.until tree mark sweep.plan old new) → OnErr told (BeginsAsked asked tree mark sweep stood count old new)
-  whole_begun is begun = subst (λ (o : Option Piece). OnErr told (BeginsAsked o tree mark sweep stood count old new)) (sym is) begun
+  pub whole_begun : asked ≡ None → OnErr told (BeginsAllRuns sweep.plan.until tree mark sweep.plan old new) → OnErr told (BeginsAsked asked tree mark sweep kept count old new)
+  whole_begun is begun = subst (λ (o : Option Piece). OnErr told (BeginsAsked o tree mark sweep kept count old new)) (sym is) begun
 
 -- a piece that goes on has no fewer runs, or cases, than are made
-begun_few : (until : Option ℕ) (revived : Bool) (mark : List ℕ) (plan : Sweep) (p : Piece) (text lines : List ℕ) (count : ℕ) → AreBegun until revived mark plan p text lines count
+begun_few : (until : Option ℕ) (revived : Bool) (mark : List ℕ) (plan : Sweep) (p : Piece) (text : List ℕ) (kept count : ℕ) → AreBegun until revived mark plan p text kept count
     → FitPiece until plan p count
-begun_few None revived mark plan p text lines count begun = begun.few
-begun_few (Some width) revived mark plan p text lines count begun = begun.begun.few
+begun_few None revived mark plan p text kept count begun = begun.few
+begun_few (Some width) revived mark plan p text kept count begun = begun.begun.few
 
-pub stood_few : (tree : Data) (mark : List ℕ) (sweep : SweepWords) (known : KnownFile) (stood : List ℕ) (count : ℕ) → GoesOn tree mark sweep known stood count
+-- no more bytes stay than there are
+begun_within : (until : Option ℕ) (revived : Bool) (mark : List ℕ) (plan : Sweep) (p : Piece) (text : List ℕ) (kept count : ℕ) → AreBegun until revived mark plan p text kept count
+    → kept ≤ length text
+begun_within None revived mark plan p text kept count begun = omega (arith, begun.stay, kept_within (piece_header revived mark plan p) text begun.lines)
+begun_within (Some width) revived mark plan p text kept count begun = omega (arith, begun.stay, kept_within (piece_header revived mark plan p) text begun.lines)
+
+pub stood_few : (tree : Data) (mark : List ℕ) (sweep : SweepWords) (known : KnownFile) (kept count : ℕ) → GoesOn tree mark sweep known kept count
     → FitResumed sweep sweep.piece count
-stood_few tree mark sweep known stood count goes p is =
-    let there = goes p is in begun_few sweep.plan.until (tells_revived tree) mark sweep.plan p there.text stood count there.begun
+stood_few tree mark sweep known kept count goes p is =
+    let there : Stood tree mark sweep p known kept count = subst (λ (o : Option Piece). GoesOnWith o tree mark sweep known kept count) is goes in
+    begun_few sweep.plan.until (tells_revived tree) mark sweep.plan p there.text kept count there.begun
+
+-- the file holds what was read of it
+held_bytes : (held : Option (List ℕ)) (text : List ℕ) → HeldSoFar (Some held) text → bytes_held held ≡ text
+held_bytes held text (inl holds) = ap bytes_held holds
+held_bytes held text (inr absent) = ap bytes_held absent.0 ∙ sym absent.1
+
+-- so it has as many bytes as stay
+pub holds_kept : (piece : Option Piece) (tree : Data) (mark : List ℕ) (sweep : SweepWords) (known : KnownFile) (kept count : ℕ) → GoesOnWith piece tree mark sweep known kept count
+    → HoldsAtLeast known kept
+holds_kept piece tree mark sweep None kept count goes = tt
+holds_kept None tree mark sweep (Some held) kept count goes = omega (arith, goes)
+holds_kept (Some p) tree mark sweep (Some held) kept count goes =
+    omega (arith, ap length (held_bytes held goes.text goes.held), begun_within sweep.plan.until (tells_revived tree) mark sweep.plan p goes.text kept count goes.begun)
+
+-- where a file was opened behind these bytes, it and its writer hold them
+pub holds_front : (before made : KnownFile) (old : Option (List ℕ)) (kept : ℕ) (text : List ℕ) → HeldSoFar before text → files.HoldsBeginning before made kept
+    → IfSome before (λ held. old ≡ Some (take kept (bytes_held held))) → HoldsNow before made (take kept text) × IfSome before (λ _. old ≡ Some (take kept text))
+holds_front None made old kept text held begins behind = (tt, tt)
+holds_front (Some held) made old kept text so_far begins behind =
+    let same : take kept (bytes_held held) ≡ take kept text = ap (take kept) (held_bytes held text so_far) in
+    (begins ∙ ap (λ b. Some (Some b)) same, behind ∙ ap (λ b. Some b) same)
+
+holds_none : (before made : KnownFile) (old : Option (List ℕ)) (kept : ℕ) → kept ≡ 0 → files.HoldsBeginning before made kept
+    → IfSome before (λ held. old ≡ Some (take kept (bytes_held held))) → HoldsNow before made [] × IfSome before (λ _. old ≡ Some [])
+holds_none None made old kept none begins behind = (tt, tt)
+holds_none (Some held) made old kept none begins behind =
+    let same : take kept (bytes_held held) ≡ [] = ap (λ n. take n (bytes_held held)) none in
+    (begins ∙ ap (λ b. Some (Some b)) same, behind ∙ ap (λ b. Some b) same)
+
+-- such a file, closed after a text was written behind them, holds both
+holds_behind : (before made after : KnownFile) (old new : Option (List ℕ)) (stay text : List ℕ) → HoldsNow before made stay → IfSome before (λ _. old ≡ Some stay)
+    → Appends old new text → ClosesAs made after new → HoldsNow before after (stay ++ text)
+holds_behind None made after old new stay text there fresh written closed = tt
+holds_behind (Some held) made after old None stay text there fresh written closed = absurd (subst (λ o. Appends o None text) fresh written)
+holds_behind (Some held) made after old (Some bytes) stay text there fresh written closed =
+    let same : bytes ≡ stay ++ text = subst (λ o. Appends o (Some bytes) text) fresh written in
+    let now : after ≡ Some (Some bytes) = subst (λ k. ClosesAs k after (Some bytes)) there closed in
+    now ∙ ap (λ b. Some (Some b)) same
 
 -- the whole table is a beginning of itself
 pub all_begins : (until : Option ℕ) (tree : Data) (mark : List ℕ) (plan : Sweep) (old new : Option (List ℕ)) (cases : List CaseSummary) → MakesRuns until tree mark plan old new cases
@@ -66,71 +113,99 @@ module _ (until : Option ℕ) (tree : Data) (mark mark' : List ℕ) (plan : Swee
   marked_begins same begins = subst (λ m. BeginsAllRuns until tree m plan old new) same begins
 
 -- after a sweep that was done, and after one that broke off
-module _ (tree : Data) (mark : List ℕ) (sweep : SweepWords) (start made end : Shelf) (old new : Option (List ℕ)) (stood : List ℕ) (count : ℕ)
+module _ (tree : Data) (mark : List ℕ) (sweep : SweepWords) (start made end : Shelf) (old new : Option (List ℕ)) (kept count : ℕ)
     (table_made : KeepsOthers start made sweep.table.now) (table_closed : KeepsOthers made end sweep.table.now)
-    (empty : HoldsNow (start sweep.table.now) (made sweep.table.now) []) (fresh : IfSome (start sweep.table.now) (λ _. old ≡ Some []))
+    (begins : files.HoldsBeginning (start sweep.table.now) (made sweep.table.now) kept)
+    (behind : IfSome (start sweep.table.now) (λ held. old ≡ Some (take kept (bytes_held held))))
     (closes : ClosesAs (made sweep.table.now) (end sweep.table.now) new) where
   others_kept : KeepsOthers start end sweep.table.now
   others_kept other differs = table_closed other differs ∙ table_made other differs
 
-  text_held : (text : List ℕ) → Appends old new text → HoldsNow (start sweep.table.now) (end sweep.table.now) text
-  text_held text written = holds_text (start sweep.table.now) (made sweep.table.now) (end sweep.table.now) old new text empty fresh written closes
+  -- where nothing stays
+  module _ (none : kept ≡ 0) where
+    text_held : (text : List ℕ) → Appends old new text → HoldsNow (start sweep.table.now) (end sweep.table.now) text
+    text_held text written =
+        let empty = holds_none (start sweep.table.now) (made sweep.table.now) old kept none begins behind in
+        holds_text (start sweep.table.now) (made sweep.table.now) (end sweep.table.now) old new text empty.0 empty.1 written closes
 
-  beginning_held : (text : List ℕ) → AppendsBeginning old new text → HoldsBeginning (start sweep.table.now) (end sweep.table.now) text
-  beginning_held text written = holds_beginning (start sweep.table.now) (made sweep.table.now) (end sweep.table.now) old new text empty fresh written closes
+    beginning_held : (text : List ℕ) → AppendsBeginning old new text → HoldsBeginning (start sweep.table.now) (end sweep.table.now) text
+    beginning_held text written =
+        let empty = holds_none (start sweep.table.now) (made sweep.table.now) old kept none begins behind in
+        holds_beginning (start sweep.table.now) (made sweep.table.now) (end sweep.table.now) old new text empty.0 empty.1 written closes
 
-  runs_stored : (p : Piece) (runs_made : RunsBy sweep.plan.until) → AreRuns sweep.plan.until tree sweep.plan p runs_made
-      → Appends old new (runs_table sweep.plan.until tree mark sweep.plan p runs_made) → StoresRuns tree mark sweep p runs_made start end
-  runs_stored p runs_made are written =
-      record { are = are; stored = text_held (runs_table sweep.plan.until tree mark sweep.plan p runs_made) written; others = others_kept }
+    runs_stored : (p : Piece) (runs_made : RunsBy sweep.plan.until) → AreRuns sweep.plan.until tree sweep.plan p runs_made
+        → Appends old new (runs_table sweep.plan.until tree mark sweep.plan p runs_made) → StoresRuns tree mark sweep p runs_made start end
+    runs_stored p runs_made are written =
+        record { are = are; stored = text_held (runs_table sweep.plan.until tree mark sweep.plan p runs_made) written; others = others_kept }
 
-  part_stored : (resume : Bool) (p : Piece) → ForSome (piece_resumed resume (Some p)) (λ q. Stood tree mark sweep q (start sweep.table.now) stood count)
-      → MakesPart resume tree mark sweep p stood count old new → StoresPart resume tree mark sweep p start end
-  part_stored false p goes makes = (makes.made, runs_stored p makes.made makes.are makes.written)
-  part_stored true p goes makes = record {
-    lines = stood;
-    count = count;
-    stood = goes p refl;
-    made = makes.made;
-    are = makes.are;
-    stored = text_held (rest_table sweep.plan.until tree mark sweep.plan p stood makes.made) makes.written;
-    others = others_kept;
-  }
+    runs_begun : (Refused : Type 0) (cause : Fault) → IsCaused Refused tree sweep.plan cause → (p : Piece) → BeginsRuns sweep.plan.until tree mark sweep.plan p old new
+        → BreaksOffRuns Refused tree mark sweep p start end cause
+    runs_begun Refused cause caused p begun = record {
+      made = begun.made;
+      are = begun.are;
+      begun = beginning_held (runs_table sweep.plan.until tree mark sweep.plan p begun.made) begun.written;
+      others = others_kept;
+      caused = caused;
+    }
 
-  pub table_stored : (piece : Option Piece) (lines : List ℕ) → ForSome (piece_resumed sweep.resume piece) (λ q. Stood tree mark sweep q (start sweep.table.now) stood count)
-      → MakesAsked piece tree mark sweep stood count old new lines → StoresPlain piece tree mark sweep start end lines
+  -- where some does
+  module _ (p : Piece) (stood : Stood tree mark sweep p (start sweep.table.now) kept count) where
+    stay_held : (text : List ℕ) → Appends old new text → HoldsNow (start sweep.table.now) (end sweep.table.now) (take kept stood.text ++ text)
+    stay_held text written =
+        let front = holds_front (start sweep.table.now) (made sweep.table.now) old kept stood.text stood.held begins behind in
+        holds_behind (start sweep.table.now) (made sweep.table.now) (end sweep.table.now) old new (take kept stood.text) text front.0 front.1 written closes
+
+    rest_stored : MakesPart true tree mark sweep p kept count old new → StoresRest tree mark sweep p start end
+    rest_stored makes = record {
+      kept = kept;
+      count = count;
+      stood = stood;
+      made = makes.made;
+      are = makes.are;
+      stored = stay_held (rest_table sweep.plan.until tree mark sweep.plan p kept makes.made) makes.written;
+      others = others_kept;
+    }
+
+    rest_begun : (Refused : Type 0) (cause : Fault) → IsCaused Refused tree sweep.plan cause → BeginsPart true tree mark sweep p kept count old new
+        → BreaksOffRest Refused tree mark sweep p start end cause
+    rest_begun Refused cause caused begun = record {
+      kept = kept;
+      count = count;
+      stood = stood;
+      made = begun.made;
+      are = begun.are;
+      begun = record { front = begun.written.front; rest = begun.written.rest; whole = begun.written.whole; written = stay_held begun.written.front begun.written.appends };
+      others = others_kept;
+      caused = caused;
+    }
+
+  abbrev Goes : Option Piece → Type 0
+  Goes piece = GoesOnWith piece tree mark sweep (start sweep.table.now) kept count
+
+  part_stored : (resume : Bool) (p : Piece) → Goes (piece_resumed resume (Some p)) → MakesPart resume tree mark sweep p kept count old new → StoresPart resume tree mark sweep p start end
+  part_stored false p goes makes = (makes.made, runs_stored goes p makes.made makes.are makes.written)
+  part_stored true p goes makes = rest_stored p goes makes
+
+  nothing_stays : (resume : Bool) → Goes (piece_resumed resume None) → kept ≡ 0
+  nothing_stays false goes = goes
+  nothing_stays true goes = goes
+
+  pub table_stored : (piece : Option Piece) (lines : List ℕ) → Goes (piece_resumed sweep.resume piece) → MakesAsked piece tree mark sweep kept count old new lines
+      → StoresPlain piece tree mark sweep start end lines
   table_stored (Some p) lines goes tells = (part_stored sweep.resume p goes tells.0, tells.1)
   table_stored None lines goes tells = (
     tells.makes.made,
-    runs_stored whole tells.makes.made tells.makes.are tells.makes.written,
+    runs_stored (nothing_stays sweep.resume goes) whole tells.makes.made tells.makes.are tells.makes.written,
     record { cases = tells.cases; all = tells.makes.all; told = tells.makes.told; text = tells.text },
   )
 
   module _ (Refused : Type 0) (cause : Fault) (caused : IsCaused Refused tree sweep.plan cause) where
-    runs_begun : (p : Piece) → BeginsRuns sweep.plan.until tree mark sweep.plan p old new → BreaksOffRuns Refused tree mark sweep p start end cause
-    runs_begun p begins = record {
-      made = begins.made;
-      are = begins.are;
-      begun = beginning_held (runs_table sweep.plan.until tree mark sweep.plan p begins.made) begins.written;
-      others = others_kept;
-      caused = caused;
-    }
+    part_begun : (resume : Bool) (p : Piece) → Goes (piece_resumed resume (Some p)) → BeginsPart resume tree mark sweep p kept count old new
+        → BreaksOffPart resume Refused tree mark sweep p start end cause
+    part_begun false p goes begun = runs_begun goes Refused cause caused p begun
+    part_begun true p goes begun = rest_begun p goes Refused cause caused begun
 
-    part_begun : (resume : Bool) (p : Piece) → ForSome (piece_resumed resume (Some p)) (λ q. Stood tree mark sweep q (start sweep.table.now) stood count)
-        → BeginsPart resume tree mark sweep p stood count old new → BreaksOffPart resume Refused tree mark sweep p start end cause
-    part_begun false p goes begins = runs_begun p begins
-    part_begun true p goes begins = record {
-      lines = stood;
-      count = count;
-      stood = goes p refl;
-      made = begins.made;
-      are = begins.are;
-      begun = beginning_held (rest_table sweep.plan.until tree mark sweep.plan p stood begins.made) begins.written;
-      others = others_kept;
-      caused = caused;
-    }
-
-    pub table_begun : (piece : Option Piece) → ForSome (piece_resumed sweep.resume piece) (λ q. Stood tree mark sweep q (start sweep.table.now) stood count)
-        → BeginsAsked piece tree mark sweep stood count old new → BreaksOff piece Refused tree mark sweep start end cause
-    table_begun (Some p) goes begins = part_begun sweep.resume p goes begins
-    table_begun None goes begins = runs_begun whole begins
+    pub table_begun : (piece : Option Piece) → Goes (piece_resumed sweep.resume piece) → BeginsAsked piece tree mark sweep kept count old new
+        → BreaksOff piece Refused tree mark sweep start end cause
+    table_begun (Some p) goes begun = part_begun sweep.resume p goes begun
+    table_begun None goes begun = runs_begun (nothing_stays sweep.resume goes) Refused cause caused whole begun

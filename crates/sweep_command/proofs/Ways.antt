@@ -104,21 +104,21 @@ module _ (tree : Data) (mark : List ℕ) (plan : Sweep) (p : Piece) (old new : O
   }
 
 -- and of one that goes on
-module _ (tree : Data) (mark : List ℕ) (plan : Sweep) (p : Piece) (lines : List ℕ) (count : ℕ) (old new : Option (List ℕ)) where
-  pub rest_made : WritesRest tree mark plan p lines count old new → WritesRunsBehind None tree mark plan p lines count old new
+module _ (tree : Data) (mark : List ℕ) (plan : Sweep) (p : Piece) (kept count : ℕ) (old new : Option (List ℕ)) where
+  pub rest_made : WritesRest tree mark plan p kept count old new → WritesRunsBehind None tree mark plan p kept count old new
   rest_made makes = record { made = makes.made; are = makes.are; written = makes.written }
 
-  pub rest_begun : BeginsRest tree mark plan p lines count old new → BeginsRunsBehind None tree mark plan p lines count old new
+  pub rest_begun : BeginsRest tree mark plan p kept count old new → BeginsRunsBehind None tree mark plan p kept count old new
   rest_begun begins = record { made = begins.made; are = begins.are; written = begins.written }
 
-  pub few_rest_made : (width : ℕ) → plan.until ≡ Some width → WritesRestUntil tree mark plan p lines count old new → WritesRunsBehind (Some width) tree mark plan p lines count old new
+  pub few_rest_made : (width : ℕ) → plan.until ≡ Some width → WritesRestUntil tree mark plan p kept count old new → WritesRunsBehind (Some width) tree mark plan p kept count old new
   few_rest_made width is makes = record {
     made = makes.made;
     are = subst (λ (w : ℕ). AreCasesBehind tree plan w p count makes.made) (same_Some makes.width width (sym makes.wanted ∙ is)) makes.are;
     written = makes.written;
   }
 
-  pub few_rest_begun : (width : ℕ) → plan.until ≡ Some width → BeginsRestUntil tree mark plan p lines count old new → BeginsRunsBehind (Some width) tree mark plan p lines count old new
+  pub few_rest_begun : (width : ℕ) → plan.until ≡ Some width → BeginsRestUntil tree mark plan p kept count old new → BeginsRunsBehind (Some width) tree mark plan p kept count old new
   few_rest_begun width is begins = record {
     made = begins.made;
     are = subst (λ (w : ℕ). AreCasesBehind tree plan w p count begins.made) (same_Some begins.width width (sym begins.wanted ∙ is)) begins.are;

@@ -1,5 +1,5 @@
 -- What a sweep has done once it ends, and why one was not done.
-use Rattle.std.specs.Prelude.{◌≡◌, ◌⊎◌, ℕ, Bool, List, [], false, true, Option, Some, None, length, map, string_bytes}
+use Rattle.std.specs.Prelude.{◌≡◌, ◌⊎◌, ◌++◌, ℕ, Bool, List, [], false, true, Option, Some, None, length, map, string_bytes, take}
 use Rattle.std.specs.Option.{ForSome}
 use Rattle.std.specs.Borrow.{Bor}
 use Rattle.std.specs.Io.KnownBytes.{Appends, Keeps}
@@ -116,21 +116,21 @@ pub record BeginsPaged (tree : Data) (mark : List ℕ) (sweep : SweepWords) (old
 abbrev pub HeldSoFar : KnownFile → List ℕ → Type 0
 HeldSoFar known text = Holds known text ⊎ (IsAbsent known × (text ≡ []))
 
--- of a piece's table so much stood in the file: behind the first line these lines, of so many runs, or whole cases
-pub record Stood (tree : Data) (mark : List ℕ) (sweep : SweepWords) (p : Piece) (known : KnownFile) (lines : List ℕ) (count : ℕ) : Type 0 where
+-- of a piece's table so much stood in the file: so many bytes stay, with the lines of so many runs, or whole cases
+pub record Stood (tree : Data) (mark : List ℕ) (sweep : SweepWords) (p : Piece) (known : KnownFile) (kept count : ℕ) : Type 0 where
   pub text : List ℕ
   pub held : HeldSoFar known text
-  pub begun : AreBegun sweep.plan.until (tells_revived tree) mark sweep.plan p text lines count
+  pub begun : AreBegun sweep.plan.until (tells_revived tree) mark sweep.plan p text kept count
 
--- The runs of a piece that were left were made: the file holds the table's first line, the lines that stood there, and those of these
--- runs; and no other file has changed.
+-- The runs of a piece that were left were made: the file holds what stays of the table that stood there, and behind it the rest of the
+-- table, with the lines of these runs; and no other file has changed.
 pub record StoresRest (tree : Data) (mark : List ℕ) (sweep : SweepWords) (p : Piece) (before after : Shelf) : Type 0 where
-  pub lines : List ℕ
+  pub kept : ℕ
   pub count : ℕ
-  pub stood : Stood tree mark sweep p (before sweep.table.now) lines count
+  pub stood : Stood tree mark sweep p (before sweep.table.now) kept count
   pub made : RunsBy sweep.plan.until
   pub are : AreRunsBehind sweep.plan.until tree sweep.plan p count made
-  pub stored : HoldsNow (before sweep.table.now) (after sweep.table.now) (rest_table sweep.plan.until tree mark sweep.plan p lines made)
+  pub stored : HoldsNow (before sweep.table.now) (after sweep.table.now) (take kept stood.text ++ rest_table sweep.plan.until tree mark sweep.plan p kept made)
   pub others : KeepsOthers before after sweep.table.now
 
 -- the piece was made anew, or went on where it was cut off
@@ -153,32 +153,37 @@ abbrev pub AreApart : Option (Bor Text) → Making → Text → Text → Type 0
 AreApart None making file table = making.are_one file table ≡ false
 AreApart (Some page) making file table = AreThreeFiles making file table page.now
 
--- the same of what was appended to what was held; of a piece that went on, behind these lines, of so many runs or cases
-abbrev pub MakesPart : Bool → Data → List ℕ → SweepWords → Piece → List ℕ → ℕ → Option (List ℕ) → Option (List ℕ) → Type 0
-MakesPart false tree mark sweep p stood count old new = WritesRuns sweep.plan.until tree mark sweep.plan p old new
-MakesPart true tree mark sweep p stood count old new = WritesRunsBehind sweep.plan.until tree mark sweep.plan p stood count old new
+-- the same of what was appended to what was held; of a piece that went on, behind so many bytes, with the lines of so many runs or cases
+abbrev pub MakesPart : Bool → Data → List ℕ → SweepWords → Piece → ℕ → ℕ → Option (List ℕ) → Option (List ℕ) → Type 0
+MakesPart false tree mark sweep p kept count old new = WritesRuns sweep.plan.until tree mark sweep.plan p old new
+MakesPart true tree mark sweep p kept count old new = WritesRunsBehind sweep.plan.until tree mark sweep.plan p kept count old new
 
-abbrev pub MakesAsked : Option Piece → Data → List ℕ → SweepWords → List ℕ → ℕ → Option (List ℕ) → Option (List ℕ) → List ℕ → Type 0
-MakesAsked None tree mark sweep stood count old new lines = MakesLines tree mark sweep old new lines
-MakesAsked (Some p) tree mark sweep stood count old new lines = MakesPart sweep.resume tree mark sweep p stood count old new × (lines ≡ [])
+abbrev pub MakesAsked : Option Piece → Data → List ℕ → SweepWords → ℕ → ℕ → Option (List ℕ) → Option (List ℕ) → List ℕ → Type 0
+MakesAsked None tree mark sweep kept count old new lines = MakesLines tree mark sweep old new lines
+MakesAsked (Some p) tree mark sweep kept count old new lines = MakesPart sweep.resume tree mark sweep p kept count old new × (lines ≡ [])
 
 -- a beginning of it was appended
-abbrev pub BeginsPart : Bool → Data → List ℕ → SweepWords → Piece → List ℕ → ℕ → Option (List ℕ) → Option (List ℕ) → Type 0
-BeginsPart false tree mark sweep p stood count old new = BeginsRuns sweep.plan.until tree mark sweep.plan p old new
-BeginsPart true tree mark sweep p stood count old new = BeginsRunsBehind sweep.plan.until tree mark sweep.plan p stood count old new
+abbrev pub BeginsPart : Bool → Data → List ℕ → SweepWords → Piece → ℕ → ℕ → Option (List ℕ) → Option (List ℕ) → Type 0
+BeginsPart false tree mark sweep p kept count old new = BeginsRuns sweep.plan.until tree mark sweep.plan p old new
+BeginsPart true tree mark sweep p kept count old new = BeginsRunsBehind sweep.plan.until tree mark sweep.plan p kept count old new
 
-abbrev pub BeginsAsked : Option Piece → Data → List ℕ → SweepWords → List ℕ → ℕ → Option (List ℕ) → Option (List ℕ) → Type 0
-BeginsAsked None tree mark sweep stood count old new = BeginsAllRuns sweep.plan.until tree mark sweep.plan old new
-BeginsAsked (Some p) tree mark sweep stood count old new = BeginsPart sweep.resume tree mark sweep p stood count old new
+abbrev pub BeginsAsked : Option Piece → Data → List ℕ → SweepWords → ℕ → ℕ → Option (List ℕ) → Option (List ℕ) → Type 0
+BeginsAsked None tree mark sweep kept count old new = BeginsAllRuns sweep.plan.until tree mark sweep.plan old new
+BeginsAsked (Some p) tree mark sweep kept count old new = BeginsPart sweep.resume tree mark sweep p kept count old new
 
 -- the piece that goes on, if one does
 abbrev pub piece_resumed : Bool → Option Piece → Option Piece
 piece_resumed false asked = None
 piece_resumed true asked = asked
 
--- where a piece goes on, so much of its table stood in the file
-abbrev pub GoesOn : Data → List ℕ → SweepWords → KnownFile → List ℕ → ℕ → Type 0
-GoesOn tree mark sweep known stood count = ForSome (piece_resumed sweep.resume sweep.piece) (λ p. Stood tree mark sweep p known stood count)
+-- a piece goes on with so many bytes that stay of what stood in the file of its table; where none does, nothing stays
+abbrev pub GoesOnWith : Option Piece → Data → List ℕ → SweepWords → KnownFile → ℕ → ℕ → Type 0
+GoesOnWith None tree mark sweep known kept count = kept ≡ 0
+GoesOnWith (Some p) tree mark sweep known kept count = Stood tree mark sweep p known kept count
+
+-- so does the piece that goes on, if one does
+abbrev pub GoesOn : Data → List ℕ → SweepWords → KnownFile → ℕ → ℕ → Type 0
+GoesOn tree mark sweep known kept count = GoesOnWith (piece_resumed sweep.resume sweep.piece) tree mark sweep known kept count
 
 -- so many runs of it, or cases, are no more than it has
 abbrev pub FitResumed : SweepWords → Option Piece → ℕ → Type 0
@@ -254,14 +259,22 @@ pub record BreaksOffRuns (Refused : Type 0) (tree : Data) (mark : List ℕ) (swe
   pub others : KeepsOthers before after sweep.table.now
   pub caused : IsCaused Refused tree sweep.plan cause
 
--- the same of a piece that went on
+-- the file holds these bytes now, and behind them a beginning of the text
+pub record HoldsBehind (old new : KnownFile) (stay text : List ℕ) : Type 0 where
+  pub front : List ℕ
+  pub rest : List ℕ
+  pub whole : front ++ rest ≡ text
+  pub written : HoldsNow old new (stay ++ front)
+
+-- The runs that were left of a piece that went on were ended by the fault: the file holds all that stays of the table that stood there,
+-- and behind it a beginning of the rest, and no other has changed.
 pub record BreaksOffRest (Refused : Type 0) (tree : Data) (mark : List ℕ) (sweep : SweepWords) (p : Piece) (before after : Shelf) (cause : Fault) : Type 0 where
-  pub lines : List ℕ
+  pub kept : ℕ
   pub count : ℕ
-  pub stood : Stood tree mark sweep p (before sweep.table.now) lines count
+  pub stood : Stood tree mark sweep p (before sweep.table.now) kept count
   pub made : RunsBy sweep.plan.until
   pub are : AreRunsBehind sweep.plan.until tree sweep.plan p count made
-  pub begun : HoldsBeginning (before sweep.table.now) (after sweep.table.now) (rest_table sweep.plan.until tree mark sweep.plan p lines made)
+  pub begun : HoldsBehind (before sweep.table.now) (after sweep.table.now) (take kept stood.text) (rest_table sweep.plan.until tree mark sweep.plan p kept made)
   pub others : KeepsOthers before after sweep.table.now
   pub caused : IsCaused Refused tree sweep.plan cause
 

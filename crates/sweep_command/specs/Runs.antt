@@ -69,10 +69,10 @@ pub record MakesRuns (until : Option ℕ) (tree : Data) (mark : List ℕ) (plan 
 
 -- ---- of a piece that goes on
 
--- So much of the table of a piece stands in the text: behind the first line these lines, of so many runs; with a width, of so many whole cases.
-abbrev pub AreBegun : Option ℕ → Bool → List ℕ → Sweep → Piece → List ℕ → List ℕ → ℕ → Type 0
-AreBegun None revived mark plan p text lines count = IsBegun revived mark plan p text lines count
-AreBegun (Some width) revived mark plan p text lines count = IsBegunCases revived mark plan width p text lines count
+-- So much of the table of a piece stands in the text: so many bytes stay, with the lines of so many runs; with a width, of so many whole cases.
+abbrev pub AreBegun : Option ℕ → Bool → List ℕ → Sweep → Piece → List ℕ → ℕ → ℕ → Type 0
+AreBegun None revived mark plan p text kept count = IsBegun revived mark plan p text kept count
+AreBegun (Some width) revived mark plan p text kept count = IsBegunCases revived mark plan width p text kept count
 
 -- why the text isn't so, unless memory was refused
 abbrev pub RefusesTable : Option ℕ → Bool → List ℕ → Sweep → Piece → List ℕ → BegunFault → Type 0
@@ -89,18 +89,18 @@ abbrev pub AreRunsBehind : (until : Option ℕ) → Data → Sweep → Piece →
 AreRunsBehind None tree plan p count made = AreMadeBehind tree plan p count made
 AreRunsBehind (Some width) tree plan p count made = AreCasesBehind tree plan width p count made
 
--- the table of the piece: its first line, lines that stood there, and those of these runs
-abbrev pub rest_table : (until : Option ℕ) → Data → List ℕ → Sweep → Piece → List ℕ → RunsBy until → List ℕ
-rest_table until tree mark plan p lines made = rest_text (tells_revived tree) mark plan p lines (listed until made)
+-- what comes behind so many bytes of the table of the piece: what they lack of its first line, and the lines of these runs
+abbrev pub rest_table : (until : Option ℕ) → Data → List ℕ → Sweep → Piece → ℕ → RunsBy until → List ℕ
+rest_table until tree mark plan p kept made = rest_text (tells_revived tree) mark plan p kept (listed until made)
 
 -- the runs that were left were made: that was appended
-pub record WritesRunsBehind (until : Option ℕ) (tree : Data) (mark : List ℕ) (plan : Sweep) (p : Piece) (lines : List ℕ) (count : ℕ) (old new : Option (List ℕ)) : Type 0 where
+pub record WritesRunsBehind (until : Option ℕ) (tree : Data) (mark : List ℕ) (plan : Sweep) (p : Piece) (kept count : ℕ) (old new : Option (List ℕ)) : Type 0 where
   pub made : RunsBy until
   pub are : AreRunsBehind until tree plan p count made
-  pub written : Appends old new (rest_table until tree mark plan p lines made)
+  pub written : Appends old new (rest_table until tree mark plan p kept made)
 
 -- a beginning of it was
-pub record BeginsRunsBehind (until : Option ℕ) (tree : Data) (mark : List ℕ) (plan : Sweep) (p : Piece) (lines : List ℕ) (count : ℕ) (old new : Option (List ℕ)) : Type 0 where
+pub record BeginsRunsBehind (until : Option ℕ) (tree : Data) (mark : List ℕ) (plan : Sweep) (p : Piece) (kept count : ℕ) (old new : Option (List ℕ)) : Type 0 where
   pub made : RunsBy until
   pub are : AreRunsBehind until tree plan p count made
-  pub written : AppendsBeginning old new (rest_table until tree mark plan p lines made)
+  pub written : AppendsBeginning old new (rest_table until tree mark plan p kept made)

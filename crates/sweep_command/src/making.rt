@@ -86,16 +86,16 @@ pub(crate) fn make_piece<S: Sink, P: Progress>(
     }
 }
 
-/// Makes the runs of a piece that are left, and writes its table: the first line, these lines that stood there, and those of
-/// the runs. The lines are of so many runs, or of so many whole cases where the plan says how wide the interval of a case may
-/// be. All else is as in `make_piece`.
+/// Makes the runs of a piece that are left, and writes its table behind the bytes that stay of it. These have the lines of so
+/// many runs, or of so many whole cases where the plan says how wide the interval of a case may be. All else is as in
+/// `make_piece`.
 pub(crate) fn make_rest<S: Sink, P: Progress>(
     rt: &(impl Threads + Sync),
     alloc: Global,
     plan: &Plan,
     piece: Piece,
     mark: &str,
-    lines: &[u8],
+    kept: usize,
     count: usize,
     document: &Value,
     workers: Workers,
@@ -107,23 +107,20 @@ pub(crate) fn make_rest<S: Sink, P: Progress>(
     requires judged { AreAccepted (view document.now) plan.now }
     requires few { FitPiece plan.now.until plan.now piece count }
     requires countable { S.failed table.old < 2 ^ 63 }
-    ensures whole { OnOk result (WritesRunsBehind plan.now.until (view document.now) mark.now plan.now piece lines.now count (S.held table.old) (S.held table.new)) }
-    ensures part { OnErr result (BeginsRunsBehind plan.now.until (view document.now) mark.now plan.now piece lines.now count (S.held table.old) (S.held table.new)) }
+    ensures whole { OnOk result (WritesRunsBehind plan.now.until (view document.now) mark.now plan.now piece kept count (S.held table.old) (S.held table.new)) }
+    ensures part { OnErr result (BeginsRunsBehind plan.now.until (view document.now) mark.now plan.now piece kept count (S.held table.old) (S.held table.new)) }
     ensures causes { IfErr result (HasCause (view document.now) plan.now) }
     ensures failures { S.failed table.new ≡ S.failed table.old + sink_failures result }
 {
     match plan.until() {
         Some(_) => {
-            let begun = BegunCases {
-                lines,
-                cases: count,
-            };
+            let begun = BegunCases { kept, cases: count };
             write_rest_until(
                 rt, alloc, plan, piece, mark, begun, document, workers, progress, table,
             )
         }
         None => {
-            let begun = Begun { lines, runs: count };
+            let begun = Begun { kept, runs: count };
             write_rest(
                 rt, alloc, plan, piece, mark, begun, document, workers, progress, table,
             )

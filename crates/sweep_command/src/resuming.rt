@@ -20,16 +20,16 @@ use scenario_files::MarkedDocument;
 use std::alloc::Global;
 use sweep::{BegunFault, begun_of};
 
-/// The lines of a piece's table that were made before it was cut off; none where no piece goes on.
-#[derive(Drop)]
-pub(crate) struct Standing {
-    /// The lines behind the first that stay.
-    pub(crate) lines: Vec<u8>,
-    /// Of how many runs they are, or of how many cases where these have as many runs as are enough.
+/// What stays of a piece's table that was made before it was cut off; nothing where no piece goes on.
+#[derive(Clone, Copy)]
+pub(crate) struct Stays {
+    /// How many bytes.
+    pub(crate) kept: usize,
+    /// Of how many runs they have the lines, or of how many cases where these have as many runs as are enough.
     pub(crate) count: usize,
 }
 
-/// What stands of the table that the words name, where they ask for a piece that goes on.
+/// What stays of the table that the words name, where they ask for a piece that goes on.
 ///
 /// Failures: `Pieces` where the file of the table holds no beginning of it; `File` where it can't be read; `Memory`.
 pub(crate) fn find_standing<'a, F: Files>(
@@ -37,10 +37,10 @@ pub(crate) fn find_standing<'a, F: Files>(
     words: &SweepWords<'a>,
     marked: &MarkedDocument,
     files: &mut F,
-) -> Result<Standing, Failure<'a>>
+) -> Result<Stays, Failure<'a>>
     requires asked { IsAskedFor words.now.plan }
     requires piece { ForSome words.now.piece IsPiece }
-    ensures stood { IfOk result (λ s. GoesOn (view marked.now.document) (string_bytes marked.now.mark) words.now (F.known files.old words.now.table.now) s.lines.items s.count) }
+    ensures stood { IfOk result (λ s. GoesOn (view marked.now.document) (string_bytes marked.now.mark) words.now (F.known files.old words.now.table.now) s.kept s.count) }
     ensures failed { IfErr result (CannotGoOn (view marked.now.document) (string_bytes marked.now.mark) words.now (F.known files.old words.now.table.now)) }
     ensures same { F.known files.new ≡ F.known files.old }
     ensures making { F.making files.new ≡ F.making files.old }
@@ -49,12 +49,9 @@ pub(crate) fn find_standing<'a, F: Files>(
     match piece_resumed(words) {
         Some(piece) => {
             let text = text_so_far(alloc, words.table, files)?;
-            standing_in(alloc, words, piece, marked, text.as_slice())
+            stays_in(alloc, words, piece, marked, text.as_slice())
         }
-        None => Ok(Standing {
-            lines: Vec::new(alloc),
-            count: 0,
-        }),
+        None => Ok(Stays { kept: 0, count: 0 }),
     }
 }
 
@@ -85,38 +82,38 @@ fn text_so_far<'a, F: Files>(
     }
 }
 
-/// What stands in a text of the table of a piece.
-fn standing_in<'a>(
+/// What stays of a text of the table of a piece.
+fn stays_in<'a>(
     alloc: Global,
     words: &SweepWords<'a>,
     piece: Piece,
     marked: &MarkedDocument,
     text: &[u8],
-) -> Result<Standing, Failure<'a>>
+) -> Result<Stays, Failure<'a>>
     requires asked { IsAskedFor words.now.plan }
     requires piece { IsPiece piece }
     ensures begun { IfOk result (λ s. AreBegun words.now.plan.until (tells_revived (view marked.now.document)) (string_bytes marked.now.mark) words.now.plan piece text.now
-        s.lines.items s.count) }
+        s.kept s.count) }
     ensures refused { IfErr result (RefusesSoFar (view marked.now.document) (string_bytes marked.now.mark) words.now piece text.now) }
 {
     match begun_in(alloc, &words.plan, piece, marked, text) {
-        Ok(standing) => Ok(standing),
+        Ok(stays) => Ok(stays),
         Err(BegunFault::Other) => Err(Failure::Pieces(PieceFault::Other(words.table))),
         Err(BegunFault::Memory) => Err(Failure::Memory),
     }
 }
 
-/// The same, or why nothing stands there.
+/// The same, or why it is no such text.
 fn begun_in(
     alloc: Global,
     plan: &Plan,
     piece: Piece,
     marked: &MarkedDocument,
     text: &[u8],
-) -> Result<Standing, BegunFault>
+) -> Result<Stays, BegunFault>
     requires asked { IsAskedFor plan.now }
     requires piece { IsPiece piece }
-    ensures begun { IfOk result (λ s. AreBegun plan.now.until (tells_revived (view marked.now.document)) (string_bytes marked.now.mark) plan.now piece text.now s.lines.items s.count) }
+    ensures begun { IfOk result (λ s. AreBegun plan.now.until (tells_revived (view marked.now.document)) (string_bytes marked.now.mark) plan.now piece text.now s.kept s.count) }
     ensures refused { IfErr result (RefusesTable plan.now.until (tells_revived (view marked.now.document)) (string_bytes marked.now.mark) plan.now piece text.now) }
 {
     match plan.until() {
@@ -132,15 +129,18 @@ fn runs_begun(
     piece: Piece,
     marked: &MarkedDocument,
     text: &[u8],
-) -> Result<Standing, BegunFault>
+) -> Result<Stays, BegunFault>
     requires asked { IsAskedFor plan.now }
     requires piece { IsPiece piece }
-    ensures begun { IfOk result (λ s. IsBegun (tells_revived (view marked.now.document)) (string_bytes marked.now.mark) plan.now piece text.now s.lines.items s.count) }
+    ensures begun { IfOk result (λ s. IsBegun (tells_revived (view marked.now.document)) (string_bytes marked.now.mark) plan.now piece text.now s.kept s.count) }
     ensures refused { IfErr result (RefusesBegun (tells_revived (view marked.now.document)) (string_bytes marked.now.mark) plan.now piece text.now) }
 {
     let mark = marked.mark.as_str();
     match begun_of(alloc, plan, piece, mark, &marked.document, text) {
-        Ok(begun) => standing_of(alloc, begun.lines, begun.runs),
+        Ok(begun) => Ok(Stays {
+            kept: begun.kept,
+            count: begun.runs,
+        }),
         Err(fault) => Err(fault),
     }
 }
@@ -153,29 +153,20 @@ fn cases_begun(
     marked: &MarkedDocument,
     width: u64,
     text: &[u8],
-) -> Result<Standing, BegunFault>
+) -> Result<Stays, BegunFault>
     requires asked { IsAskedFor plan.now }
     requires piece { IsPiece piece }
     requires wanted { plan.now.until ≡ Some width }
     ensures begun { IfOk result
-        (λ s. IsBegunCases (tells_revived (view marked.now.document)) (string_bytes marked.now.mark) plan.now width piece text.now s.lines.items s.count) }
+        (λ s. IsBegunCases (tells_revived (view marked.now.document)) (string_bytes marked.now.mark) plan.now width piece text.now s.kept s.count) }
     ensures refused { IfErr result (RefusesBegunCases (tells_revived (view marked.now.document)) (string_bytes marked.now.mark) plan.now width piece text.now) }
 {
     let mark = marked.mark.as_str();
     match begun_cases_of(alloc, plan, piece, mark, width, &marked.document, text) {
-        Ok(begun) => standing_of(alloc, begun.lines, begun.cases),
+        Ok(begun) => Ok(Stays {
+            kept: begun.kept,
+            count: begun.cases,
+        }),
         Err(fault) => Err(fault),
-    }
-}
-
-/// These lines, of so many.
-fn standing_of(alloc: Global, lines: &[u8], count: usize) -> Result<Standing, BegunFault>
-    ensures lines { IfOk result (λ s. s.lines.items ≡ lines.now) }
-    ensures count { IfOk result (λ s. s.count ≡ count) }
-    ensures memory { IfErr result (λ fault. fault ≡ BegunFault.Memory) }
-{
-    match Vec::from_slice(alloc, lines) {
-        Ok(lines) => Ok(Standing { lines, count }),
-        Err(_) => Err(BegunFault::Memory),
     }
 }

@@ -16,7 +16,7 @@ use crate::checks::{PreparedSweep, prepare_sweep};
 use crate::making::{make_piece, make_rest, make_runs};
 use crate::paging::store_paged;
 use crate::progressing::RunLines;
-use crate::resuming::{Standing, find_standing};
+use crate::resuming::{Stays, find_standing};
 use base::Fault;
 use case_telling::cases_told;
 use command_line::{Failure, Release, SweepWords};
@@ -53,9 +53,7 @@ pub fn sweep_file<'a, F: Files, P: Write>(
 {
     let prepared = prepare_sweep(alloc, words, files)?;
     let stood = find_standing(alloc, words, &prepared.marked, files)?;
-    store_asked(
-        rt, alloc, release, words, &prepared, &stood, files, progress,
-    )
+    store_asked(rt, alloc, release, words, &prepared, stood, files, progress)
 }
 
 /// Makes the runs, and writes their table to the file that the words name, and their page to another where one is asked for.
@@ -65,7 +63,7 @@ fn store_asked<'a, F: Files, P: Write>(
     release: &Release<'_>,
     words: &SweepWords<'a>,
     prepared: &PreparedSweep,
-    stood: &Standing,
+    stood: Stays,
     files: &mut F,
     progress: &mut P,
 ) -> Result<String, Failure<'a>>
@@ -73,7 +71,7 @@ fn store_asked<'a, F: Files, P: Write>(
     requires piece { ForSome words.now.piece IsPiece }
     requires wants { All IsBounded words.now.wants.items }
     requires judged { AreAccepted (view prepared.now.marked.document) words.now.plan }
-    requires stood { GoesOn (view prepared.now.marked.document) (string_bytes prepared.now.marked.mark) words.now (F.known files.old words.now.table.now) stood.now.lines.items stood.now.count }
+    requires stood { GoesOn (view prepared.now.marked.document) (string_bytes prepared.now.marked.mark) words.now (F.known files.old words.now.table.now) stood.kept stood.count }
     ensures done { IfOk result (λ lines. StoresAsked words.now.page (view prepared.now.marked.document) (string_bytes prepared.now.marked.mark) words.now release.now.version.now
         (F.known files.old) (F.known files.new) (string_bytes lines)) }
     ensures apart { OnOk result (AreApart words.now.page (F.making files.old) words.now.file.now words.now.table.now) }
@@ -87,13 +85,13 @@ fn store_asked<'a, F: Files, P: Write>(
     }
 }
 
-/// The same where no page is asked for.
+/// The same where no page is asked for. Where a piece goes on, what stays of its table stands there at every moment.
 fn store_table<'a, F: Files, P: Write>(
     rt: &(impl Threads + Sync),
     alloc: Global,
     words: &SweepWords<'a>,
     prepared: &PreparedSweep,
-    stood: &Standing,
+    stood: Stays,
     files: &mut F,
     progress: &mut P,
 ) -> Result<String, Failure<'a>>
@@ -101,7 +99,7 @@ fn store_table<'a, F: Files, P: Write>(
     requires piece { ForSome words.now.piece IsPiece }
     requires wants { All IsBounded words.now.wants.items }
     requires judged { AreAccepted (view prepared.now.marked.document) words.now.plan }
-    requires stood { GoesOn (view prepared.now.marked.document) (string_bytes prepared.now.marked.mark) words.now (F.known files.old words.now.table.now) stood.now.lines.items stood.now.count }
+    requires stood { GoesOn (view prepared.now.marked.document) (string_bytes prepared.now.marked.mark) words.now (F.known files.old words.now.table.now) stood.kept stood.count }
     ensures done { IfOk result (λ lines. StoresPlain words.now.piece (view prepared.now.marked.document) (string_bytes prepared.now.marked.mark) words.now
         (F.known files.old) (F.known files.new) (string_bytes lines)) }
     ensures apart { OnOk result ((F.making files.old).are_one words.now.file.now words.now.table.now ≡ false) }
@@ -109,7 +107,7 @@ fn store_table<'a, F: Files, P: Write>(
         (F.known files.old) (F.known files.new) (F.making files.old) words.now) }
     ensures unasked { words.now.progress ≡ false → progress.new ≡ progress.old }
 {
-    let made = match files.make(words.file, words.table) {
+    let made = match files.make_after(words.file, words.table, stood.kept as u64) {
         Ok(made) => made,
         Err(fault) => return Err(file_failure(fault, words.table)),
     };
@@ -124,7 +122,7 @@ fn fill_table<T: Write, P: Write>(
     alloc: Global,
     words: &SweepWords<'_>,
     prepared: &PreparedSweep,
-    stood: &Standing,
+    stood: Stays,
     table: T,
     progress: &mut P,
 ) -> (Put<T>, Result<String, Fault>)
@@ -132,10 +130,10 @@ fn fill_table<T: Write, P: Write>(
     requires piece { ForSome words.now.piece IsPiece }
     requires wants { All IsBounded words.now.wants.items }
     requires judged { AreAccepted (view prepared.now.marked.document) words.now.plan }
-    requires few { FitResumed words.now words.now.piece stood.now.count }
-    ensures whole { IfOk result.1 (λ lines. MakesAsked words.now.piece (view prepared.now.marked.document) (string_bytes prepared.now.marked.mark) words.now stood.now.lines.items stood.now.count
+    requires few { FitResumed words.now words.now.piece stood.count }
+    ensures whole { IfOk result.1 (λ lines. MakesAsked words.now.piece (view prepared.now.marked.document) (string_bytes prepared.now.marked.mark) words.now stood.kept stood.count
         (T.contents table) (T.contents (writer_under result.0)) (string_bytes lines)) }
-    ensures part { OnErr result.1 (BeginsAsked words.now.piece (view prepared.now.marked.document) (string_bytes prepared.now.marked.mark) words.now stood.now.lines.items stood.now.count
+    ensures part { OnErr result.1 (BeginsAsked words.now.piece (view prepared.now.marked.document) (string_bytes prepared.now.marked.mark) words.now stood.kept stood.count
         (T.contents table) (T.contents (writer_under result.0))) }
     ensures causes { IfErr result.1 (HasCause (view prepared.now.marked.document) words.now.plan) }
     ensures failures { put_failures result.0 ≡ sink_failures result.1 }
@@ -165,7 +163,7 @@ fn tell_asked<S: Sink, P: Progress>(
     alloc: Global,
     words: &SweepWords<'_>,
     prepared: &PreparedSweep,
-    stood: &Standing,
+    stood: Stays,
     progress: &mut P,
     table: &mut S,
 ) -> Result<String, Fault>
@@ -173,11 +171,11 @@ fn tell_asked<S: Sink, P: Progress>(
     requires piece { ForSome words.now.piece IsPiece }
     requires wants { All IsBounded words.now.wants.items }
     requires judged { AreAccepted (view prepared.now.marked.document) words.now.plan }
-    requires few { FitResumed words.now words.now.piece stood.now.count }
+    requires few { FitResumed words.now words.now.piece stood.count }
     requires countable { S.failed table.old < 2 ^ 63 }
-    ensures whole { IfOk result (λ lines. MakesAsked words.now.piece (view prepared.now.marked.document) (string_bytes prepared.now.marked.mark) words.now stood.now.lines.items stood.now.count
+    ensures whole { IfOk result (λ lines. MakesAsked words.now.piece (view prepared.now.marked.document) (string_bytes prepared.now.marked.mark) words.now stood.kept stood.count
         (S.held table.old) (S.held table.new) (string_bytes lines)) }
-    ensures part { OnErr result (BeginsAsked words.now.piece (view prepared.now.marked.document) (string_bytes prepared.now.marked.mark) words.now stood.now.lines.items stood.now.count
+    ensures part { OnErr result (BeginsAsked words.now.piece (view prepared.now.marked.document) (string_bytes prepared.now.marked.mark) words.now stood.kept stood.count
         (S.held table.old) (S.held table.new)) }
     ensures causes { IfErr result (HasCause (view prepared.now.marked.document) words.now.plan) }
     ensures failures { S.failed table.new ≡ S.failed table.old + sink_failures result }
@@ -194,7 +192,7 @@ fn tell_piece<S: Sink, P: Progress>(
     alloc: Global,
     words: &SweepWords<'_>,
     prepared: &PreparedSweep,
-    stood: &Standing,
+    stood: Stays,
     piece: Piece,
     progress: &mut P,
     table: &mut S,
@@ -202,12 +200,12 @@ fn tell_piece<S: Sink, P: Progress>(
     requires asked { IsAskedFor words.now.plan }
     requires piece { IsPiece piece }
     requires judged { AreAccepted (view prepared.now.marked.document) words.now.plan }
-    requires few { FitResumed words.now (Some piece) stood.now.count }
+    requires few { FitResumed words.now (Some piece) stood.count }
     requires countable { S.failed table.old < 2 ^ 63 }
-    ensures whole { OnOk result (MakesPart words.now.resume (view prepared.now.marked.document) (string_bytes prepared.now.marked.mark) words.now piece stood.now.lines.items stood.now.count
+    ensures whole { OnOk result (MakesPart words.now.resume (view prepared.now.marked.document) (string_bytes prepared.now.marked.mark) words.now piece stood.kept stood.count
         (S.held table.old) (S.held table.new)) }
     ensures untold { IfOk result (λ lines. string_bytes lines ≡ []) }
-    ensures part { OnErr result (BeginsPart words.now.resume (view prepared.now.marked.document) (string_bytes prepared.now.marked.mark) words.now piece stood.now.lines.items stood.now.count
+    ensures part { OnErr result (BeginsPart words.now.resume (view prepared.now.marked.document) (string_bytes prepared.now.marked.mark) words.now piece stood.kept stood.count
         (S.held table.old) (S.held table.new)) }
     ensures causes { IfErr result (HasCause (view prepared.now.marked.document) words.now.plan) }
     ensures failures { S.failed table.new ≡ S.failed table.old + sink_failures result }
@@ -216,14 +214,14 @@ fn tell_piece<S: Sink, P: Progress>(
     Ok(String::new(alloc))
 }
 
-/// Makes the runs of a piece, and writes their table: that of all, or, where the piece goes on, the lines that stood there and
-/// those of the runs that were left.
+/// Makes the runs of a piece, and writes their table: that of all, or, where the piece goes on, what comes behind the bytes
+/// that stay of it.
 fn write_part<S: Sink, P: Progress>(
     rt: &(impl Threads + Sync),
     alloc: Global,
     words: &SweepWords<'_>,
     prepared: &PreparedSweep,
-    stood: &Standing,
+    stood: Stays,
     piece: Piece,
     progress: &mut P,
     table: &mut S,
@@ -231,11 +229,11 @@ fn write_part<S: Sink, P: Progress>(
     requires asked { IsAskedFor words.now.plan }
     requires piece { IsPiece piece }
     requires judged { AreAccepted (view prepared.now.marked.document) words.now.plan }
-    requires few { FitResumed words.now (Some piece) stood.now.count }
+    requires few { FitResumed words.now (Some piece) stood.count }
     requires countable { S.failed table.old < 2 ^ 63 }
-    ensures whole { OnOk result (MakesPart words.now.resume (view prepared.now.marked.document) (string_bytes prepared.now.marked.mark) words.now piece stood.now.lines.items stood.now.count
+    ensures whole { OnOk result (MakesPart words.now.resume (view prepared.now.marked.document) (string_bytes prepared.now.marked.mark) words.now piece stood.kept stood.count
         (S.held table.old) (S.held table.new)) }
-    ensures part { OnErr result (BeginsPart words.now.resume (view prepared.now.marked.document) (string_bytes prepared.now.marked.mark) words.now piece stood.now.lines.items stood.now.count
+    ensures part { OnErr result (BeginsPart words.now.resume (view prepared.now.marked.document) (string_bytes prepared.now.marked.mark) words.now piece stood.kept stood.count
         (S.held table.old) (S.held table.new)) }
     ensures causes { IfErr result (HasCause (view prepared.now.marked.document) words.now.plan) }
     ensures failures { S.failed table.new ≡ S.failed table.old + sink_failures result }
@@ -245,10 +243,10 @@ fn write_part<S: Sink, P: Progress>(
     let plan = &words.plan;
     let workers = prepared.workers;
     if words.resume {
-        let lines = stood.lines.as_slice();
+        let kept = stood.kept;
         let count = stood.count;
         return make_rest(
-            rt, alloc, plan, piece, mark, lines, count, document, workers, progress, table,
+            rt, alloc, plan, piece, mark, kept, count, document, workers, progress, table,
         );
     }
     make_piece(

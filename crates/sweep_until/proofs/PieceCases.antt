@@ -1,5 +1,5 @@
 -- The cases of a piece.
-use Rattle.std.proofs.Common.{◌≡◌, ◌∙◌, ◌<◌, ◌≤◌, ◌+◌, ◌-◌, ◌*◌, ℕ, List, [], ◌++◌, Option, Some, ap, append-nil, arith, subst}
+use Rattle.std.proofs.Common.{◌≡◌, ◌∙◌, ◌<◌, ◌≤◌, ◌+◌, ◌-◌, ◌*◌, ℕ, List, ◌++◌, Option, Some, ap, arith, drop, subst}
 use Rattle.std.specs.List.{flat_map}
 use Rattle.std.specs.Io.KnownBytes.{Appends}
 use Rattle.std.proofs.Math.Nat.{le-mul_of_pos_right}
@@ -40,22 +40,22 @@ a_width sweep width asked is = (asked.asked.width width is).most
 pub rest_within : (sweep : Sweep) (p : Piece) (cases : ℕ) → IsPiece p → cases ≤ cases_in sweep p → first_case sweep p + cases + (cases_in sweep p - cases) ≤ case_count sweep.settings
 rest_within sweep p cases sound few = omega (arith, few, cases_within sweep p sound)
 
-module _ (tree : Data) (sweep : Sweep) (mark : List ℕ) (p : Piece) (lines : List ℕ) (begun : ℕ) where
+module _ (tree : Data) (sweep : Sweep) (mark : List ℕ) (p : Piece) (kept begun : ℕ) where
   module _ (width : ℕ) (wanted : sweep.until ≡ Some width) (old new : Option (List ℕ)) where
-    pub rest_whole : (cases : List CaseSummary) → HasCases tree sweep width (rest_cases tree mark sweep p lines begun) old new (cases_in sweep p - begun) cases
-        → WritesRestUntil tree mark sweep p lines begun old new
+    pub rest_whole : (cases : List CaseSummary) → HasCases tree sweep width (rest_cases tree mark sweep p kept begun) old new (cases_in sweep p - begun) cases
+        → WritesRestUntil tree mark sweep p kept begun old new
     rest_whole cases every = record { width = width; wanted = wanted; made = every.made; are = every.are; written = every.written }
 
-    pub rest_begun : BeginsCases tree sweep width (rest_cases tree mark sweep p lines begun) old new → BeginsRestUntil tree mark sweep p lines begun old new
+    pub rest_begun : BeginsCases tree sweep width (rest_cases tree mark sweep p kept begun) old new → BeginsRestUntil tree mark sweep p kept begun old new
     rest_begun begins = record { width = width; wanted = wanted; made = begins.made; are = begins.are; written = begins.written }
 
   -- where nothing was made before, the rest is the whole
-  module _ (no_lines : lines ≡ []) (none : begun ≡ 0) where
+  module _ (none_kept : kept ≡ 0) (none : begun ≡ 0) where
     abbrev header : List ℕ
     header = piece_header (tells_revived tree) mark sweep p
 
-    front : header ++ lines ≡ header
-    front = ap (λ l. header ++ l) no_lines ∙ append-nil header
+    front : drop kept header ≡ header
+    front = ap (λ n. drop n header) none_kept
 
     same_first : first_case sweep p + begun ≡ first_case sweep p
     same_first = omega (arith, none)
@@ -68,10 +68,10 @@ module _ (tree : Data) (sweep : Sweep) (mark : List ℕ) (p : Piece) (lines : Li
         subst (λ n. AreMadeFrom tree sweep width (first_case sweep p) n made) same_count
         (subst (λ n. AreMadeFrom tree sweep width n (cases_in sweep p - begun) made) same_first are)
 
-    text_is : (made : List Made) → rest_text (tells_revived tree) mark sweep p lines made ≡ piece_table (tells_revived tree) mark sweep p made
+    text_is : (made : List Made) → rest_text (tells_revived tree) mark sweep p kept made ≡ piece_table (tells_revived tree) mark sweep p made
     text_is made = ap (λ l. l ++ flat_map (noted_line (tells_revived tree)) made) front
 
-    pub rest_is_piece : (old new : Option (List ℕ)) → WritesRestUntil tree mark sweep p lines begun old new → WritesPieceUntil tree mark sweep p old new
+    pub rest_is_piece : (old new : Option (List ℕ)) → WritesRestUntil tree mark sweep p kept begun old new → WritesPieceUntil tree mark sweep p old new
     rest_is_piece old new writes = record {
       width = writes.width;
       wanted = writes.wanted;
@@ -80,7 +80,7 @@ module _ (tree : Data) (sweep : Sweep) (mark : List ℕ) (p : Piece) (lines : Li
       written = subst (Appends old new) (text_is (all_of writes.made)) writes.written;
     }
 
-    pub rest_begins_piece : (old new : Option (List ℕ)) → BeginsRestUntil tree mark sweep p lines begun old new → BeginsPieceUntil tree mark sweep p old new
+    pub rest_begins_piece : (old new : Option (List ℕ)) → BeginsRestUntil tree mark sweep p kept begun old new → BeginsPieceUntil tree mark sweep p old new
     rest_begins_piece old new begins = record {
       width = begins.width;
       wanted = begins.wanted;
@@ -98,8 +98,8 @@ module _ (tree : Data) (sweep : Sweep) (mark : List ℕ) (p : Piece) (lines : Li
           let past : past_run p count ≡ count = ap (λ q. past_run q count) only ∙ past_of_whole count in
           omega (arith, first, past, none)
 
-      pub cases_of_whole : rest_cases tree mark sweep p lines begun ≡ all_cases tree mark sweep
+      pub cases_of_whole : rest_cases tree mark sweep p kept begun ≡ all_cases tree mark sweep
       cases_of_whole =
-          let headed : header ++ lines ≡ piece_header (tells_revived tree) mark sweep whole = front ∙ ap (λ q. piece_header (tells_revived tree) mark sweep q) only in
+          let headed : drop kept header ≡ piece_header (tells_revived tree) mark sweep whole = front ∙ ap (λ q. piece_header (tells_revived tree) mark sweep q) only in
           let first : first_case sweep p + begun ≡ 0 = same_first ∙ ap (λ q. first_run q (case_count sweep.settings)) only ∙ first_of_whole (case_count sweep.settings) in
           λ i. record { front = headed i; first = first i; cases = count_of_whole i }

@@ -1,5 +1,5 @@
 -- The table of a piece of a sweep whose cases have as many runs as their intervals need: a piece is one of whole cases.
-use Rattle.std.specs.Prelude.{◌≡◌, ℕ, ◌+◌, ◌-◌, ◌++◌, List, Option, Some}
+use Rattle.std.specs.Prelude.{◌≡◌, ℕ, ◌+◌, ◌-◌, List, Option, Some, drop}
 use Rattle.std.specs.Io.KnownBytes.{Appends}
 use Rattle.toml.specs.Data.{Data}
 use Rattle.trace.specs.Sinks.{AppendsBeginning}
@@ -41,10 +41,10 @@ pub record BeginsPieceUntil (tree : Data) (mark : List ℕ) (sweep : Sweep) (p :
 
 -- ---- a piece that goes on
 
--- The cases of the piece but for so many, the first: they come behind its first line, and behind lines that were made before.
-abbrev pub rest_cases : Data → List ℕ → Sweep → Piece → List ℕ → ℕ → Stretch
-rest_cases tree mark sweep p lines cases = record {
-  front = piece_header (tells_revived tree) mark sweep p ++ lines;
+-- The cases of the piece but for so many, the first: they come behind so many bytes that were written before, and what these lack of its first line.
+abbrev pub rest_cases : Data → List ℕ → Sweep → Piece → ℕ → ℕ → Stretch
+rest_cases tree mark sweep p kept cases = record {
+  front = drop kept (piece_header (tells_revived tree) mark sweep p);
   first = first_case sweep p + cases;
   cases = cases_in sweep p - cases;
 }
@@ -53,18 +53,18 @@ rest_cases tree mark sweep p lines cases = record {
 abbrev pub AreCasesBehind : Data → Sweep → ℕ → Piece → ℕ → List (List Made) → Type 0
 AreCasesBehind tree sweep width p cases made = AreMadeFrom tree sweep width (first_case sweep p + cases) (cases_in sweep p - cases) made
 
--- the first line, these lines, and those of the cases that were left were appended
-pub record WritesRestUntil (tree : Data) (mark : List ℕ) (sweep : Sweep) (p : Piece) (lines : List ℕ) (cases : ℕ) (old new : Option (List ℕ)) : Type 0 where
+-- what the bytes lack of the first line, and the lines of the cases that were left, were appended
+pub record WritesRestUntil (tree : Data) (mark : List ℕ) (sweep : Sweep) (p : Piece) (kept cases : ℕ) (old new : Option (List ℕ)) : Type 0 where
   pub width : ℕ
   pub wanted : sweep.until ≡ Some width
   pub made : List (List Made)
   pub are : AreCasesBehind tree sweep width p cases made
-  pub written : Appends old new (rest_text (tells_revived tree) mark sweep p lines (all_of made))
+  pub written : Appends old new (rest_text (tells_revived tree) mark sweep p kept (all_of made))
 
 -- a beginning of that was
-pub record BeginsRestUntil (tree : Data) (mark : List ℕ) (sweep : Sweep) (p : Piece) (lines : List ℕ) (cases : ℕ) (old new : Option (List ℕ)) : Type 0 where
+pub record BeginsRestUntil (tree : Data) (mark : List ℕ) (sweep : Sweep) (p : Piece) (kept cases : ℕ) (old new : Option (List ℕ)) : Type 0 where
   pub width : ℕ
   pub wanted : sweep.until ≡ Some width
   pub made : List (List Made)
   pub are : AreCasesBehind tree sweep width p cases made
-  pub written : AppendsBeginning old new (rest_text (tells_revived tree) mark sweep p lines (all_of made))
+  pub written : AppendsBeginning old new (rest_text (tells_revived tree) mark sweep p kept (all_of made))

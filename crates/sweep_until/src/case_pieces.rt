@@ -21,7 +21,7 @@ use scenario::Workers;
 use std::alloc::Global;
 use std::marker::Sync;
 use std::thread::Threads;
-use sweep::{Progress, tells_revived, write_begun};
+use sweep::{Progress, tells_revived, write_front_behind};
 use toml::Value;
 use trace::Sink;
 use whole_runs::{a_run_exists, the_run_is_one};
@@ -65,8 +65,8 @@ pub fn write_piece_until<S: Sink, P: Progress>(
     )
 }
 
-/// Makes the runs of the cases of a piece that aren't made yet, and writes its table: the first line, the lines of the cases
-/// that were made before, and those of the cases that are left; at the end the table is flushed. All else is as in
+/// Makes the runs of the cases of a piece that aren't made yet, and writes its table behind the bytes that stay of it: what
+/// these lack of the first line, and the lines of the cases that are left; at the end the table is flushed. All else is as in
 /// `write_piece_until`.
 pub fn write_rest_until<S: Sink, P: Progress>(
     rt: &(impl Threads + Sync),
@@ -74,7 +74,7 @@ pub fn write_rest_until<S: Sink, P: Progress>(
     plan: &Plan,
     piece: Piece,
     mark: &str,
-    begun: BegunCases<'_>,
+    begun: BegunCases,
     document: &Value,
     workers: Workers,
     progress: &mut P,
@@ -86,8 +86,8 @@ pub fn write_rest_until<S: Sink, P: Progress>(
     requires wanted { is_some plan.now.until ≡ true }
     requires few { begun.cases ≤ cases_in plan.now piece }
     requires countable { S.failed table.old < 2 ^ 63 }
-    ensures whole { OnOk result (WritesRestUntil (view document.now) mark.now plan.now piece begun.entry.lines.now begun.entry.cases (S.held table.old) (S.held table.new)) }
-    ensures part { OnErr result (BeginsRestUntil (view document.now) mark.now plan.now piece begun.entry.lines.now begun.entry.cases (S.held table.old) (S.held table.new)) }
+    ensures whole { OnOk result (WritesRestUntil (view document.now) mark.now plan.now piece begun.kept begun.cases (S.held table.old) (S.held table.new)) }
+    ensures part { OnErr result (BeginsRestUntil (view document.now) mark.now plan.now piece begun.kept begun.cases (S.held table.old) (S.held table.new)) }
     ensures causes { IfErr result (HasCause (view document.now) plan.now) }
     ensures failures { S.failed table.new ≡ S.failed table.old + sink_failures result }
 {
@@ -98,7 +98,7 @@ pub fn write_rest_until<S: Sink, P: Progress>(
     )
 }
 
-/// Writes that table, where the intervals are to be so many hundredths wide at most, and adds what is told of each case that
+/// Writes that rest, where the intervals are to be so many hundredths wide at most, and adds what is told of each case that
 /// is made.
 pub(crate) fn write_cases<S: Sink, P: Progress>(
     rt: &(impl Threads + Sync),
@@ -107,7 +107,7 @@ pub(crate) fn write_cases<S: Sink, P: Progress>(
     piece: Piece,
     mark: &str,
     width: u64,
-    begun: BegunCases<'_>,
+    begun: BegunCases,
     document: &Value,
     workers: Workers,
     progress: &mut P,
@@ -122,10 +122,10 @@ pub(crate) fn write_cases<S: Sink, P: Progress>(
     requires fresh { cases.old.items ≡ [] }
     requires countable { S.failed table.old < 2 ^ 63 }
     ensures whole { OnOk result (HasCases (view document.now) plan.now width
-        (rest_cases (view document.now) mark.now plan.now piece begun.entry.lines.now begun.entry.cases) (S.held table.old) (S.held table.new)
-        (cases_in plan.now piece - begun.entry.cases) cases.new.items) }
+        (rest_cases (view document.now) mark.now plan.now piece begun.kept begun.cases) (S.held table.old) (S.held table.new)
+        (cases_in plan.now piece - begun.cases) cases.new.items) }
     ensures part { OnErr result (BeginsCases (view document.now) plan.now width
-        (rest_cases (view document.now) mark.now plan.now piece begun.entry.lines.now begun.entry.cases) (S.held table.old) (S.held table.new)) }
+        (rest_cases (view document.now) mark.now plan.now piece begun.kept begun.cases) (S.held table.old) (S.held table.new)) }
     ensures causes { IfErr result (HasCause (view document.now) plan.now) }
     ensures failures { S.failed table.new ≡ S.failed table.old + sink_failures result }
 {
@@ -140,12 +140,12 @@ pub(crate) fn write_cases<S: Sink, P: Progress>(
     };
     a_run_exists();
     the_run_is_one();
-    write_begun(
+    write_front_behind(
         alloc,
         plan,
         piece,
         mark,
-        begun.lines,
+        begun.kept,
         tells_revived(document),
         table,
     )?;

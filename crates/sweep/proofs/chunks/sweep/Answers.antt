@@ -25,8 +25,8 @@ write_table-requires-clause-fresh g c _ _ = subst (λ n. IsGathered n [] c.new-g
 pub returns-in_err-write_table-clause-part : goal.returns-in_err-write_table-clause-part
 returns-in_err-write_table-clause-part g c =
     on_err c.from_residual.result
-    (begins_table (view c.args.document.now) c.args.mark.now c.args.plan.now c.whole.result c.nothing.result.lines.now c.nothing.result.runs
-    c.whole.ensures.only c.nothing.ensures.lines c.nothing.ensures.runs (g.S.Sink.held c.args.table.now) (g.S.Sink.held c.write_table.new.table) c.in_err-write_table.ensures.part)
+    (begins_table (view c.args.document.now) c.args.mark.now c.args.plan.now c.whole.result c.nothing.result.kept c.nothing.result.runs
+    c.whole.ensures.only c.nothing.ensures.kept c.nothing.ensures.runs (g.S.Sink.held c.args.table.now) (g.S.Sink.held c.write_table.new.table) c.in_err-write_table.ensures.part)
 
 pub returns-clause-whole : goal.returns-clause-whole
 returns-clause-whole g c =
@@ -35,5 +35,5 @@ returns-clause-whole g c =
     let old = g.S.Sink.held c.args.table.now in
     let new = g.S.Sink.held c.write_table.new.table in
     subst (MakesAll tree c.args.mark.now plan old new) (sym c.into_summaries.ensures)
-    (makes_all tree c.args.mark.now plan c.whole.result c.nothing.result.lines.now c.nothing.result.runs
-    c.whole.ensures.only c.nothing.ensures.lines c.nothing.ensures.runs old new c.write_table.new.gathering c.in_ok-write_table.ensures.whole)
+    (makes_all tree c.args.mark.now plan c.whole.result c.nothing.result.kept c.nothing.result.runs
+    c.whole.ensures.only c.nothing.ensures.kept c.nothing.ensures.runs old new c.write_table.new.gathering c.in_ok-write_table.ensures.whole)

@@ -15,8 +15,8 @@ returns-clause-whole g c =
     let new = g.S.Sink.held c.write_rest.new.table in
     let none = c.nothing-nothing.result in
     on_ok_then _ _ c.write_rest.result
-    (subst (λ n. OnOk c.write_rest.result (WritesRest tree mark plan c.args.piece none.lines.now n old new)) c.nothing-nothing.ensures.runs c.write_rest.ensures.whole)
-    (rest_is_whole tree plan mark c.args.piece none.lines.now old new c.nothing-nothing.ensures.lines)
+    (subst (λ n. OnOk c.write_rest.result (WritesRest tree mark plan c.args.piece none.kept n old new)) c.nothing-nothing.ensures.runs c.write_rest.ensures.whole)
+    (rest_is_whole tree plan mark c.args.piece none.kept old new c.nothing-nothing.ensures.kept)
 
 pub returns-clause-part : goal.returns-clause-part
 returns-clause-part g c =
@@ -27,5 +27,5 @@ returns-clause-part g c =
     let new = g.S.Sink.held c.write_rest.new.table in
     let none = c.nothing-nothing.result in
     on_err_then _ _ c.write_rest.result
-    (subst (λ n. OnErr c.write_rest.result (BeginsRest tree mark plan c.args.piece none.lines.now n old new)) c.nothing-nothing.ensures.runs c.write_rest.ensures.part)
-    (rest_begins_whole tree plan mark c.args.piece none.lines.now old new c.nothing-nothing.ensures.lines)
+    (subst (λ n. OnErr c.write_rest.result (BeginsRest tree mark plan c.args.piece none.kept n old new)) c.nothing-nothing.ensures.runs c.write_rest.ensures.part)
+    (rest_begins_whole tree plan mark c.args.piece none.kept old new c.nothing-nothing.ensures.kept)

@@ -7,4 +7,4 @@ pub returns-clause-whole : goal.returns-clause-whole
 returns-clause-whole g c =
     let held = g.S.Sink.held in
     on_ok_then _ _ c.write_table.result c.write_table.ensures.whole
-    (rest_whole (view c.args.document.now) c.args.plan.now c.args.mark.now c.args.piece c.args.begun.lines.now (held c.args.table.now) (held c.write_table.new.table) c.args.begun.runs (λ _. Unit {0}))
+    (rest_whole (view c.args.document.now) c.args.plan.now c.args.mark.now c.args.piece c.args.begun.kept (held c.args.table.now) (held c.write_table.new.table) c.args.begun.runs (λ _. Unit {0}))

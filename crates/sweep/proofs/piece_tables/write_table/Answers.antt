@@ -1,4 +1,4 @@
-use Rattle.std.proofs.Common.{◌≤◌, ◌+◌, ◌++◌, ◌∙◌, List, ap, subst, sym, arith}
+use Rattle.std.proofs.Common.{◌≤◌, ◌+◌, ◌∙◌, List, ap, drop, subst, sym, arith}
 use Rattle.std.specs.Io.KnownBytes.{Appends}
 use Rattle.toml.specs.View.{view}
 use Rattle.trace.specs.Sinks.{AppendsBeginning}
@@ -23,39 +23,39 @@ make_runs-requires-clause-ordered g c _ _ =
 pub make_runs-requires-clause-within : goal.make_runs-requires-clause-within
 make_runs-requires-clause-within g c _ _ = subst (λ n. c.past.result ≤ n) c.runs-runs.ensures.count c.past.ensures.within
 
-pub returns-in_err-write_begun-clause-part : goal.returns-in_err-write_begun-clause-part
-returns-in_err-write_begun-clause-part g c =
+pub returns-in_err-write_front_behind-clause-part : goal.returns-in_err-write_front_behind-clause-part
+returns-in_err-write_front_behind-clause-part g c =
     let tree = view c.args.document.now in
     let plan = c.args.plan.now in
     let p = c.args.piece in
-    let lines = c.args.begun.lines.now in
+    let kept = c.args.begun.kept in
     let old = g.S.Sink.held c.args.table.now in
-    let begun = g.S.Sink.held c.write_begun.new.table in
-    let front = subst (λ b. AppendsBeginning old begun (piece_header b c.args.mark.now plan p ++ lines)) c.tells_revived.ensures c.in_err-write_begun.ensures.part in
+    let begun = g.S.Sink.held c.write_front_behind.new.table in
+    let front = subst (λ b. AppendsBeginning old begun (drop kept (piece_header b c.args.mark.now plan p))) c.tells_revived.ensures c.in_err-write_front_behind.ensures.part in
     on_err c.from_residual.result
-    (rest_begun tree plan c.args.mark.now p lines old begun c.args.begun.runs c.a_run_exists.ensures c.requires.judged
-    (front_part tree plan (rest_course tree c.args.mark.now plan p lines c.args.begun.runs old) begun c.requires.few front))
+    (rest_begun tree plan c.args.mark.now p kept old begun c.args.begun.runs c.a_run_exists.ensures c.requires.judged
+    (front_part tree plan (rest_course tree c.args.mark.now plan p kept c.args.begun.runs old) begun c.requires.few front))
 
-pub returns-in_err-write_begun-clause-causes : goal.returns-in_err-write_begun-clause-causes
-returns-in_err-write_begun-clause-causes g c = write_caused (view c.args.document.now) c.args.plan.now c.from_residual.result _ c.from_residual.ensures.1
+pub returns-in_err-write_front_behind-clause-causes : goal.returns-in_err-write_front_behind-clause-causes
+returns-in_err-write_front_behind-clause-causes g c = write_caused (view c.args.document.now) c.args.plan.now c.from_residual.result _ c.from_residual.ensures.1
 
 pub returns-in_err-make_runs-clause-part : goal.returns-in_err-make_runs-clause-part
 returns-in_err-make_runs-clause-part g c =
     let tree = view c.args.document.now in
     let plan = c.args.plan.now in
     let p = c.args.piece in
-    let lines = c.args.begun.lines.now in
+    let kept = c.args.begun.kept in
     let old = g.S.Sink.held c.args.table.now in
-    let begun = g.S.Sink.held c.write_begun.new.table in
+    let begun = g.S.Sink.held c.write_front_behind.new.table in
     let new = g.S.Sink.held c.make_runs.new.table in
     let Fresh : List Note → Type 0 = g.G.Gather.has c.args.gathering.now (seed_count plan.seeds) in
-    let course = rest_course tree c.args.mark.now plan p lines c.args.begun.runs old in
+    let course = rest_course tree c.args.mark.now plan p kept c.args.begun.runs old in
     let first = ap (λ n. n + c.args.begun.runs) (c.first-first.ensures.first ∙ ap (first_run p) c.runs-runs.ensures.count) in
     let past = c.past.ensures.past ∙ ap (past_run p) c.runs-runs.ensures.count in
-    let front = subst (λ b. Appends old begun (piece_header b c.args.mark.now plan p ++ lines)) c.tells_revived.ensures c.in_ok-write_begun.ensures.whole in
+    let front = subst (λ b. Appends old begun (drop kept (piece_header b c.args.mark.now plan p))) c.tells_revived.ensures c.in_ok-write_front_behind.ensures.whole in
     let come = subst (HasCome tree plan course begun Fresh) (sym first) (front_come tree plan course begun Fresh front c.requires.fresh) in
     on_err c.from_residual-in_err-make_runs.result
-    (rest_begun tree plan c.args.mark.now p lines old new c.args.begun.runs c.a_run_exists.ensures c.requires.judged
+    (rest_begun tree plan c.args.mark.now p kept old new c.args.begun.runs c.a_run_exists.ensures c.requires.judged
     (c.in_err-make_runs.ensures.part course (omega (arith, past)) come))
 
 pub returns-in_err-flush-clause-part : goal.returns-in_err-flush-clause-part
@@ -63,19 +63,19 @@ returns-in_err-flush-clause-part g c =
     let tree = view c.args.document.now in
     let plan = c.args.plan.now in
     let p = c.args.piece in
-    let lines = c.args.begun.lines.now in
+    let kept = c.args.begun.kept in
     let old = g.S.Sink.held c.args.table.now in
-    let begun = g.S.Sink.held c.write_begun.new.table in
+    let begun = g.S.Sink.held c.write_front_behind.new.table in
     let full = g.S.Sink.held c.make_runs.new.table in
     let new = g.S.Sink.held c.flush.new.sink in
     let Fresh : List Note → Type 0 = g.G.Gather.has c.args.gathering.now (seed_count plan.seeds) in
-    let course = rest_course tree c.args.mark.now plan p lines c.args.begun.runs old in
+    let course = rest_course tree c.args.mark.now plan p kept c.args.begun.runs old in
     let first = ap (λ n. n + c.args.begun.runs) (c.first-first.ensures.first ∙ ap (first_run p) c.runs-runs.ensures.count) in
     let past = c.past.ensures.past ∙ ap (past_run p) c.runs-runs.ensures.count in
-    let front = subst (λ b. Appends old begun (piece_header b c.args.mark.now plan p ++ lines)) c.tells_revived.ensures c.in_ok-write_begun.ensures.whole in
+    let front = subst (λ b. Appends old begun (drop kept (piece_header b c.args.mark.now plan p))) c.tells_revived.ensures c.in_ok-write_front_behind.ensures.whole in
     let come = subst (HasCome tree plan course begun Fresh) (sym first) (front_come tree plan course begun Fresh front c.requires.fresh) in
     on_err c.from_residual-in_err-flush.result
-    (rest_begun tree plan c.args.mark.now p lines old new c.args.begun.runs c.a_run_exists.ensures c.requires.judged
+    (rest_begun tree plan c.args.mark.now p kept old new c.args.begun.runs c.a_run_exists.ensures c.requires.judged
     (begun_kept tree plan course full new (have_begun tree plan course full c.past.result (omega (arith, past)) (c.in_ok-make_runs.ensures.whole course come).lines) c.flush.ensures.same))
 
 pub returns-in_err-flush-clause-causes : goal.returns-in_err-flush-clause-causes
@@ -86,17 +86,17 @@ returns-clause-whole g c =
     let tree = view c.args.document.now in
     let plan = c.args.plan.now in
     let p = c.args.piece in
-    let lines = c.args.begun.lines.now in
+    let kept = c.args.begun.kept in
     let old = g.S.Sink.held c.args.table.now in
-    let begun = g.S.Sink.held c.write_begun.new.table in
+    let begun = g.S.Sink.held c.write_front_behind.new.table in
     let full = g.S.Sink.held c.make_runs.new.table in
     let new = g.S.Sink.held c.flush.new.sink in
     let Fresh : List Note → Type 0 = g.G.Gather.has c.args.gathering.now (seed_count plan.seeds) in
     let Gathered : List Note → Type 0 = g.G.Gather.has c.make_runs.new.gathering (seed_count plan.seeds) in
-    let course = rest_course tree c.args.mark.now plan p lines c.args.begun.runs old in
+    let course = rest_course tree c.args.mark.now plan p kept c.args.begun.runs old in
     let first = ap (λ n. n + c.args.begun.runs) (c.first-first.ensures.first ∙ ap (first_run p) c.runs-runs.ensures.count) in
     let past = c.past.ensures.past ∙ ap (past_run p) c.runs-runs.ensures.count in
-    let front = subst (λ b. Appends old begun (piece_header b c.args.mark.now plan p ++ lines)) c.tells_revived.ensures c.in_ok-write_begun.ensures.whole in
+    let front = subst (λ b. Appends old begun (drop kept (piece_header b c.args.mark.now plan p))) c.tells_revived.ensures c.in_ok-write_front_behind.ensures.whole in
     let come = subst (HasCome tree plan course begun Fresh) (sym first) (front_come tree plan course begun Fresh front c.requires.fresh) in
     subst (HasCome tree plan course new Gathered) past
     (come_kept tree plan course full new Gathered c.past.result (c.in_ok-make_runs.ensures.whole course come) c.flush.ensures.same)

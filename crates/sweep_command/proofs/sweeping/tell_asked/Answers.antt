@@ -5,7 +5,7 @@ use Rattle.sweep_command.proofs.Tables.{piece_begun, piece_told, whole_begun, wh
 use Rattle.sweep_command.proofs.sweeping.tell_asked.Goals as goal
 
 pub tell_piece-requires-clause-few : goal.tell_piece-requires-clause-few
-tell_piece-requires-clause-few g c _ _ = subst (λ p. FitResumed c.args.words.now p c.args.stood.now.count) c.in-Some.is c.requires.few
+tell_piece-requires-clause-few g c _ _ = subst (λ p. FitResumed c.args.words.now p c.args.stood.count) c.in-Some.is c.requires.few
 
 pub returns-in-Some-clause-whole : goal.returns-in-Some-clause-whole
 returns-in-Some-clause-whole g c =

@@ -1,4 +1,4 @@
-use Rattle.std.proofs.Common.{◌≡◌, ◌+◌, ◌-◌, ◌∙◌, ◌++◌, ap, sym, subst, arith}
+use Rattle.std.proofs.Common.{◌≡◌, ◌+◌, ◌-◌, ◌∙◌, ap, drop, sym, subst, arith}
 use Rattle.std.specs.Io.KnownBytes.{Appends}
 use Rattle.toml.specs.View.{view}
 use Rattle.trace.specs.Sinks.{AppendsBeginning}
@@ -25,23 +25,23 @@ past-till-requires-clause-few g c = omega (arith, few_cases c.args.plan.now c.re
 pub make_cases-requires-clause-within : goal.make_cases-requires-clause-within
 make_cases-requires-clause-within g c _ _ = omega (arith, c.past-till.ensures.within, c.cases-count.ensures)
 
-pub returns-in_err-write_begun-clause-part : goal.returns-in_err-write_begun-clause-part
-returns-in_err-write_begun-clause-part g c =
+pub returns-in_err-write_front_behind-clause-part : goal.returns-in_err-write_front_behind-clause-part
+returns-in_err-write_front_behind-clause-part g c =
     let tree = view c.args.document.now in
     let plan = c.args.plan.now in
     let p = c.args.piece in
     let mark = c.args.mark.now in
     let width = c.args.width in
-    let lines = c.args.begun.lines.now in
+    let kept = c.args.begun.kept in
     let before = c.args.begun.cases in
     let old = g.S.Sink.held c.args.table.now in
-    let begun = g.S.Sink.held c.write_begun.new.table in
-    let front = subst (λ b. AppendsBeginning old begun (piece_header b mark plan p ++ lines)) c.tells_revived.ensures c.in_err-write_begun.ensures.part in
+    let begun = g.S.Sink.held c.write_front_behind.new.table in
+    let front = subst (λ b. AppendsBeginning old begun (drop kept (piece_header b mark plan p))) c.tells_revived.ensures c.in_err-write_front_behind.ensures.part in
     on_err c.from_residual.result
-    (begins_front tree plan (rest_cases tree mark plan p lines before) width c.the_run_is_one.ensures c.a_run_exists.ensures c.requires.judged (rest_within plan p before c.requires.piece c.requires.few) old begun front)
+    (begins_front tree plan (rest_cases tree mark plan p kept before) width c.the_run_is_one.ensures c.a_run_exists.ensures c.requires.judged (rest_within plan p before c.requires.piece c.requires.few) old begun front)
 
-pub returns-in_err-write_begun-clause-causes : goal.returns-in_err-write_begun-clause-causes
-returns-in_err-write_begun-clause-causes g c = write_caused (view c.args.document.now) c.args.plan.now c.from_residual.result _ c.from_residual.ensures.1
+pub returns-in_err-write_front_behind-clause-causes : goal.returns-in_err-write_front_behind-clause-causes
+returns-in_err-write_front_behind-clause-causes g c = write_caused (view c.args.document.now) c.args.plan.now c.from_residual.result _ c.from_residual.ensures.1
 
 pub returns-in_err-make_cases-clause-part : goal.returns-in_err-make_cases-clause-part
 returns-in_err-make_cases-clause-part g c =
@@ -50,15 +50,15 @@ returns-in_err-make_cases-clause-part g c =
     let p = c.args.piece in
     let mark = c.args.mark.now in
     let width = c.args.width in
-    let lines = c.args.begun.lines.now in
+    let kept = c.args.begun.kept in
     let before = c.args.begun.cases in
-    let stretch = rest_cases tree mark plan p lines before in
+    let stretch = rest_cases tree mark plan p kept before in
     let old = g.S.Sink.held c.args.table.now in
-    let begun = g.S.Sink.held c.write_begun.new.table in
+    let begun = g.S.Sink.held c.write_front_behind.new.table in
     let new = g.S.Sink.held c.make_cases.new.table in
     let first : c.first-first.result + before ≡ first_case plan p + before = ap (λ n. n + before) (c.first-first.ensures.first ∙ ap (first_run p) c.cases-count.ensures) in
     let past : c.past-till.result ≡ past_run p (case_count plan.settings) = c.past-till.ensures.past ∙ ap (past_run p) c.cases-count.ensures in
-    let front = subst (λ b. Appends old begun (piece_header b mark plan p ++ lines)) c.tells_revived.ensures c.in_ok-write_begun.ensures.whole in
+    let front = subst (λ b. Appends old begun (drop kept (piece_header b mark plan p))) c.tells_revived.ensures c.in_ok-write_front_behind.ensures.whole in
     let none = subst (HasCases tree plan width stretch old begun 0) (sym c.requires.fresh) (no_case tree plan stretch width old begun front) in
     on_err c.from_residual-in_err-make_cases.result
     (c.in_err-make_cases.ensures.part stretch old (sym first) (omega (arith, first, past)) none)
@@ -70,16 +70,16 @@ returns-in_err-flush-clause-part g c =
     let p = c.args.piece in
     let mark = c.args.mark.now in
     let width = c.args.width in
-    let lines = c.args.begun.lines.now in
+    let kept = c.args.begun.kept in
     let before = c.args.begun.cases in
-    let stretch = rest_cases tree mark plan p lines before in
+    let stretch = rest_cases tree mark plan p kept before in
     let old = g.S.Sink.held c.args.table.now in
-    let begun = g.S.Sink.held c.write_begun.new.table in
+    let begun = g.S.Sink.held c.write_front_behind.new.table in
     let full = g.S.Sink.held c.make_cases.new.table in
     let new = g.S.Sink.held c.flush.new.sink in
     let first : c.first-first.result + before ≡ first_case plan p + before = ap (λ n. n + before) (c.first-first.ensures.first ∙ ap (first_run p) c.cases-count.ensures) in
     let past : c.past-till.result ≡ past_run p (case_count plan.settings) = c.past-till.ensures.past ∙ ap (past_run p) c.cases-count.ensures in
-    let front = subst (λ b. Appends old begun (piece_header b mark plan p ++ lines)) c.tells_revived.ensures c.in_ok-write_begun.ensures.whole in
+    let front = subst (λ b. Appends old begun (drop kept (piece_header b mark plan p))) c.tells_revived.ensures c.in_ok-write_front_behind.ensures.whole in
     let none = subst (HasCases tree plan width stretch old begun 0) (sym c.requires.fresh) (no_case tree plan stretch width old begun front) in
     let count : c.past-till.result - (c.first-first.result + before) ≡ cases_in plan p - before = omega (arith, first, past) in
     on_err c.from_residual-in_err-flush.result
@@ -97,16 +97,16 @@ returns-clause-whole g c =
     let p = c.args.piece in
     let mark = c.args.mark.now in
     let width = c.args.width in
-    let lines = c.args.begun.lines.now in
+    let kept = c.args.begun.kept in
     let before = c.args.begun.cases in
-    let stretch = rest_cases tree mark plan p lines before in
+    let stretch = rest_cases tree mark plan p kept before in
     let old = g.S.Sink.held c.args.table.now in
-    let begun = g.S.Sink.held c.write_begun.new.table in
+    let begun = g.S.Sink.held c.write_front_behind.new.table in
     let full = g.S.Sink.held c.make_cases.new.table in
     let new = g.S.Sink.held c.flush.new.sink in
     let first : c.first-first.result + before ≡ first_case plan p + before = ap (λ n. n + before) (c.first-first.ensures.first ∙ ap (first_run p) c.cases-count.ensures) in
     let past : c.past-till.result ≡ past_run p (case_count plan.settings) = c.past-till.ensures.past ∙ ap (past_run p) c.cases-count.ensures in
-    let front = subst (λ b. Appends old begun (piece_header b mark plan p ++ lines)) c.tells_revived.ensures c.in_ok-write_begun.ensures.whole in
+    let front = subst (λ b. Appends old begun (drop kept (piece_header b mark plan p))) c.tells_revived.ensures c.in_ok-write_front_behind.ensures.whole in
     let none = subst (HasCases tree plan width stretch old begun 0) (sym c.requires.fresh) (no_case tree plan stretch width old begun front) in
     let count : c.past-till.result - (c.first-first.result + before) ≡ cases_in plan p - before = omega (arith, first, past) in
     subst (λ n. HasCases tree plan width stretch old new n c.make_cases.new.cases.items) count

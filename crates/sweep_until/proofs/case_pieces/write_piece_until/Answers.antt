@@ -11,12 +11,12 @@ pub returns-clause-whole : goal.returns-clause-whole
 returns-clause-whole g c =
     let none = c.nothing-nothing.result in
     on_ok_then _ _ c.write_rest_until.result c.write_rest_until.ensures.whole
-    (rest_is_piece (view c.args.document.now) c.args.plan.now c.args.mark.now c.args.piece none.lines.now none.cases c.nothing-nothing.ensures.lines c.nothing-nothing.ensures.cases
+    (rest_is_piece (view c.args.document.now) c.args.plan.now c.args.mark.now c.args.piece none.kept none.cases c.nothing-nothing.ensures.kept c.nothing-nothing.ensures.cases
     (g.S.Sink.held c.args.table.now) (g.S.Sink.held c.write_rest_until.new.table))
 
 pub returns-clause-part : goal.returns-clause-part
 returns-clause-part g c =
     let none = c.nothing-nothing.result in
     on_err_then _ _ c.write_rest_until.result c.write_rest_until.ensures.part
-    (rest_begins_piece (view c.args.document.now) c.args.plan.now c.args.mark.now c.args.piece none.lines.now none.cases c.nothing-nothing.ensures.lines c.nothing-nothing.ensures.cases
+    (rest_begins_piece (view c.args.document.now) c.args.plan.now c.args.mark.now c.args.piece none.kept none.cases c.nothing-nothing.ensures.kept c.nothing-nothing.ensures.cases
     (g.S.Sink.held c.args.table.now) (g.S.Sink.held c.write_rest_until.new.table))

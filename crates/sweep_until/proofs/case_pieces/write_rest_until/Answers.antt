@@ -9,11 +9,11 @@ write_cases-requires-clause-most g c _ _ = a_width c.args.plan.now c.width_of-wi
 pub returns-clause-whole : goal.returns-clause-whole
 returns-clause-whole g c =
     on_ok_then _ _ c.write_cases.result c.write_cases.ensures.whole
-    (rest_whole (view c.args.document.now) c.args.plan.now c.args.mark.now c.args.piece c.args.begun.lines.now c.args.begun.cases c.width_of-width.result c.width_of-width.ensures
+    (rest_whole (view c.args.document.now) c.args.plan.now c.args.mark.now c.args.piece c.args.begun.kept c.args.begun.cases c.width_of-width.result c.width_of-width.ensures
     (g.S.Sink.held c.args.table.now) (g.S.Sink.held c.write_cases.new.table) c.write_cases.new.cases.items)
 
 pub returns-clause-part : goal.returns-clause-part
 returns-clause-part g c =
     on_err_then _ _ c.write_cases.result c.write_cases.ensures.part
-    (rest_begun (view c.args.document.now) c.args.plan.now c.args.mark.now c.args.piece c.args.begun.lines.now c.args.begun.cases c.width_of-width.result c.width_of-width.ensures
+    (rest_begun (view c.args.document.now) c.args.plan.now c.args.mark.now c.args.piece c.args.begun.kept c.args.begun.cases c.width_of-width.result c.width_of-width.ensures
     (g.S.Sink.held c.args.table.now) (g.S.Sink.held c.write_cases.new.table))

@@ -19,7 +19,7 @@ returns-in_err-write_cases-clause-part g c =
     let none = c.nothing in
     on_err c.from_residual.result
     (subst (λ stretch. BeginsCases tree plan c.args.width stretch old new)
-    (cases_of_whole tree plan mark c.whole.result none.result.lines.now none.result.cases none.ensures.lines none.ensures.cases c.whole.ensures.only) c.in_err-write_cases.ensures.part)
+    (cases_of_whole tree plan mark c.whole.result none.result.kept none.result.cases none.ensures.kept none.ensures.cases c.whole.ensures.only) c.in_err-write_cases.ensures.part)
 
 pub returns-clause-whole : goal.returns-clause-whole
 returns-clause-whole g c =
@@ -31,6 +31,6 @@ returns-clause-whole g c =
     let cases = c.write_cases.new.cases.items in
     let none = c.nothing in
     subst (λ n. HasCases tree plan c.args.width (all_cases tree mark plan) old new n cases)
-    (count_of_whole tree plan mark c.whole.result none.result.lines.now none.result.cases none.ensures.lines none.ensures.cases c.whole.ensures.only)
+    (count_of_whole tree plan mark c.whole.result none.result.kept none.result.cases none.ensures.kept none.ensures.cases c.whole.ensures.only)
     (subst (λ stretch. HasCases tree plan c.args.width stretch old new (cases_in plan c.whole.result - none.result.cases) cases)
-    (cases_of_whole tree plan mark c.whole.result none.result.lines.now none.result.cases none.ensures.lines none.ensures.cases c.whole.ensures.only) c.in_ok-write_cases.ensures.whole)
+    (cases_of_whole tree plan mark c.whole.result none.result.kept none.result.cases none.ensures.kept none.ensures.cases c.whole.ensures.only) c.in_ok-write_cases.ensures.whole)
