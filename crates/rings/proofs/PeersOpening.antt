@@ -35,7 +35,7 @@ module _ {K Q : Type 0} (set : Q → FinMap key_cmp Event) (basis : Basis) where
       let here : slice_get parts lines.number ≡ Some part = ap (slice_get parts) number ∙ ap (λ (l : List (Part Q)). slice_get l (length before)) (sym all) ∙ item_behind before part rest in
       let world = same_Some _ _ (sym (ap (option_map (world_of set)) here) ∙ stand.worlds lines.number below) in (
         subst (BeginsRound (plan_of basis) lines.number 0 first) (sym world)
-        (begins_opening (plan_of basis) lines.number (opening basis.setup) first ([], [], opening_before basis.setup 0 (λ q pends. zero-le)) pends),
+            (begins_opening (plan_of basis) lines.number (opening basis.setup) first ([], [], opening_before basis.setup 0 (λ q pends. zero-le)) pends),
         record {
           own = below;
           peers = subst (λ n. AreOthers n lines.number (numbers_of lines.peers.items)) stand.count (subst (λ n. AreOthers (length parts) n (numbers_of lines.peers.items)) (sym number) are);

@@ -141,7 +141,9 @@ impl<'b, K: OfRun, Q: EventQueue<Event> + Drop> Hold<'b, K, Q> {
     {
         let mut sleeps = slept;
         while let Some(process) = self.ready.pop() {
-            if let Some(waiting) = run_process(rt, alloc, process, worker, sleeps, post, rounds, gate)? {
+            if let Some(waiting) = run_process(
+                rt, alloc, process, worker, sleeps, post, rounds, gate,
+            )? {
                 keep(&mut self.waiting, waiting)?;
             }
             sleeps = 0;

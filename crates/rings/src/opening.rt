@@ -17,7 +17,6 @@ use crate::process::Process;
 use crate::protocols::Lots;
 use crate::ring::{Sender, ring_between};
 use crate::rows::Gathered;
-
 use base::{Memory, Moment};
 use member::Event;
 use std::alloc::Global;

@@ -11,6 +11,7 @@ const EVENTS_OF_A_SLEEP: u64 = 256;
 
 /// How many rounds one worker runs alone at first, and at most, before all are tried again.
 const FIRST_ALONE: u64 = 2_048;
+
 const MOST_ALONE: u64 = 1 << 20;
 
 /// What all workers did since the processes were dealt out. All hear the same words, so that it is

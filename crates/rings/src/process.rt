@@ -214,7 +214,16 @@ impl<'b, K: OfRun, Q: EventQueue<Event> + Drop> Waiting<'b, K, Q> {
             mut lines,
         } = self;
         let lot = Due { next, common };
-        match heard(rt, patience, &mut part, told, lot, &mut gathered, &mut lines, rounds) {
+        match heard(
+            rt,
+            patience,
+            &mut part,
+            told,
+            lot,
+            &mut gathered,
+            &mut lines,
+            rounds,
+        ) {
             Ok(heard) => {
                 let Heard { first, rows, slept } = heard;
                 let process = Process {

@@ -283,7 +283,13 @@ fn at_board<
     gate: &G,
     writer: Writer<'r, 'b, K>,
     place: &mut P,
-) -> Result<(Result<Tallies, Fault>, Result<Vec<RunSeat<'b, K, Q>>, Memory>), Fault>
+) -> Result<
+    (
+        Result<Tallies, Fault>,
+        Result<Vec<RunSeat<'b, K, Q>>, Memory>,
+    ),
+    Fault,
+>
     requires here { table_of board.now ≡ J.table }
     requires all { AreAllSeats board.now seats.items }
     requires count { length seats.items ≡ whole }

@@ -89,7 +89,9 @@ pub(crate) fn within<
             ensures trace { KeepsTrace writer.entry.scenario.now (T.held place.entry.now) (T.held result.3.now) (T.failed place.entry.now) (T.failed result.3.now) result.0 }
             ensures gathered { IfOk result.0 (T.gathered result.3.now writer.entry.scenario.now) }
         {
-            let threads = match start_workers(scope, rt, alloc, &mut posts, hands, crew, rounds, gate) {
+            let threads = match start_workers(
+                scope, rt, alloc, &mut posts, hands, crew, rounds, gate,
+            ) {
                 Ok(threads) => threads,
                 Err(fault) => {
                     crew.fail();
