@@ -1,7 +1,7 @@
 //! What users read below the line of a failure: why, and what to do.
 #![tactic(auto)]
 
-mod files;
+mod file_reasons;
 mod help;
 mod lines;
 mod names;

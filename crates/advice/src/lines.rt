@@ -1,7 +1,7 @@
 //! The lines that are told below that of a failure.
 ghost use Rattle.std.specs.Prelude.{◌≡◌};
 
-use crate::files::file_reason;
+use crate::file_reasons::file_reason;
 use crate::help::SHORT_HELP;
 use crate::runs::run_reason;
 use crate::scenarios::first_mistake;
