@@ -98,7 +98,7 @@ fn with_cases<'a>(
         limited,
         "set",
         "KEY=V1,V2,..",
-        "A key of the scenario, as swim.period or group.NAME.count, and its values, each of which makes cases; for any number of keys",
+        "A key of the scenario, as swim.period or group.NAME.count, and its values, each of which makes cases; for any number of keys; A+B=1+2,3+4 sets keys that go together",
     )
 }
 
