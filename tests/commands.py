@@ -2,12 +2,27 @@
 
 import json
 import os
+import pty
 
 from harness import call
 from program import Case, DATA, expect, expect_ran
 from worked import FOLDER as WORKED, text_of
 
 FOLDER = DATA / 'commands'
+# the commands of which more is told than the line of a failure
+TELLING = {'init', 'explain', 'sweep', 'join', 'page'}
+# of others on a terminal: words, the status, and what is told
+ON_TERMINAL = [
+    ('check absent', 1, ['swimsim: file absent\n', 'absent: there is no such file\n']),
+    ('check bad.toml', 3, ['swimsim: scenario rule 4\n', 'error[rule 4]: ', 'swimsim explain bad.toml\n']),
+    ('run two.toml --trace t --wokers 2', 2, ['swimsim: usage\n', "a similar argument exists: '--workers'"]),
+    ('run two.toml --trace t --workers 65', 4, ['swimsim: workers\n', '--workers 65: write a whole number from 1 to 64\n']),
+    ('run two.toml --trace t --parts 1 --division 0,0', 2, ['--parts and --division exclude each other\n']),
+    ('run two.toml --trace t --division 0,64', 4, ['--division 0,64: write whole numbers from 0 to 63 with commas between them\n']),
+    ('run two.toml --trace t --division 0', 4, ['--division 0: write one part for each member of the scenario\n']),
+    ('run two.toml --trace two.toml', 1, ['one file is named twice: two.toml and two.toml\n']),
+    ('swep two.toml', 2, ['swimsim: usage\n', "unrecognized subcommand 'swep'"]),
+]
 
 
 def bytes_of(content):
@@ -69,12 +84,25 @@ def called(program, words, output):
         return program.call(words, out=out)
 
 
+def expect_why(ran, words, case):
+    """Sees that what is told below the first line has what the case says, and that only some commands tell more; gives
+    the call back with its first line alone."""
+    told, below = ran.err[:ran.err.find(b'\n') + 1], ran.err[ran.err.find(b'\n') + 1:]
+    for why in case.get('why', []):
+        expect(f'whether it is told why: {below.decode()!r} has {why!r}', why.encode() in below, True)
+    if words and words[0] not in TELLING:
+        expect('what is told below the line', below, b'')
+    return ran._replace(err=told)
+
+
 def check(program, files, words, case):
     """Calls the program with these words over these files, and compares what it answers and leaves."""
     for name, content in files.items():
         make(program.folder, name, content)
     before = seen_in(program.folder)
     ran = called(program, words, case.get('output'))
+    if ran.status:
+        ran = expect_why(ran, words, case)
     if 'out_has' in case:
         expect('whether standard output has it', case['out_has'].encode() in ran.out, True)
         ran = ran._replace(out=b'')
@@ -95,9 +123,36 @@ def check_own_name(program):
     expect_ran(ran, 0, b'members 2\n', b'')
 
 
+def read_terminal(terminal):
+    """What was written to a terminal whose other end is closed, which is closed then."""
+    told = b''
+    try:
+        while part := os.read(terminal, 10_000):
+            told += part
+    except OSError:
+        pass
+    os.close(terminal)
+    return told.replace(b'\r\n', b'\n')
+
+
+def check_terminal(program):
+    """Calls `check` and `run` with a terminal as standard error: more is told there."""
+    make(program.folder, 'two.toml', '@two-members.toml')
+    make(program.folder, 'bad.toml', ['@two-members.toml', 'period = 1000', 'period = "1s"'])
+    for words, status, wanted in ON_TERMINAL:
+        terminal, err = pty.openpty()
+        ran = call([program.path, *words.split()], cwd=program.folder, stderr=err)
+        os.close(err)
+        told = read_terminal(terminal)
+        expect('status', ran.status, status)
+        for line in wanted:
+            expect(f'whether {told.decode()!r} has {line!r}', line.encode() in told, True)
+
+
 def cases():
     """Each line of words of each group, and the program under another name."""
     yield Case('command: a name of the program that is no text', check_own_name, ())
+    yield Case('command: standard error that is a terminal', check_terminal, ())
     for path in sorted(FOLDER.glob('*.json')):
         for group in json.loads(path.read_text()):
             for case in group['cases']:

@@ -4,8 +4,10 @@
 
 mod program;
 mod simulation;
+mod surroundings;
 pub mod system;
 
+pub use advice::Surroundings;
 pub use command_line::{
     Asked, ExplainWords, Failure, JoinWords, PageWords, PieceFault, Release, RunWords, Split,
     SweepWords, division_asked, parse, refuse, workers_asked,

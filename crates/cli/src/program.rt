@@ -6,6 +6,7 @@ ghost use Rattle.sweep_command.specs.Outcomes.{SetsNoItem};
 ghost use Rattle.cli.specs.Outcomes.{AsksForProgress, HasDone, Fails, Ends};
 
 use crate::simulation::ByThreads;
+use advice::{Surroundings, tell_why};
 use command_line::{
     Asked, Failure, Release, parse, print_help, print_members, print_preset, print_release,
     print_rows, print_text, refuse,
@@ -25,10 +26,11 @@ use sweep_command::sweep_file;
 /// Does what the words ask for, and answers the exit status.
 ///
 /// `rt` starts the threads of a run and lets them wait. `release` is what the program tells of itself. `words` are
-/// those of the command line without the program's name. A failure is told in one line on `err`, and `out` then gets nothing, unless it
-/// failed itself or gets the mistakes of a scenario. A run or a sweep that is to tell how far it has come does so on `progress`, as far as that takes
+/// those of the command line without the program's name. A failure is told in one line on `err`, below which others tell why: of `check` and
+/// `run` only where `err` is a terminal. `out` then gets nothing, unless it failed itself or gets the mistakes of a scenario. `surroundings` are
+/// asked what the system says of a file that can't be read or made. A run or a sweep that is to tell how far it has come does so on `progress`, as far as that takes
 /// its lines.
-pub fn command<S: AsStr, F: Files, O: Write, E: Write, P: Write>(
+pub fn command<S: AsStr, F: Files, O: Write, E: Write, P: Write, A: Surroundings>(
     rt: &(impl Threads + Wait + Sync),
     alloc: Global,
     release: &Release<'_>,
@@ -37,6 +39,8 @@ pub fn command<S: AsStr, F: Files, O: Write, E: Write, P: Write>(
     out: &mut O,
     err: &mut E,
     progress: &mut P,
+    is_terminal: bool,
+    surroundings: &A,
 ) -> u8
     ensures range { result ≤ 5 }
 
@@ -69,7 +73,19 @@ pub fn command<S: AsStr, F: Files, O: Write, E: Write, P: Write>(
 {
     match perform(rt, alloc, release, words, files, out, progress) {
         Ok(()) => 0,
-        Err(failure) => refuse(&failure, err),
+        Err(failure) => {
+            let status = refuse(&failure, err);
+            tell_why(
+                alloc,
+                is_terminal,
+                surroundings,
+                words,
+                &failure,
+                files,
+                err,
+            );
+            status
+        }
     }
 }
 

@@ -3,6 +3,7 @@ ghost use Rattle.std.specs.Prelude.{◌≡◌, ◌≢◌, ◌≤◌};
 ghost use Rattle.std.specs.Process.{exit_status};
 
 use crate::program::command;
+use crate::surroundings::{SystemSurroundings, is_terminal};
 pub use command_line::system::words;
 use command_line::{Release, refuse};
 pub use files::system::SystemFiles;
@@ -46,6 +47,8 @@ pub fn run_program<
                 out,
                 err,
                 progress,
+                is_terminal(rt),
+                &SystemSurroundings { runtime: rt },
             )
         }
         Err(failure) => refuse(&failure, err),

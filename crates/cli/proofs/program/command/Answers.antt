@@ -1,5 +1,5 @@
 -- the status tells done from not done, and why
-use Rattle.std.proofs.Common.{◌≡◌, ◌≢◌, ◌≤◌, ◌⊎◌, ◌∙◌, ℕ, List, Option, Err, ap, sym, refl, inl, inr, arith}
+use Rattle.std.proofs.Common.{◌≡◌, ◌≢◌, ◌≤◌, ◌<◌, ◌⊎◌, ◌∙◌, ℕ, List, Option, Err, ap, sym, subst, refl, inl, inr, arith}
 use Rattle.clap.specs.Words.{Text}
 use Rattle.files.specs.Files.{Making}
 use Rattle.scenario_files.specs.Shelves.{Shelf}
@@ -101,6 +101,13 @@ two_or_five failure status is (inl e) = inl (is ∙ ap status_of e)
 two_or_five failure status is (inr (inl e)) = inl (is ∙ ap status_of e)
 two_or_five failure status is (inr (inr e)) = inr (is ∙ ap status_of e)
 
+-- files that are as they were after the failure bear out its cause
+fails_still : (first refused counted : ℕ) (words : List Text) (before after now : Shelf) (making : Making) (old new : Option (List ℕ)) (failure : Failure)
+    → counted ≡ refused → now ≡ after → Fails (first < refused) words before after making old new failure → Fails (first < counted) words before now making old new failure
+fails_still first refused counted words before after now making old new failure count same fails =
+    subst (λ k. Fails (first < k) words before now making old new failure) (sym count)
+    (subst (λ s. Fails (first < refused) words before s making old new failure) (sym same) fails)
+
 pub returns-in-Ok-clause-failed : goal.returns-in-Ok-clause-failed
 returns-in-Ok-clause-failed g c differs = absurd (differs refl)
 
@@ -114,28 +121,28 @@ pub returns-in-Ok-clause-silent : goal.returns-in-Ok-clause-silent
 returns-in-Ok-clause-silent g c low _ = absurd (omega arith)
 
 pub returns-in-Err-clause-done : goal.returns-in-Err-clause-done
-returns-in-Err-clause-done g c e = absurd (no_failure c.in-Err.failure (sym c.refuse.ensures.status ∙ e))
+returns-in-Err-clause-done g c e = absurd (no_failure c.in-Err.failure (sym c.refuse-status.ensures.status ∙ e))
 
 pub returns-in-Err-clause-failed : goal.returns-in-Err-clause-failed
 returns-in-Err-clause-failed g c _ = record {
   failure = c.in-Err.failure;
-  told = c.refuse.ensures.status;
-  cause = c.in-Err.ensures.failed;
+  told = c.refuse-status.ensures.status;
+  cause = fails_still _ _ _ _ _ _ _ _ _ _ c.in-Err.failure c.tell_why.ensures.counted c.tell_why.ensures.same c.in-Err.ensures.failed;
   silent = c.in-Err.ensures.silent;
 }
 
 pub returns-in-Err-clause-usage : goal.returns-in-Err-clause-usage
 returns-in-Err-clause-usage g c e =
-    is_usage _ _ _ _ _ _ _ c.in-Err.failure (sym c.refuse.ensures.status ∙ e) (λ is. c.in-Err.ensures.usage (ap Err is)) (λ is. c.in-Err.ensures.preset (ap Err is)) c.in-Err.ensures.failed
+    is_usage _ _ _ _ _ _ _ c.in-Err.failure (sym c.refuse-status.ensures.status ∙ e) (λ is. c.in-Err.ensures.usage (ap Err is)) (λ is. c.in-Err.ensures.preset (ap Err is)) c.in-Err.ensures.failed
 
 pub returns-in-Err-clause-other : goal.returns-in-Err-clause-other
-returns-in-Err-clause-other g c none = two_or_five c.in-Err.failure c.refuse.result c.refuse.ensures.status (c.in-Err.ensures.other none)
+returns-in-Err-clause-other g c none = two_or_five c.in-Err.failure c.refuse-status.result c.refuse-status.ensures.status (c.in-Err.ensures.other none)
 
 pub returns-in-Err-clause-silent : goal.returns-in-Err-clause-silent
 returns-in-Err-clause-silent g c low other =
-    let status = c.refuse.ensures.status in
+    let status = c.refuse-status.ensures.status in
     c.in-Err.ensures.silent (not_output c.in-Err.failure (omega (arith, status)))
-    (untold _ _ _ _ _ _ _ c.in-Err.failure c.refuse.result status c.in-Err.ensures.failed other)
+    (untold _ _ _ _ _ _ _ c.in-Err.failure c.refuse-status.result status c.in-Err.ensures.failed other)
 
 pub returns-in-Err-clause-quiet : goal.returns-in-Err-clause-quiet
-returns-in-Err-clause-quiet g c e = absurd (no_failure c.in-Err.failure (sym c.refuse.ensures.status ∙ e))
+returns-in-Err-clause-quiet g c e = absurd (no_failure c.in-Err.failure (sym c.refuse-status.ensures.status ∙ e))

@@ -1,0 +1,127 @@
+//! What the system says of files, and whether standard error is a terminal.
+
+use advice::Surroundings;
+use reasons::FileReason;
+use std::fs::{Metadata, OpenOptions};
+use std::io::ErrorKind;
+use std::os::unix::fs::{FileTypeExt, MetadataExt};
+use std::rt::Files;
+use std::{fs, io};
+
+/// The names of standard output and standard error among the system's files.
+const STREAMS: [&str; 2] = ["/dev/stdout", "/dev/stderr"];
+
+/// What the system of a runtime says of files.
+#[derive(Drop)]
+pub(crate) struct SystemSurroundings<'r, R> {
+    pub(crate) runtime: &'r R,
+}
+
+impl<R: Files + AllocGlobal> Surroundings for SystemSurroundings<'_, R> {
+    fn file_reason<'a>(&self, name: &'a str, is_read: bool) -> Option<FileReason<'a>> {
+        match fs::metadata(self.runtime, name) {
+            Ok(metadata) => self.there(name, &metadata, is_read),
+            Err(error) => missing(
+                name,
+                &error,
+                is_read && self.has_folder(name),
+                self.has_folder(name),
+            ),
+        }
+    }
+
+    fn are_one(&self, name: &str, other: &str) -> bool {
+        match fs::metadata(self.runtime, name) {
+            Ok(metadata) => self.is_named(&metadata, other),
+            Err(_) => false,
+        }
+    }
+}
+
+impl<R: Files + AllocGlobal> SystemSurroundings<'_, R> {
+    /// What is wrong with a file that is there.
+    fn there<'a>(
+        &self,
+        name: &'a str,
+        metadata: &Metadata,
+        is_read: bool,
+    ) -> Option<FileReason<'a>> {
+        if metadata.is_dir() {
+            return Some(FileReason::Folder(name));
+        }
+        if !is_read
+            && (self.is_named(metadata, STREAMS[0]) || self.is_named(metadata, STREAMS[1]))
+        {
+            return Some(FileReason::Stream(name));
+        }
+        if !metadata.is_file() {
+            return None;
+        }
+        let mut options = OpenOptions::new();
+        options.read(is_read).write(!is_read);
+        match options.open(self.runtime, name) {
+            Ok(_) => None,
+            Err(error) => refused(name, &error),
+        }
+    }
+
+    /// Whether a file that keeps what it is given is also that of this name.
+    fn is_named(&self, metadata: &Metadata, name: &str) -> bool {
+        match fs::metadata(self.runtime, name) {
+            Ok(other) => {
+                !metadata.file_type().is_char_device()
+                    && metadata.dev() == other.dev()
+                    && metadata.ino() == other.ino()
+            }
+            Err(_) => false,
+        }
+    }
+
+    /// Whether the folder is there that a name has before its last slash.
+    fn has_folder(&self, name: &str) -> bool {
+        match name.rsplit_once('/') {
+            Some((folder, _)) if !folder.is_empty() => fs::metadata(self.runtime, folder).is_ok(),
+            _ => true,
+        }
+    }
+}
+
+/// What is wrong with a name under which the system finds nothing.
+fn missing<'a>(
+    name: &'a str,
+    error: &io::Error,
+    is_wanted: bool,
+    has_folder: bool,
+) -> Option<FileReason<'a>> {
+    match error.kind() {
+        ErrorKind::NotFound if is_wanted => Some(FileReason::Missing(name)),
+        ErrorKind::NotFound if !has_folder => Some(FileReason::NoFolder(name)),
+        ErrorKind::NotADirectory => Some(FileReason::NoFolder(name)),
+        _ => refused(name, error),
+    }
+}
+
+/// What an error of the system says of a file that can't be opened.
+fn refused<'a>(name: &'a str, error: &io::Error) -> Option<FileReason<'a>> {
+    match error.kind() {
+        ErrorKind::PermissionDenied => Some(FileReason::Denied(name)),
+        ErrorKind::ReadOnlyFilesystem => Some(FileReason::ReadOnly(name)),
+        ErrorKind::StorageFull => Some(FileReason::Full(name)),
+        ErrorKind::IsADirectory => Some(FileReason::Folder(name)),
+        _ => None,
+    }
+}
+
+/// Whether standard error goes to a terminal: to a character device of the kinds that Linux has for them.
+pub(crate) fn is_terminal<R: Files>(runtime: &R) -> bool {
+    match fs::metadata(runtime, STREAMS[1]) {
+        Ok(metadata) => metadata.file_type().is_char_device() && is_terminal_kind(metadata.rdev()),
+        Err(_) => false,
+    }
+}
+
+/// Whether a device of this number is a terminal: a console, a serial line or one that a program makes.
+fn is_terminal_kind(device: u64) -> bool {
+    let kind = (device >> 8) & 0xfff;
+    kind == 4 || kind == 5 || kind >= 136 && kind <= 143
+}
