@@ -4,7 +4,7 @@ import json
 import os
 import pty
 
-from harness import call
+from harness import call, first_line
 from program import Case, DATA, expect, expect_ran
 from worked import FOLDER as WORKED, text_of
 
@@ -87,7 +87,8 @@ def called(program, words, output):
 def expect_why(ran, words, case):
     """Sees that what is told below the first line has what the case says, and that only some commands tell more; gives
     the call back with its first line alone."""
-    told, below = ran.err[:ran.err.find(b'\n') + 1], ran.err[ran.err.find(b'\n') + 1:]
+    told = first_line(ran.err)
+    below = ran.err[len(told):]
     for why in case.get('why', []):
         expect(f'whether it is told why: {below.decode()!r} has {why!r}', why.encode() in below, True)
     if words and words[0] not in TELLING:

@@ -35,6 +35,11 @@ def call(words, seconds=SECONDS, **how):
     return Ran(ran.returncode, ran.stdout or nothing, ran.stderr or nothing)
 
 
+def first_line(told):
+    """What standard error has of a failure, without the lines below, which tell why."""
+    return told[:told.find(b'\n') + 1]
+
+
 def parser_of(about, default=BUILT):
     """A parser of a script's words that knows --program; `about` is what --help prints."""
     parser = argparse.ArgumentParser(description=about, formatter_class=argparse.RawDescriptionHelpFormatter)

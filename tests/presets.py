@@ -5,6 +5,7 @@ memberlist 0.2.2's config.go or docs/FORMAT.md has."""
 import re
 import tomllib
 
+from harness import first_line
 from program import Case, DATA, expect, expect_ran
 from scenarios import NEWEST_TAKEN, judge, keys_of
 
@@ -99,7 +100,8 @@ def check_unknown(program, word):
 
 
 def check_usage(program, words):
-    expect_ran(program.call(['init', *words]), 2, b'', b'swimsim: usage\n')
+    ran = program.call(['init', *words])
+    expect_ran(ran._replace(err=first_line(ran.err)), 2, b'', b'swimsim: usage\n')
 
 
 def cases():

@@ -33,7 +33,7 @@ import sys
 import tempfile
 from pathlib import Path
 
-from harness import call, end, parser_of, program_at
+from harness import call, end, first_line, parser_of, program_at
 from hasty import HASTY, LONG
 from long_runs import far
 from stand_in import NO_COMPILER, StandIn
@@ -126,7 +126,8 @@ def left_by(words, folder, environment=None, older=None):
         else:
             (folder / name).write_bytes(older)
     ran = call(words, IN_TIME, env=environment)
-    return *ran, *(read(folder / name) for name in WRITTEN), sorted(set(os.listdir(folder)) - before)
+    told = ran._replace(err=first_line(ran.err))
+    return *told, *(read(folder / name) for name in WRITTEN), sorted(set(os.listdir(folder)) - before)
 
 
 def is_refusal(left, whole, older):

@@ -21,7 +21,7 @@ import generate
 import model
 import model_sweeps
 import model_text
-from harness import TOP, call, end, parser_of, program_at
+from harness import TOP, call, end, first_line, parser_of, program_at
 from scenarios import NEWEST_TAKEN, document_of, judge
 from stand_in import StandIn
 
@@ -132,6 +132,7 @@ def try_sweep(program, folder, seed, number, newest):
                 'table': model_sweeps.table_of(text, settings, asked, cases).encode()}
     if refusal:
         expected = {**outcome(3, b'', f'swimsim: {refusal}\n'.encode()), 'table': b''}
+        done = done._replace(err=first_line(done.err))
     found = {**outcome(*done), 'table': table.read_bytes()}
     return ['sweep', 'FILE', '--table', 'T', *options], text, compared(expected, found)
 

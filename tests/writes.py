@@ -4,7 +4,7 @@ import os
 import threading
 from contextlib import contextmanager
 
-from harness import call
+from harness import call, first_line
 from long_runs import far
 from program import Case, DATA, expect, expect_ran
 from worked import text_of
@@ -87,14 +87,15 @@ def check_table_room(program, workers, sizes):
         begin(program, 'two-members')
         ran = program.call([*SWEEP, '--workers', workers], room=room)
         if room < len(table):
-            expect_ran(ran, *REFUSED, what=f'{room} bytes, ')
+            expect_ran(ran._replace(err=first_line(ran.err)), *REFUSED, what=f'{room} bytes, ')
         expect(f'{room} bytes, table', program.held('t.csv'), table[:room])
 
 
 def check_full(program, words, left):
     """Calls with a device that takes nothing for a file: fault 3, and these files are left."""
     begin(program, 'two-members')
-    expect_ran(program.call(words), *REFUSED)
+    ran = program.call(words)
+    expect_ran(ran._replace(err=first_line(ran.err)), *REFUSED)
     for name, held in left.items():
         expect(f'what {name} holds', program.held(name), held)
 
