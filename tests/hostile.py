@@ -18,19 +18,8 @@ import time
 from pathlib import Path
 
 from harness import call, end, parser_of, program_at
+from program import TWO_MEMBERS
 
-SCENARIO = '''version = 1
-seed = 7
-end = 3
-[swim]
-period = 1000
-timeout = 300
-[link]
-delay = 1
-[[group]]
-name = "n"
-count = 2
-'''
 RUN = ('run', 's.toml', '--trace')
 OLD = b'an older result\n'
 
@@ -56,7 +45,7 @@ def folder_of(room, name):
     """A folder with the scenario."""
     folder = room / name
     folder.mkdir()
-    (folder / 's.toml').write_text(SCENARIO)
+    (folder / 's.toml').write_text(TWO_MEMBERS)
     return folder
 
 
@@ -69,10 +58,10 @@ def names(uses, room, whole):
         (folder / 'x').write_bytes(OLD)
         left = uses.call(folder, [*RUN, 'x', '--report', name_in(folder)])
         uses.judge(f'trace and report by {way}', left[0] == 1 and (folder / 'x').read_bytes() == OLD, left)
-        (folder / 'x').write_text(SCENARIO)
+        (folder / 'x').write_text(TWO_MEMBERS)
         for option in (['--trace', name_in_again(folder, way)], ['--trace', 't', '--report', name_in_again(folder, way)]):
             left = uses.call(folder, ['run', 'x', *option])
-            is_well = left[0] == 1 and (folder / 'x').read_text() == SCENARIO and not (folder / 't').exists()
+            is_well = left[0] == 1 and (folder / 'x').read_text() == TWO_MEMBERS and not (folder / 't').exists()
             uses.judge(f'the scenario as {option[-2][2:]} by {way}', is_well, left)
     folder = folder_of(room, 'output')
     with open(folder / 'out', 'wb') as out:
@@ -131,7 +120,7 @@ def pipes(uses, room, whole):
     for name in ('in', 'out'):
         os.mkfifo(folder / name)
     taken = []
-    threads = [threading.Thread(target=lambda: (folder / 'in').write_text(SCENARIO), daemon=True),
+    threads = [threading.Thread(target=lambda: (folder / 'in').write_text(TWO_MEMBERS), daemon=True),
                threading.Thread(target=lambda: taken.append((folder / 'out').read_bytes()), daemon=True)]
     for thread in threads:
         thread.start()
@@ -144,7 +133,7 @@ def pipes(uses, room, whole):
 def ends(uses, room, whole):
     """Runs that are killed, short of memory, or two at once."""
     folder = folder_of(room, 'ends')
-    long_run = SCENARIO.replace('end = 3', 'end = 400000').replace('count = 2', 'count = 500')
+    long_run = TWO_MEMBERS.replace('end = 3', 'end = 400000').replace('count = 2', 'count = 500')
     (folder / 'long.toml').write_text(long_run)
     started = subprocess.Popen([uses.program, 'run', 'long.toml', '--trace', 'k'], cwd=folder, stdout=subprocess.PIPE)
     time.sleep(0.3)
@@ -180,13 +169,13 @@ def words(uses, room, whole):
 def sizes(uses, room, whole):
     """More than there may be in a version of the format, and long lists."""
     folder = folder_of(room, 'sizes')
-    second = SCENARIO.replace('version = 1', 'version = 2')
+    second = TWO_MEMBERS.replace('version = 1', 'version = 2')
     cut = '[[cut]]\nfrom = "n"\nto = "n"\nat = 1\nuntil = 2\n'
     for what, text, status, line in (('4,097 members', second.replace('count = 2', 'count = 4097'), 3, b'swimsim: scenario rule 5\n'),
                                      ('twice 2,049', second.replace('count = 2', 'count = 2049').replace('[[group]]', '[[group]]\nname = "m"\ncount = 2049\n[[group]]'),
                                       3, b'swimsim: scenario rule 10\n'),
-                                     ('a cut in version 1', SCENARIO + cut, 3, b'swimsim: scenario rule 3\n'),
-                                     ('version 4', SCENARIO.replace('version = 1', 'version = 4'), 3, b'swimsim: scenario rule 5\n'),
+                                     ('a cut in version 1', TWO_MEMBERS + cut, 3, b'swimsim: scenario rule 3\n'),
+                                     ('version 4', TWO_MEMBERS.replace('version = 1', 'version = 4'), 3, b'swimsim: scenario rule 5\n'),
                                      ('50,000 cuts', second + cut * 50_000, 0, b'')):
         (folder / 'f').write_text(text)
         left = uses.call(folder, ['check', 'f'])
@@ -231,7 +220,7 @@ def removals(uses, room, whole):
 def replaced(uses, room, whole):
     """What reports and pages replace: an old one never stands beside a new trace, and a new one is whole."""
     folder = folder_of(room, 'replaced')
-    long_run = SCENARIO.replace('end = 3', 'end = 400000').replace('count = 2', 'count = 500')
+    long_run = TWO_MEMBERS.replace('end = 3', 'end = 400000').replace('count = 2', 'count = 500')
     (folder / 'long.toml').write_text(long_run)
     for name in ('t', 'r', 'p'):
         (folder / name).write_bytes(OLD)

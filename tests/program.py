@@ -10,6 +10,20 @@ from harness import TESTS, call
 
 DATA = TESTS
 
+# two members, three ticks
+TWO_MEMBERS = '''version = 1
+seed = 7
+end = 3
+[swim]
+period = 1000
+timeout = 300
+[link]
+delay = 1
+[[group]]
+name = "n"
+count = 2
+'''
+
 # a case: what it is called, the function that makes it, and what that takes beside the program
 Case = namedtuple('Case', 'name check arguments')
 

@@ -19,20 +19,8 @@ import time
 from pathlib import Path
 
 from harness import call, end, parser_of, program_at
-from program import call_with_room
+from program import TWO_MEMBERS, call_with_room
 
-SCENARIO = '''version = 1
-seed = 7
-end = 3
-[swim]
-period = 1000
-timeout = 300
-[link]
-delay = 1
-[[group]]
-name = "n"
-count = 2
-'''
 LONG = ('--seeds', '1..20000')
 WIDE = ('--until', '1', '--set', 'swim.timeout=100,200,300,400', '--seeds', '1..4000')
 # how many bytes the small file system has: the long table has some fewer
@@ -45,7 +33,7 @@ class Sweep:
     def __init__(self, program, folder, options, key=None):
         self.program, self.folder = program, folder
         self.words = ['sweep', 's.toml', '--shard', '1/1', *options, '--resume', '--table']
-        (folder / 's.toml').write_text(SCENARIO)
+        (folder / 's.toml').write_text(TWO_MEMBERS)
         (folder / 'whole.csv').unlink(missing_ok=True)
         started = time.monotonic()
         ran = call([program, *self.words, 'whole.csv'], cwd=folder)
