@@ -25,6 +25,7 @@ pub(crate) fn least_key<E: Keyed>(events: &[E]) -> Option<Key>
 }
 
 /// The place of the event with the least key.
+#[inline(always)]
 pub(crate) fn least_place<E: Keyed>(events: &[E]) -> usize
     requires { 0 < length events.now }
     ensures within { result < length events.now }

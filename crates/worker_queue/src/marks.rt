@@ -24,6 +24,7 @@ impl Marks {
     }
 
     /// Marks a place.
+    #[inline(always)]
     pub(crate) fn set(&mut self, place: usize)
         requires { place < 1024 }
         ensures same { mark_at self.new.words place ≡ 1 }

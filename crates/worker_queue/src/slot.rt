@@ -35,6 +35,7 @@ impl<E: Keyed + Drop> Slot<E> {
 
     /// Takes in an event with a new key. Where memory is refused, the event is handed back, and the slot
     /// has the same events.
+    #[inline(always)]
     pub(crate) fn push(&mut self, event: E) -> Result<(), E>
         requires { contains_key (by_key E.key self.old.events.items) (E.key event) ≡ false }
         ensures ok { OnOk result (by_key E.key self.new.events.items ≡ insert (by_key E.key self.old.events.items) (E.key event) event) }
@@ -64,6 +65,7 @@ impl<E: Keyed + Drop> Slot<E> {
     }
 
     /// Takes out the event with the least key, if that is before the limit: `None` where no event's is.
+    #[inline(always)]
     pub(crate) fn pop_before(&mut self, limit: &Key) -> Option<E>
         requires { IsOfOneMoment (by_key E.key self.old.events.items) }
         ensures first { IfSome result (λ event. IsFirst (by_key E.key self.old.events.items) (E.key event) event) }
@@ -85,6 +87,7 @@ impl<E: Keyed + Drop> Slot<E> {
 
     /// The same, of a slot that has an event and is not sorted. The last event takes the place of the one that
     /// leaves, and no other moves.
+    #[inline(always)]
     fn pop_least_before(&mut self, limit: &Key) -> Option<E>
         requires some { 0 < length self.old.events.items }
         requires unsorted { self.old.is_sorted ≡ false }
@@ -102,6 +105,7 @@ impl<E: Keyed + Drop> Slot<E> {
     }
 
     /// The same, of a slot that is sorted.
+    #[inline(always)]
     fn pop_last_before(&mut self, limit: &Key) -> Option<E>
         requires { self.old.is_sorted ≡ true }
         ensures first { IfSome result (λ event. IsFirst (by_key E.key self.old.events.items) (E.key event) event) }

@@ -46,6 +46,7 @@ impl<E: Keyed + Drop> Stores<E> {
 
     /// Takes in an event with a new key. Where memory is refused, the event is handed back, and all stays
     /// as it is.
+    #[inline(always)]
     pub(crate) fn push(&mut self, event: E) -> Result<(), E>
         requires { contains_key (all_in E.key self.old) (E.key event) ≡ false }
         ensures ok { OnOk result (all_in E.key self.new ≡ insert (all_in E.key self.old) (E.key event) event) }
@@ -71,6 +72,7 @@ impl<E: Keyed + Drop> Stores<E> {
 
     /// Takes out the event with the least key, if its moment is below the bound: `None` where no event's
     /// is. It takes no memory.
+    #[inline(always)]
     pub(crate) fn pop_below(&mut self, bound: Moment) -> Option<E>
         ensures first { IfSome result (λ event. IsFirst (all_in E.key self.old) (E.key event) event) }
         ensures below { IfSome result (λ event. (E.key event).at < bound) }
@@ -105,6 +107,7 @@ impl<E: Keyed + Drop> Stores<E> {
     }
 
     /// The key that an event in a slot has to come before, to be the first of all and below the bound.
+    #[inline(always)]
     fn limit(&self, bound: Moment) -> Key
         ensures late { NoneIsBefore (set_of self.now.late) result }
         ensures below { (q : AKey) → IsBefore q result → q.at < bound }

@@ -59,6 +59,7 @@ impl<E: Keyed + Drop> Wheel<E> {
     }
 
     /// Whether it has a slot for that moment.
+    #[inline(always)]
     pub(crate) fn spans(&self, at: Moment) -> bool
         ensures { IsTrue result ↔ Spans self.now.base at }
     {
@@ -68,6 +69,7 @@ impl<E: Keyed + Drop> Wheel<E> {
 
     /// Takes in an event with a new key, in the slot of its moment. Where memory is refused, the event is
     /// handed back, and the wheel has the same events.
+    #[inline(always)]
     pub(crate) fn push(&mut self, event: E) -> Result<(), E>
         requires spans { Spans self.old.base (E.key event).at }
         requires new { contains_key (events_in E.key self.old.slots.items) (E.key event) ≡ false }
@@ -92,6 +94,7 @@ impl<E: Keyed + Drop> Wheel<E> {
 
     /// Takes out the event with the least key, if that is before the limit: `None` where no event's is.
     /// From then on the wheel spans the moments from that event's on.
+    #[inline(always)]
     pub(crate) fn pop_before(&mut self, limit: &Key) -> Option<E>
         ensures first { IfSome result (λ event. IsFirst (events_in E.key self.old.slots.items) (E.key event) event) }
         ensures before { IfSome result (λ event. IsBefore (E.key event) limit.now) }
@@ -104,6 +107,7 @@ impl<E: Keyed + Drop> Wheel<E> {
     }
 
     /// The same, from the slot with the least event.
+    #[inline(always)]
     fn pop_at(&mut self, place: usize, limit: &Key) -> Option<E>
         requires { IsFirstPlace self.old.base (lists_of self.old.slots.items) place }
         ensures first { IfSome result (λ event. IsFirst (events_in E.key self.old.slots.items) (E.key event) event) }
@@ -132,6 +136,7 @@ impl<E: Keyed + Drop> Wheel<E> {
     }
 
     /// The place of the slot with the least event.
+    #[inline(always)]
     fn first_place(&self) -> Option<usize>
         ensures first { IfSome result (IsFirstPlace self.now.base (lists_of self.now.slots.items)) }
         ensures none { IfNone result ((place : ℕ) → place < 1024 → slot_at (lists_of self.now.slots.items) place ≡ []) }

@@ -33,6 +33,7 @@ impl<E: Keyed + Drop> EventQueue<E> for WheelQueue<E> {
 
     ghost set = { wheel_set_of E.key };
 
+    #[inline(always)]
     fn push(&mut self, event: E) -> Result<(), E> {
         // (so many events have no room in memory)
         if self.count == usize::MAX {
@@ -47,6 +48,7 @@ impl<E: Keyed + Drop> EventQueue<E> for WheelQueue<E> {
         self.stores.least()
     }
 
+    #[inline(always)]
     fn pop_below(&mut self, bound: Moment) -> Option<E> {
         let popped = self.stores.pop_below(bound);
         if popped.is_some() {
