@@ -59,6 +59,7 @@ impl OwnMembers {
     }
 
     /// Appends to `out` what the event's receiver makes of it: nothing where that is none of these members.
+    #[inline(always)]
     pub(crate) fn handle(
         &mut self,
         alloc: Global,

@@ -118,6 +118,7 @@ impl<Q: EventQueue<Event> + Drop> Part<Q> {
     /// other member goes out.
     ///
     /// Refusals: `Memory`; `Worn` where a counter of the window would pass 2^63.
+    #[inline(always)]
     pub fn run(self, alloc: Global, bound: Moment, cluster: Cluster) -> Result<Done<Q>, StepError>
         requires sound { IsSound cluster.scenario.now }
         requires consistent { IsConsistentPart cluster.scenario.now (world_of Q.set self) }
@@ -179,6 +180,7 @@ fn script_event(member: MemberId, at: Moment, number: u64, content: Content) -> 
 }
 
 /// Lets one more event pend.
+#[inline(always)]
 pub(crate) fn push<Q: EventQueue<Event>>(queue: &mut Q, event: Event) -> Result<(), Memory>
     requires { contains_key (contents_in (Q.set queue.old)) event.key ≡ false }
     ensures { OnOk result (contents_in (Q.set queue.new) ≡ insert (contents_in (Q.set queue.old)) event.key event.content) }

@@ -27,6 +27,7 @@ use std::alloc::Global;
 use worker_queue::EventQueue;
 
 /// Runs the window that begins in this part.
+#[inline(always)]
 pub(crate) fn run_from<Q: EventQueue<Event> + Drop>(
     alloc: Global,
     mut part: Part<Q>,
@@ -63,6 +64,7 @@ pub(crate) fn nothing(alloc: Global) -> Effects
 
 /// The next step of the window: the least pending event is handled, if its moment is before the bound.
 /// The spare lists serve the step, as in `handle_taken`.
+#[inline(always)]
 fn advance<Q: EventQueue<Event>>(
     alloc: Global,
     part: &mut Part<Q>,
@@ -92,6 +94,7 @@ fn advance<Q: EventQueue<Event>>(
 /// Handles an event that was just taken out of the part's queue. What its receiver makes for members of
 /// the part pends there, and the rest goes out. The spare lists are emptied, and then hold what the receiver
 /// makes: as long as they are handed in again, their room serves step after step.
+#[inline(always)]
 pub(crate) fn handle_taken<Q: EventQueue<Event>>(
     alloc: Global,
     part: &mut Part<Q>,
@@ -132,6 +135,7 @@ fn empty<T: Drop>(list: &mut Vec<T>)
 
 /// Moves items behind those of a list. Where there is one, it moves by itself: a list's bytes, copied as a block
 /// right after they were written in parts, wait until all writes before them are done.
+#[inline(always)]
 fn move_behind<T: Drop>(items: &mut Vec<T>, list: &mut Vec<T>) -> Result<(), Memory>
     ensures { OnOk result (list.new.items ≡ list.old.items ++ items.old.items) }
 {
@@ -146,6 +150,7 @@ fn move_behind<T: Drop>(items: &mut Vec<T>, list: &mut Vec<T>) -> Result<(), Mem
 }
 
 /// Lets the events for these members pend, and sends the others out. They leave their list.
+#[inline(always)]
 fn deliver<Q: EventQueue<Event>>(
     members: &OwnMembers,
     queue: &mut Q,
@@ -166,6 +171,7 @@ fn deliver<Q: EventQueue<Event>>(
 }
 
 /// Whether all these events are for these members.
+#[inline(always)]
 fn have_all(members: &OwnMembers, events: &[Event]) -> bool
     ensures { result ≡ list_all (λ (event : Event). contains_key (states_in members.now) event.key.to) events.now }
 {
@@ -173,6 +179,7 @@ fn have_all(members: &OwnMembers, events: &[Event]) -> bool
 }
 
 /// Lets events pend, the last first: so none of them moves but into the queue.
+#[inline(always)]
 fn push_pending<Q: EventQueue<Event>>(queue: &mut Q, events: &mut Vec<Event>) -> Result<(), Memory>
     requires new { AreNew (contents_in (Q.set queue.old)) (map pair_of events.old.items) }
     ensures { OnOk result (contents_in (Q.set queue.new) ≡ with_events (contents_in (Q.set queue.old)) (map pair_of events.old.items)) }
@@ -185,6 +192,7 @@ fn push_pending<Q: EventQueue<Event>>(queue: &mut Q, events: &mut Vec<Event>) ->
 
 /// The same event, its key put together anew. A key that moves as one block of bytes, right after its parts
 /// were written, waits until all writes before it are done.
+#[inline(always)]
 pub(crate) fn in_parts(event: Event) -> Event
     ensures { result ≡ event }
 {
