@@ -1,7 +1,7 @@
 #!/usr/bin/env python3
 """Runs the commands that README.md and docs/GUIDE.md, FORMAT.md, SWEEPS.md and MEMBERLIST.md show, and compares the outputs shown with them.
 
-    tests/documents.py [--program FILE]
+    tests/documents.py [--program FILE] [DOCUMENT..]
 
 The program is the one that ./swimsim has built, or FILE. Each document has a folder of its own with the examples, in which
 its blocks of commands run from the first to the last, each to status 0. A block without a language is lines, in their
@@ -9,7 +9,7 @@ order, of what was last printed or written: by the command in the text right bef
 the section's heading names, else by the block of commands above. One that begins with `error[` is all that `explain` tells
 of the text of tests/explain/refused that it names. The picture is one that tools/picture makes now. Blocks of other commands, as ./test, are left out; those that want a
 command which isn't there are skipped, and told. The last line is `N passed, M failed`, and the status is 1 where M is over
-0. It takes seconds.
+0. With DOCUMENT, as docs/GUIDE.md, these alone are read, without the picture. All take some two minutes of one processor.
 """
 
 import os
@@ -139,8 +139,13 @@ def check_picture(program):
 
 def main():
     """Reads the documents, and tells what is wrong in them."""
-    program = program_at(parser_of(__doc__).parse_args().program)
-    results = [*(read_document(name, program) for name in DOCUMENTS), check_picture(program)]
+    parser = parser_of(__doc__)
+    parser.add_argument('documents', nargs='*', metavar='DOCUMENT', help='default: all, and the picture')
+    asked = parser.parse_args()
+    program = program_at(asked.program)
+    results = [read_document(name, program) for name in asked.documents or DOCUMENTS]
+    if not asked.documents:
+        results.append(check_picture(program))
     failures = [line for _, lines, _ in results for line in lines]
     skipped = [line for _, _, lines in results for line in lines]
     print(*failures, *skipped, sep='\n', end='\n' if failures or skipped else '')

@@ -63,13 +63,12 @@ def what_was_built_is_what_is_shipped(room):
     assert (room / 'stripped').read_bytes() == SHIPPED.read_bytes()
 
 
-def a_bare_machine_has_its_first_page(room):
+def a_bare_machine_answers_its_first_question(room):
     copy, readme = clone(room), (TOP / 'README.md').read_text()
-    words = re.search(r'^```sh\n\./swimsim (.*?)\n```$', readme, re.M)[1].split()
-    ran = run_bare(copy, 'swimsim', *words)
-    assert (ran.status, ran.err) == (0, ''), ran
-    assert f'`{ran.out.strip()}`' in readme, 'README tells what its first command prints'
-    assert (copy / words[-1]).read_text().startswith('<!DOCTYPE html>'), 'the first command leaves a page'
+    words, answer = re.search(r'^```sh\n(.*?)^```\n\n```\n(.*?)^```$', readme, re.M | re.S).groups()
+    (room / 'plain' / 'column').symlink_to(shutil.which('column'))
+    ran = run_bare(copy, copy.parent / 'plain' / 'bash', '-c', words)
+    assert (ran.status, ran.err, ran.out) == (0, '', answer), ran
 
 
 def a_changed_byte_is_not_run(room):
@@ -108,7 +107,7 @@ def it_is_installed_where_people_look(room):
 
 CASES = (
     the_record_is_that_of_these_sources, the_program_tells_its_digest_and_kit, what_was_built_is_what_is_shipped,
-    a_bare_machine_has_its_first_page, a_changed_byte_is_not_run, changed_sources_are_not_run,
+    a_bare_machine_answers_its_first_question, a_changed_byte_is_not_run, changed_sources_are_not_run,
     the_manual_page_is_that_of_the_program, it_is_installed_where_people_look,
 )
 
