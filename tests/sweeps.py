@@ -86,7 +86,7 @@ def expect_progress(lines, runs, wanted):
     if wanted is not None:
         expect('progress', lines, wanted.encode())
     made = [int(line.split(b'/')[0]) for line in lines.splitlines()]
-    whole = ''.join(f'{it}/{runs} runs\n' for it in made).encode()
+    whole = ''.join(f'{it}/{runs} runs, {it * 100 // runs} %\n' for it in made).encode()
     if lines != whole or made != sorted(set(made)) or made[-1:] != [runs]:
         raise Wrong(f'progress: {lines}')
 

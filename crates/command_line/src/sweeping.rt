@@ -68,7 +68,7 @@ fn with_runs<'a>(
         resumed,
         "workers",
         "N",
-        "How many workers make the runs, 1 to 64 [default: 1]",
+        "How many workers make the runs, 1 to 64 [default: one for each processor]",
     )
 }
 

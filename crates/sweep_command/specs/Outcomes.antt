@@ -1,5 +1,5 @@
 -- What a sweep has done once it ends, and why one was not done.
-use Rattle.std.specs.Prelude.{◌≡◌, ◌⊎◌, ◌++◌, ℕ, Bool, List, [], false, true, Option, Some, None, length, map, string_bytes, take}
+use Rattle.std.specs.Prelude.{◌≡◌, ◌⊎◌, ◌++◌, ◌≤◌, ℕ, Bool, List, [], false, true, Option, Some, None, length, map, string_bytes, take}
 use Rattle.std.specs.Option.{ForSome}
 use Rattle.std.specs.Borrow.{Bor}
 use Rattle.std.specs.Io.KnownBytes.{Appends, Keeps}
@@ -23,7 +23,7 @@ use Rattle.sweep.specs.Table.{tells_revived, HasCause}
 use Rattle.sweep.specs.declared.begun.BegunFault.TheVariants as begun_fault
 use Rattle.figures.specs.declared.summary.CaseSummary.{CaseSummary}
 use Rattle.command_line.specs.Words.{AsksForSweep}
-use Rattle.command_line.specs.Division.{AsksForWorkers}
+use Rattle.command_line.specs.Division.{IsCount}
 use Rattle.command_line.specs.Failures.{RefusesWorkers}
 use Rattle.command_line.specs.declared.words.SweepWords.{SweepWords}
 use Rattle.command_line.specs.declared.failure.Failure.{Failure}
@@ -40,10 +40,16 @@ AsksForProgress words = (sweep : SweepWords) × AsksForSweep words sweep × (swe
 
 -- ---- what was done
 
+-- So many workers make the runs: as many as the word asks for. Without a word any number of them will do, since the table doesn't
+-- depend on it.
+abbrev pub MakeRuns : Option Text → ℕ → Type 0
+MakeRuns None workers = (1 ≤ workers) × (workers ≤ 64)
+MakeRuns (Some word) workers = IsCount word workers
+
 -- The checks of a sweep, before its table is looked at: the words name so many workers, the file holds this document, whose text has
 -- this mark, the document has the items whose keys are set, each once, and that of each run is accepted.
 pub record PassesSweepChecks (before : Shelf) (sweep : SweepWords) (workers : ℕ) (tree : Data) (mark : List ℕ) : Type 0 where
-  pub asked : AsksForWorkers (word_given sweep.workers) workers
+  pub asked : MakeRuns (word_given sweep.workers) workers
   pub read : HasMarkedDocument (before sweep.file.now) tree mark
   pub there : missing_of tree sweep.plan.settings ≡ None
   pub accepted : AreAccepted tree sweep.plan
@@ -220,10 +226,10 @@ RefusesCase tree plan _ = ⊥
 abbrev pub FailsSweepCheck : Shelf → SweepWords → Failure → Type 0
 FailsSweepCheck before sweep failure =
     RefusesWorkers (word_given sweep.workers) failure
-    ⊎ (((workers : ℕ) × AsksForWorkers (word_given sweep.workers) workers × HasNoDocument (before sweep.file.now) sweep.file.now failure)
-    ⊎ (((workers : ℕ) × (tree : Data) × AsksForWorkers (word_given sweep.workers) workers × HasDocument (before sweep.file.now) (Some tree)
+    ⊎ (((workers : ℕ) × MakeRuns (word_given sweep.workers) workers × HasNoDocument (before sweep.file.now) sweep.file.now failure)
+    ⊎ (((workers : ℕ) × (tree : Data) × MakeRuns (word_given sweep.workers) workers × HasDocument (before sweep.file.now) (Some tree)
     × LacksItem tree sweep.plan failure)
-    ⊎ ((workers : ℕ) × (tree : Data) × AsksForWorkers (word_given sweep.workers) workers × HasDocument (before sweep.file.now) (Some tree)
+    ⊎ ((workers : ℕ) × (tree : Data) × MakeRuns (word_given sweep.workers) workers × HasDocument (before sweep.file.now) (Some tree)
     × (missing_of tree sweep.plan.settings ≡ None) × RefusesCase tree sweep.plan failure)))
 
 -- a text is no beginning of the piece's table, and is told by the name of its file

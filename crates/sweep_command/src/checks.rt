@@ -8,13 +8,15 @@ ghost use Rattle.sweep.specs.Runs.{IsAskedFor, planned_as};
 ghost use Rattle.sweep.specs.Judged.{AreAccepted, IsFirstRefused};
 ghost use Rattle.sweep_command.specs.Outcomes.{FailsSweepCheck, LacksItem, PassesSweepChecks, RefusesCase};
 
+use crate::workers::sweep_workers;
 use base::Memory;
 use cases::{Plan, SettingKey, missing_item, settings_text};
-use command_line::{Failure, SweepWords, workers_asked};
+use command_line::{Failure, SweepWords};
 use files::Files;
 use scenario::Workers;
 use scenario_files::{MarkedDocument, load_document};
 use std::alloc::Global;
+use std::thread::Threads;
 use sweep::{Refused, judge};
 use toml::Value;
 
@@ -33,6 +35,7 @@ pub(crate) struct PreparedSweep {
 /// The checks of a sweep, in their order: how many workers, which document, whether it has the items whose keys are set,
 /// whether that of each run is accepted.
 pub(crate) fn prepare_sweep<'a, F: Files>(
+    rt: &impl Threads,
     alloc: Global,
     words: &SweepWords<'a>,
     files: &mut F,
@@ -44,7 +47,7 @@ pub(crate) fn prepare_sweep<'a, F: Files>(
     ensures making { F.making files.new ≡ F.making files.old }
     ensures counted { F.refused files.new ≡ F.refused files.old }
 {
-    let workers = workers_asked(words.workers)?;
+    let workers = sweep_workers(rt, words.workers)?;
     let marked = load_document(alloc, words.file, files)?;
     find_items(alloc, &words.plan, &marked.document)?;
     judge_cases(alloc, &words.plan, &marked.document)?;

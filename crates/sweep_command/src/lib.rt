@@ -7,5 +7,6 @@ mod paging;
 mod progressing;
 mod resuming;
 mod sweeping;
+mod workers;
 
 pub use sweeping::sweep_file;

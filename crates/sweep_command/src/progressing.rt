@@ -3,7 +3,7 @@
 use std::io::Write;
 use sweep::Progress;
 
-/// Tells on a writer how many runs were made, a line each time, as far as the writer takes it.
+/// Prints on a writer how many runs were made, a line each time, as far as the writer takes it.
 #[derive(Drop)]
 pub(crate) struct RunLines<'p, P: Write> {
     /// The writer.
@@ -12,6 +12,7 @@ pub(crate) struct RunLines<'p, P: Write> {
 
 impl<P: Write> Progress for RunLines<'_, P> {
     fn runs_made(&mut self, made: usize, all: usize) {
-        let _ = writeln!(self.out, "{made}/{all} runs");
+        let percent = made.saturating_mul(100) / all.max(1);
+        let _ = writeln!(self.out, "{made}/{all} runs, {percent} %");
     }
 }

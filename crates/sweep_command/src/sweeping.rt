@@ -51,7 +51,7 @@ pub fn sweep_file<'a, F: Files, P: Write>(
     ensures failed { IfErr result (SweepFails (F.refused files.old < F.refused files.new) (F.known files.old) (F.known files.new) (F.making files.old) words.now) }
     ensures unasked { words.now.progress ≡ false → progress.new ≡ progress.old }
 {
-    let prepared = prepare_sweep(alloc, words, files)?;
+    let prepared = prepare_sweep(rt, alloc, words, files)?;
     let stood = find_standing(alloc, words, &prepared.marked, files)?;
     store_asked(rt, alloc, release, words, &prepared, stood, files, progress)
 }

@@ -1,7 +1,7 @@
 //! What is told of a run while its rows come.
 ghost use Rattle.std.specs.Prelude.{◌≡◌, OnOk};
 ghost use Rattle.std.specs.Io.KnownBytes.{Appends};
-ghost use Rattle.watched_runs.specs.Lines.{passed_line};
+ghost use Rattle.watched_runs.specs.Lines.{passed_line, shares_passed};
 
 use base::Fault;
 use outputs::GatherRows;
@@ -10,9 +10,8 @@ use std::io;
 use std::io::Write;
 use trace::Row;
 
-/// How many rows pass from one line to the next. No run makes more than twice as many in a second,
-/// so there are two lines in a second at most.
-const ROWS_A_LINE: u64 = 4_000_000;
+/// How many lines a run prints from its beginning to its end.
+const LINES: u64 = 50;
 
 /// Nothing is gathered of the rows of a run.
 #[derive(Drop)]
@@ -26,15 +25,17 @@ impl GatherRows for NothingGathered {
     }
 }
 
-/// What is gathered of the rows of a run, and a writer that is told how far the run has come: with a
-/// line each time that so many rows more have passed, as far as it takes that.
+/// What is gathered of the rows of a run, and a writer that gets a line for each fiftieth of the run that
+/// has passed, as far as it takes that.
 #[derive(Drop)]
 pub struct Watched<'p, P: Write, G> {
     /// The writer.
     out: &'p mut P,
     /// How many rows have passed.
     rows: u64,
-    /// What is gathered of them.
+    /// How many fiftieths of the run were passed when the last line was printed.
+    printed: u64,
+    /// What is gathered of the rows.
     pub gathered: G,
 }
 
@@ -46,6 +47,7 @@ impl<'p, P: Write, G: GatherRows> Watched<'p, P, G> {
         Watched {
             out,
             rows: 0,
+            printed: 0,
             gathered,
         }
     }
@@ -63,26 +65,37 @@ impl<P: Write, G: GatherRows> GatherRows for Watched<'_, P, G> {
 
     fn add(&mut self, row: &Row, scenario: &Scenario) -> Result<(), Fault> {
         self.rows = self.rows.saturating_add(1);
-        if self.rows % ROWS_A_LINE == 0 {
-            let at = row.at.ticks();
-            let end = scenario.end().ticks();
+        let at = row.at.ticks();
+        let end = scenario.end().ticks();
+        let passed = shares_passed(at, end, LINES);
+        if passed > self.printed {
+            self.printed = passed;
             // The run goes on whether the line is taken or not.
-            let _ = tell_passed(self.out, at, end, self.rows);
+            let _ = print_passed(self.out, at, end, self.rows);
         }
         self.gathered.add(row, scenario)
     }
 }
 
-/// Tells how far a run has come: at which moment in ticks it is, up to which it goes, and how many
-/// rows have passed.
+/// How many of so many equal shares of a run are over at a moment of it.
+fn shares_passed(at: u64, end: u64, shares: u64) -> u64
+    ensures { result ≡ shares_passed at end shares }
+{
+    let passed = u128::from(at) * u128::from(shares) / u128::from(end.max(1));
+    passed.min(u128::from(shares)) as u64
+}
+
+/// Prints how far a run has come: in percent, at which moment in ticks it is, up to which it goes, and how
+/// many rows have passed.
 #[tactic(auto, unfolding(crate::specs::Lines::passed_line))]
-fn tell_passed<P: Write>(out: &mut P, at: u64, end: u64, rows: u64) -> io::Result<()>
+fn print_passed<P: Write>(out: &mut P, at: u64, end: u64, rows: u64) -> io::Result<()>
     ensures { OnOk result (Appends (P.contents out.old) (P.contents out.new) (passed_line at end rows)) }
 {
+    let percent = shares_passed(at, end, 100);
     let millions = rows / 1_000_000;
     let tenths = rows % 1_000_000 / 100_000;
     writeln!(
         out,
-        "moment {at} of {end}, {millions}.{tenths} million rows"
+        "{percent} %, moment {at} of {end}, {millions}.{tenths} million rows"
     )
 }
