@@ -10,7 +10,7 @@ whatever else this one does (stand_in.py), so that a run by several workers star
 - a run of four sites by four workers starts more than two threads, of which each simulates, and a sweep too;
 - each of four long runs of a sweep is made by a thread of its own;
 - no more threads start than there are processors, or of two both and the one that writes;
-- all rows of a long run by several threads never wait in memory at once;
+- all rows of a long run never wait in memory at once, by one worker and by several;
 - where a file takes no more, a run by several threads ends with status 5, however many rows are still to come, and the
   trace is a beginning;
 - a sweep with `--until` makes not many more runs than it shows.
@@ -113,21 +113,31 @@ def few_processors(bench):
         assert threads <= processors, (processors, threads)
 
 
-def memory(bench):
-    """The rows of a long run don't all wait in memory: the most memory that a run takes is less."""
+def most_memory(bench, workers):
+    """How many threads a long run by so many workers starts, and the most memory that it takes, in bytes."""
     started = bench.folder / 'started'
+    started.unlink(missing_ok=True)
     environment = bench.stand_in.environment(STARTED=started, **bench.stand_in.processors(4))
-    bench.trace = '/dev/null'
-    with subprocess.Popen(bench.run(MANY_ROWS, 4), env=environment, stdout=subprocess.PIPE) as running:
+    with subprocess.Popen(bench.run(MANY_ROWS, workers), env=environment, stdout=subprocess.PIPE) as running:
         rows = int(running.stdout.read().split()[1])
         _, status, used = os.wait4(running.pid, 0)
         running.returncode = os.waitstatus_to_exitcode(status)
+    assert rows >= LEAST_ROWS, rows
     threads = started.stat().st_size if started.exists() else 0
+    print(f'{rows} rows by {threads} threads, {used.ru_maxrss} kB')
+    return threads, used.ru_maxrss * 1024
+
+
+def memory(bench):
+    """The rows of a long run don't all wait in memory, by one worker and by several: the most memory that it takes is
+    less."""
+    bench.trace = '/dev/null'
+    _, alone = most_memory(bench, 1)
+    assert alone <= MOST_MEMORY, alone
+    threads, together = most_memory(bench, 4)
     if threads < 3:
         raise Skipped(f'{threads} threads were started')
-    assert rows >= LEAST_ROWS, rows
-    assert used.ru_maxrss * 1024 <= MOST_MEMORY, used.ru_maxrss
-    print(f'{rows} rows by {threads} threads, {used.ru_maxrss} kB')
+    assert together <= MOST_MEMORY, together
 
 
 def cut_off(bench):

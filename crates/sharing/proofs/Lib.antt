@@ -1,3 +1,4 @@
 mod Counting
 mod Dividing
+mod Keeping
 mod Together

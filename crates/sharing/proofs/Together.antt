@@ -23,3 +23,11 @@ module _ (places parts placed after : List ℕ) (part place : ℕ) (within : par
   below_too most low so_far =
       let under = low part place within in
       rw pushed (All-push (λ p. p < most) placed place so_far (omega (arith, under, read)))
+
+-- members one after the other, each with its own part
+pub next_too : (parts so_far after : List ℕ) (part member : ℕ) → slice_get parts member ≡ Some part → after ≡ so_far ++ part ∷ [] → so_far ≡ take member parts → after ≡ take (member + 1) parts
+next_too parts so_far after part member here pushed taken =
+    let inside : member < length parts = slice_get_within parts member part here in
+    let at : get_or parts member 0 ≡ part = get_or_from_slice_get parts member part 0 here in
+    let more = take_more parts member 0 inside in
+    rw (more, at, ← taken) pushed

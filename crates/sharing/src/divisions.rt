@@ -1,9 +1,9 @@
 //! Divisions of a scenario's members into parts.
-ghost use Rattle.std.specs.Prelude.{◌≡◌, ◌<◌, ◌≤◌, IfOk, All, vec_len};
+ghost use Rattle.std.specs.Prelude.{◌≡◌, ◌<◌, ◌≤◌, IfOk, All, length, vec_len};
 ghost use Rattle.scenario.specs.Setup.{member_count};
 ghost use Rattle.sharing.specs.Parts.{Divides};
 
-use base::Memory;
+use base::{MemberId, Memory};
 use scenario::{Division, Scenario};
 use std::alloc::Global;
 
@@ -26,4 +26,22 @@ pub(crate) fn in_turn(alloc: Global, scenario: &Scenario, parts: usize) -> Resul
     ensures { IfOk result (Divides scenario.now parts) }
 {
     Division::in_turn(alloc, scenario, parts)
+}
+
+/// The same parts once more.
+pub(crate) fn same_parts(
+    alloc: Global,
+    scenario: &Scenario,
+    division: &Division,
+) -> Result<Division, Memory>
+    requires divides { length division.now.part_of ≡ member_count scenario.now }
+    ensures { IfOk result (λ parts. parts ≡ division.now) }
+{
+    let parts = division.parts();
+    let mut part_of = Vec::new(alloc);
+    for member in 0..scenario.members() {
+        let part = division.part(MemberId(member as u16));
+        part_of.push(part as u8)?;
+    }
+    Ok(divided(scenario, parts, part_of))
 }

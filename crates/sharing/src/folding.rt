@@ -19,6 +19,7 @@ pub(crate) fn folded(
     requires divides { length division.now.part_of ≡ member_count scenario.now }
     requires few { (1 ≤ most) × (most ≤ 64) }
     ensures divides { IfOk result (Divides scenario.now most) }
+    ensures parts { IfOk result (λ together. together.parts ≡ most) }
     ensures whole { IfOk result (PutsTogether division.now) }
 {
     let sizes = sizes_of(alloc, scenario, division)?;

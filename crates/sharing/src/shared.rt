@@ -21,12 +21,13 @@ use trace::Sink;
 use whole_runs::{run_streamed, run_streamed_gathered};
 
 /// Runs the scenario by so many workers, in the way that is likely to take the least time. One
-/// alone simulates and writes. Of several no more go than there are processors, and each that
-/// simulates has a part of the members for itself: as the division has them, or by the cluster's
-/// sites, or in turn, whichever have the longest rounds. Where no such rounds are long enough, one
-/// worker runs all members while the calling thread writes. What is written is always the same: the trace, and once that is whole and its
-/// sink flushed the report, whose sink is flushed too. After a fault the sinks have got a beginning
-/// of that.
+/// alone simulates and writes. Of several no more go than there are processors. Those that simulate
+/// share the parts of the division, where it has more than there are workers, or fewer into which
+/// these are joined; else each has a part for itself, as the division has them, or by the cluster's
+/// sites, or in turn, whichever have the longest rounds.
+/// Where no rounds are long enough, one worker runs all members while the calling thread writes.
+/// What is written is always the same: the trace, and once that is whole and its sink flushed the
+/// report, whose sink is flushed too. After a fault the sinks have got a beginning of that.
 ///
 /// Faults: as of `rings::run_by_rings`.
 pub fn run_shared<A: Sink, B: Sink, R: Threads + Wait + Sync>(
@@ -57,10 +58,9 @@ pub fn run_shared<A: Sink, B: Sink, R: Threads + Wait + Sync>(
     if workers.count() == 1 {
         return run_streamed(alloc, scenario, trace, report);
     }
-    match chosen_parts(alloc, scenario, division, simulating(rt, workers)) {
-        Ok(parts) => run_by_rings(
-            rt, alloc, scenario, &parts, workers, &OpenGate, trace, report,
-        ),
+    let hands = simulating(rt, workers);
+    match chosen_parts(alloc, scenario, division, workers, hands.count()) {
+        Ok(parts) => run_by_rings(rt, alloc, scenario, &parts, hands, &OpenGate, trace, report),
         Err(Memory) => end_run(alloc, Err(Fault::Memory), scenario, trace, report),
     }
 }
@@ -103,9 +103,10 @@ pub fn run_shared_gathered<A: Sink, B: Sink, C: GatherRows, R: Threads + Wait + 
     if workers.count() == 1 {
         return run_streamed_gathered(alloc, scenario, place, report);
     }
-    match chosen_parts(alloc, scenario, division, simulating(rt, workers)) {
+    let hands = simulating(rt, workers);
+    match chosen_parts(alloc, scenario, division, workers, hands.count()) {
         Ok(parts) => run_by_rings_gathered(
-            rt, alloc, scenario, &parts, workers, &OpenGate, place, report,
+            rt, alloc, scenario, &parts, hands, &OpenGate, place, report,
         ),
         Err(Memory) => end_tallied(
             alloc,
