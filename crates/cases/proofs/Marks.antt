@@ -55,10 +55,10 @@ uncut name none stem number is =
     let same = ap length is.written in
     NoCharPasses-char 46 name (length stem) none (lit< tt) (omega (arith, long, same)) (ap (λ l. get_or l (length stem) 0) (sym is.written) ∙ dot_there stem (decimal number))
 
-abbrev AtLastDot : List ℕ → List ℕ → List ℕ → Type 0
+abbrev pub AtLastDot : List ℕ → List ℕ → List ℕ → Type 0
 AtLastDot name stem digits = SplitsAroundMatch (RFindsChar 46) name stem digits
 
-parts_of : (name stem digits : List ℕ) → AtLastDot name stem digits → (name ≡ stem ++ 46 ∷ digits) × Lacks 46 digits
+pub parts_of : (name stem digits : List ℕ) → AtLastDot name stem digits → (name ≡ stem ++ 46 ∷ digits) × Lacks 46 digits
 parts_of name stem digits (i, j, found, front, back, _, _, _) =
     let at : drop i name ≡ 46 ∷ drop j name = drop_at_char 46 name i j found.1 (lit< tt) in (
       sym (take-append-drop i name) ∙ (λ k. sym front k ++ at k) ∙ ap (λ l. stem ++ 46 ∷ l) (sym back),

@@ -28,6 +28,6 @@ pub use keys::SettingKey;
 pub use missing::{items_meant, missing_item};
 pub use plan::Plan;
 pub use seeds::Seeds;
-pub use settings::Setting;
+pub use settings::{Setting, sets_again};
 pub use telling::{axis_text, names_text, place_count, values_text};
 pub use values::SettingValue;

@@ -95,8 +95,8 @@ pub(crate) fn is_set(alloc: Global, settings: &[Setting], key: SettingKey) -> Re
     Ok(false)
 }
 
-/// Whether two keys are one, or differ by `.1` behind their items' names alone.
-fn sets_again(alloc: Global, key: SettingKey, other: SettingKey) -> Result<bool, Memory>
+/// Whether two keys are one, or differ by `.1` behind their items' names alone: then a sweep sets only one of them.
+pub fn sets_again(alloc: Global, key: SettingKey, other: SettingKey) -> Result<bool, Memory>
     ensures { IfOk result (λ it. it ≡ sets_again key other) }
 {
     if is_same(key, other) {
