@@ -1,5 +1,5 @@
 -- What a document is answered doesn't depend on its seed.
-use Rattle.std.proofs.Common.{◌≡◌, ◌≢◌, ◌∙◌, ℕ, ◌<◌, ◌-◌, ◌||◌, ◌&&◌, Bool, true, false, List, [], ◌∷◌, map, flat_map, Option, Some, None, Result, Ok, Err, Ordering, Less, Equal, Greater, nat_cmp, true≢false, bytes_eq, refl, sym, ap, subst, arith, cond, if◌then◌else◌}
+use Rattle.std.proofs.Common.{◌≡◌, ◌≢◌, ◌∙◌, ℕ, ◌<◌, ◌-◌, ◌||◌, ◌&&◌, Bool, true, false, List, [], ◌∷◌, map, flat_map, Option, Some, None, Result, Ok, Err, Ordering, Less, Equal, Greater, nat_cmp, true≢false, bytes_eq, refl, sym, ap, subst, arith, if◌then◌else◌}
 use Rattle.std.specs.Prelude.{pos, drop, ◌^◌}
 use Rattle.std.specs.Cmp.Lexicographic.{slice_cmp}
 use Rattle.std.specs.List.{list_any}

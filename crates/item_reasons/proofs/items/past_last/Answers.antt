@@ -1,4 +1,4 @@
-use Rattle.std.proofs.Common.{rules, ◌≡◌, ◌≤◌, ◌∷◌, ◌++◌, append_assoc, string_bytes, subst, ◌∙◌, arith}
+use Rattle.std.proofs.Common.{rules, ◌≡◌, ◌≤◌, ◌∷◌, ◌++◌, string_bytes, subst, ◌∙◌, arith}
 use Rattle.toml.specs.View.{view}
 use Rattle.std.proofs.lemmas.Grind.{common_steps}
 use Rattle.item_reasons.specs.Items.{Means}
