@@ -3,6 +3,7 @@
 Written from docs/SWEEPS.md alone.
 """
 
+import collections
 import copy
 import hashlib
 import itertools
@@ -34,13 +35,24 @@ def with_value(document, key, value):
     document = copy.deepcopy(document)
     *place, name = key.split('.')
     if len(place) > 1:
-        for one in document[place[0]]:
-            if [one[part] for part in ('name', 'member', 'from', 'to') if isinstance(one.get(part), str)] == place[1:]:
-                one[name] = value
+        for one in items_meant(document[place[0]], place[1:]):
+            one[name] = value
         return document
     table, _, name = key.rpartition('.')
     (document.setdefault(table, {}) if table else document)[name] = value
     return document
+
+
+def items_meant(items, name):
+    """The items of this name, and the one whose number among those of its name stands behind it."""
+    met = collections.Counter()
+    meant = []
+    for one in items:
+        own = tuple(one[part] for part in ('name', 'member', 'from', 'to') if isinstance(one.get(part), str))
+        met[own] += 1
+        if list(own) == name or [*own, str(met[own])] == name:
+            meant.append(one)
+    return meant
 
 
 class Together(list):

@@ -9,7 +9,9 @@ use crate::surroundings::Surroundings;
 use base::Memory;
 use command_line::{Asked, Failure, parse};
 use files::Files;
+use item_reasons::item_reason;
 use reasons::RunReason;
+use scenario_reader::document;
 use std::alloc::Global;
 use std::convert::AsStr;
 use std::fmt::Display;
@@ -35,6 +37,7 @@ pub(crate) fn lines_below<'a, S: AsStr, F: Files, A: Surroundings>(
         Failure::Rule(rule) | Failure::Case { rule, .. } => {
             scenario_lines(alloc, words, *rule, files)
         }
+        Failure::NoItem { key } => item_lines(alloc, words, key.as_str(), files),
         _ => run_lines(alloc, failure),
     }
 }
@@ -106,14 +109,45 @@ fn scenario_name<'a>(asked: &Asked<'a>) -> Option<&'a str> {
     }
 }
 
+/// Why the key of an item means no one item of the scenario whose file stands in the words.
+fn item_lines<S: AsStr, F: Files>(
+    alloc: Global,
+    words: &[S],
+    key: &str,
+    files: &mut F,
+) -> Result<String, Memory>
+    ensures same { F.known files.new ≡ F.known files.old }
+    ensures making { F.making files.new ≡ F.making files.old }
+    ensures counted { F.refused files.new ≡ F.refused files.old }
+{
+    let Ok(asked) = parse(alloc, words) else {
+        return Ok(String::new(alloc));
+    };
+    let Some(name) = scenario_name(&asked) else {
+        return Ok(String::new(alloc));
+    };
+    match files.read(alloc, name) {
+        Ok(bytes) => item_line(alloc, key, bytes.as_slice()),
+        Err(_) => Ok(String::new(alloc)),
+    }
+}
+
+/// Why it means no one item of a text; nothing where the text can't be read once more, as one from a pipe.
+fn item_line(alloc: Global, key: &str, bytes: &[u8]) -> Result<String, Memory> {
+    if bytes.is_empty() {
+        return Ok(String::new(alloc));
+    }
+    match document(alloc, bytes) {
+        Ok(document) => line_of(alloc, &item_reason(alloc, key, &document)?),
+        Err(_) => Ok(String::new(alloc)),
+    }
+}
+
 /// What is wrong with a run.
 fn run_lines(alloc: Global, failure: &Failure<'_>) -> Result<String, Memory> {
-    match failure {
-        Failure::NoItem { key } => line_of(alloc, &RunReason::NoItem(key.as_str())),
-        _ => match run_reason(failure) {
-            Some(reason) => line_of(alloc, &reason),
-            None => Ok(String::new(alloc)),
-        },
+    match run_reason(failure) {
+        Some(reason) => line_of(alloc, &reason),
+        None => Ok(String::new(alloc)),
     }
 }
 

@@ -44,23 +44,23 @@ no_zeros (suc n) = no_zeros n
 letters_of : (name : List ℕ) → is_item_name name ≡ true → list_all is_letter name ≡ true
 letters_of [] sound = absurd (false≢true sound)
 letters_of (first ∷ rest) sound =
-    let parts = and_parts ((first == 46) && nat_lt (length rest) 34) (list_all is_letter rest) sound in
-    let front = and_parts (first == 46) (nat_lt (length rest) 34) parts.0 in
+    let parts = and_parts ((first == 46) && nat_lt (length rest) 44) (list_all is_letter rest) sound in
+    let front = and_parts (first == 46) (nat_lt (length rest) 44) parts.0 in
     let dot : is_letter first ≡ true = ap is_letter (same_byte first 46 front.0) in
     ap (λ b. b && list_all is_letter rest) dot ∙ parts.1
 
 pub kept_is : (name : List ℕ) → is_item_name name ≡ true → item_text (kept_name name) ≡ name
 kept_is name sound =
-    filter-append is_letter name (replicate (34 - length name) 0)
-    ∙ ap (λ l. l ++ filter is_letter (replicate (34 - length name) 0)) (passing name (letters_of name sound))
-    ∙ ap (λ l. name ++ l) (no_zeros (34 - length name))
+    filter-append is_letter name (replicate (44 - length name) 0)
+    ∙ ap (λ l. l ++ filter is_letter (replicate (44 - length name) 0)) (passing name (letters_of name sound))
+    ∙ ap (λ l. name ++ l) (no_zeros (44 - length name))
     ∙ append-nil name
 
 dotted_name : (name : List ℕ) → is_item_name name ≡ true → (rest : List ℕ) × (name ≡ 46 ∷ rest)
 dotted_name [] sound = absurd (false≢true sound)
 dotted_name (first ∷ rest) sound =
-    let parts = and_parts ((first == 46) && nat_lt (length rest) 34) (list_all is_letter rest) sound in
-    let front = and_parts (first == 46) (nat_lt (length rest) 34) parts.0 in
+    let parts = and_parts ((first == 46) && nat_lt (length rest) 44) (list_all is_letter rest) sound in
+    let front = and_parts (first == 46) (nat_lt (length rest) 44) parts.0 in
     (rest, ap (λ x. x ∷ rest) (same_byte first 46 front.0))
 
 -- ---- keys of items
@@ -96,7 +96,7 @@ not_within c [] ys lacks = let here : (c == c) ≡ false = All-head (λ x. (x ==
 not_within c (x ∷ xs) ys lacks = not_within c xs ys (All-tail (λ y. (y == c) ≡ false) x (xs ++ c ∷ ys) lacks)
 
 -- what stands before the last such byte, and after it
-cut_last : (c : ℕ) (a b x y : List ℕ) → Lacks c x → Lacks c y → a ++ c ∷ x ≡ b ++ c ∷ y → (a ≡ b) × (x ≡ y)
+pub cut_last : (c : ℕ) (a b x y : List ℕ) → Lacks c x → Lacks c y → a ++ c ∷ x ≡ b ++ c ∷ y → (a ≡ b) × (x ≡ y)
 cut_last c [] [] x y in_x in_y same = let rest : x ≡ y = cc in (refl, rest)
 cut_last c [] (d ∷ b) x y in_x in_y same = let rest : x ≡ b ++ c ∷ y = cc in absurd (not_within c b y (subst (Lacks c) rest in_x))
 cut_last c (d ∷ a) [] x y in_x in_y same = let rest : y ≡ a ++ c ∷ x = cc in absurd (not_within c a x (subst (Lacks c) rest in_y))

@@ -1,7 +1,7 @@
 -- Settings that are read one after the other, and why words ask for no others.
 use Rattle.std.proofs.Common.{◌≡◌, ◌≢◌, ◌<◌, ◌+◌, ℕ, suc, Bool, true, false, ◌&&◌, List, [], ◌∷◌, ◌++◌, Option, Some, None, Bor, All, drop, filter, map, take, length, get_or, bytes_eq, sym, ap, subst, refl, ◌∙◌, arith}
 use Rattle.std.specs.List.{list_any}
-use Rattle.std.proofs.lemmas.Bool.{false≢true, false_from_ne_true, or_parts, and_parts}
+use Rattle.std.proofs.lemmas.Bool.{false≢true, false_from_ne_true, or_from, or_parts, and_parts}
 use Rattle.std.proofs.lemmas.List.{append_assoc, length-map, length-append, map-append, take-append-drop, take-map, map_more, get_or-map, get_or_append_left, get_or_at}
 use Rattle.std.proofs.lemmas.List.Elements.{All-append, All-head, All-tail, All-nil, All-cons, All-take}
 use Rattle.std.proofs.lemmas.List.Folds.{list_any_none}
@@ -9,7 +9,7 @@ use Rattle.std.proofs.lemmas.List.Quantifiers.{all_pairs_push}
 use Rattle.schema.specs.Schema.{spelling_of}
 use Rattle.schema.specs.declared.schema.FormatKey.{FormatKey}
 use Rattle.cases.specs.Items.{is_letter}
-use Rattle.cases.specs.Keys.{item_part, key_name, is_same, are_same_items, are_same_tables}
+use Rattle.cases.specs.Keys.{item_part, key_name, is_same, are_same_items, are_same_tables, names_first, sets_again}
 use Rattle.cases.specs.declared.items.ItemName.{ItemName}
 use Rattle.cases.specs.Sweep.{KeyValues}
 use Rattle.cases.specs.Axes.{axes_of, goes_on}
@@ -98,11 +98,15 @@ goes_both (s ∷ front) back a b = a
 
 -- ---- keys that stand once
 
+-- two settings have keys that don't set one item
+abbrev TwoKeys : KeyValues → KeyValues → Type 0
+TwoKeys a b = (a.key ≢ b.key) × (names_first a.key b.key ≡ false)
+
 apart_front : (front back : List KeyValues) → AreApart (front ++ back) → AreApart front
 apart_front front back apart k j d before inside =
     let long = length-append front back in
-    λ same. apart k j d before (omega (arith, long, inside))
-    (ap (λ (s : KeyValues). s.key) (get_or_append_left front back d k (omega (arith, before, inside))) ∙ same ∙ sym (ap (λ (s : KeyValues). s.key) (get_or_append_left front back d j inside)))
+    subst (λ s. TwoKeys s (get_or front j d)) (get_or_append_left front back d k (omega (arith, before, inside)))
+    (subst (TwoKeys (get_or (front ++ back) k d)) (get_or_append_left front back d j inside) (apart k j d before (omega (arith, long, inside))))
 
 module _ (words : List (Bor (List ℕ))) (i : ℕ) (d : Bor (List ℕ)) (inside : i < length words) where
   -- the word at the place is that of an axis, among any settings that the words ask for
@@ -147,20 +151,24 @@ module _ (words : List (Bor (List ℕ))) (i : ℕ) (d : Bor (List ℕ)) (inside 
         none (apart_front (ss ++ axis) rest (subst AreApart whole are.once))
 
 -- a key that no setting has so far
-pub apart_more : (ss : List KeyValues) (s : KeyValues) → list_any (λ t. is_same s.key t.key) ss ≡ false → AreApart ss → AreApart (ss ++ s ∷ [])
+pub apart_more : (ss : List KeyValues) (s : KeyValues) → list_any (λ t. sets_again s.key t.key) ss ≡ false → AreApart ss → AreApart (ss ++ s ∷ [])
 apart_more ss s none apart =
-    all_pairs_push (λ a b. a.key ≢ b.key) ss s apart (λ k e within same. false≢true (sym (none_of (λ t. is_same s.key t.key) ss none k e within) ∙ same_itself s.key (get_or ss k e).key (sym same)))
+    all_pairs_push TwoKeys ss s apart
+    (λ k e within.
+    let parts = or_parts (is_same s.key (get_or ss k e).key) (names_first (get_or ss k e).key s.key) (none_of (λ t. sets_again s.key t.key) ss none k e within) in
+    ((λ same. false≢true (sym parts.0 ∙ same_itself s.key (get_or ss k e).key (sym same))), parts.1))
 
 -- a key that one has
-pub set_twice : (ss : List KeyValues) (s : KeyValues) (rest : List KeyValues) → All IsSetting (ss ++ s ∷ rest) → list_any (λ t. is_same s.key t.key) ss ≡ true → ¬ (AreApart (ss ++ s ∷ rest))
+pub set_twice : (ss : List KeyValues) (s : KeyValues) (rest : List KeyValues) → All IsSetting (ss ++ s ∷ rest) → list_any (λ t. sets_again s.key t.key) ss ≡ true → ¬ (AreApart (ss ++ s ∷ rest))
 set_twice ss s rest sound twice apart =
     let long = length-append ss (s ∷ rest) in
-    let other : (k : ℕ) (e : KeyValues) → k < length ss → is_same s.key (get_or ss k e).key ≡ false =
-    λ k e within. false_from_ne_true (is_same s.key (get_or ss k e).key) (λ alike.
+    let other : (k : ℕ) (e : KeyValues) → k < length ss → sets_again s.key (get_or ss k e).key ≡ false =
+    λ k e within.
     let one : get_or (ss ++ s ∷ rest) k e ≡ get_or ss k e = get_or_append_left ss (s ∷ rest) e k within in
     let own : get_or (ss ++ s ∷ rest) (length ss) e ≡ s = get_or_at ss s rest e (length ss) refl in
     let left : IsSetting (get_or ss k e) = subst IsSetting one (sound k e (omega (arith, long, within))) in
     let right : IsSetting s = subst IsSetting own (sound (length ss) e (omega (arith, long))) in
-    let keys = same_key s.key (get_or ss k e).key right.key left.key (same_names s.key (get_or ss k e).key alike) in
-    apart k (length ss) e within (omega (arith, long)) (ap (λ (t : KeyValues). t.key) one ∙ sym keys ∙ ap (λ (t : KeyValues). t.key) (sym own))) in
-    false≢true (sym (list_any_none (λ t. is_same s.key t.key) ss other) ∙ twice)
+    let two : TwoKeys (get_or ss k e) s = subst (TwoKeys (get_or ss k e)) own (subst (λ t. TwoKeys t (get_or (ss ++ s ∷ rest) (length ss) e)) one (apart k (length ss) e within (omega (arith, long)))) in
+    or_from (is_same s.key (get_or ss k e).key) (names_first (get_or ss k e).key s.key)
+    (false_from_ne_true (is_same s.key (get_or ss k e).key) (λ alike. two.0 (sym (same_key s.key (get_or ss k e).key right.key left.key (same_names s.key (get_or ss k e).key alike))))) two.1 in
+    false≢true (sym (list_any_none (λ t. sets_again s.key t.key) ss other) ∙ twice)

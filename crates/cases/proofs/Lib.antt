@@ -16,4 +16,6 @@ pub mod Choices
 pub mod Joined
 pub mod Told
 pub mod Counted
+pub mod Marks
+pub mod TwoNames
 pub mod Puts

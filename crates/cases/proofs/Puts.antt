@@ -1,5 +1,5 @@
 -- What stands at the keys of a table in which a value was put.
-use Rattle.std.proofs.Common.{◌≡◌, ◌≢◌, ℕ, Bool, true, false, List, [], Option, Some, None, Ordering, Less, Equal, Greater, cond, map, bytes_eq, nat_cmp, is_eq, sym, ap, refl, ◌∙◌}
+use Rattle.std.proofs.Common.{◌≡◌, ◌≢◌, ℕ, Bool, true, false, List, [], Option, Some, None, Ordering, Less, Equal, Greater, nat_cmp, is_eq, sym, ap, refl, ◌∙◌}
 use Rattle.std.specs.Cmp.Lexicographic.{slice_cmp}
 use Rattle.std.specs.Ordering.{match_ordering}
 use Rattle.std.specs.Option.{option_map_or}
@@ -10,8 +10,8 @@ use Rattle.schema.specs.Schema.{spelling_of}
 use Rattle.schema.specs.Tree.{items_at, items_of, list_of, value_at}
 use Rattle.schema.specs.declared.schema.FormatKey.{FormatKey}
 use Rattle.schema.proofs.Trees.{list_of-items}
-use Rattle.cases.specs.Document.{put, with_entry, with_item, with_items, with_listed}
-use Rattle.cases.specs.Items.{name_of_item}
+use Rattle.cases.specs.Document.{put, with_entry, with_item, with_items, with_listed, with_marked}
+use Rattle.cases.specs.Meant.{marks_of}
 use Rattle.cases.proofs.Names.{bytes_eq_true, bytes_eq_same, bytes_eq_false}
 
 -- ---- members
@@ -45,7 +45,7 @@ get_other u k d (member l e ms) other = by (slice_cmp nat_cmp k l) refl (get_oth
         unequal u l (get_member u ms) (Some d) apart ∙ sym (unequal u l (get_member u ms) (Some e) apart)
     by Greater is rest = ap (λ g. match_ordering (slice_cmp nat_cmp u l) g (Some e) g) rest
 
-get_here : (k : List ℕ) (d : Data) (ms : Members) → get_member k (put k d ms) ≡ Some d
+pub get_here : (k : List ℕ) (d : Data) (ms : Members) → get_member k (put k d ms) ≡ Some d
 get_here k d no_members = equal k None (Some d)
 get_here k d (member l e ms) = by (slice_cmp nat_cmp k l) refl (get_here k d ms)
   where
@@ -56,7 +56,7 @@ get_here k d (member l e ms) = by (slice_cmp nat_cmp k l) refl (get_here k d ms)
 
 -- ---- tables
 
-entry_other : (u k : FormatKey) (d tree : Data) → spelling_of u ≢ spelling_of k → value_at u (with_entry k d tree) ≡ value_at u tree
+pub entry_other : (u k : FormatKey) (d tree : Data) → spelling_of u ≢ spelling_of k → value_at u (with_entry k d tree) ≡ value_at u tree
 entry_other u k d (table ms) other = get_other (spelling_of u) (spelling_of k) d ms other
 entry_other u k d (string s) other = refl
 entry_other u k d (integer z) other = refl
@@ -67,20 +67,12 @@ entry_other u k d (array ds) other = refl
 
 -- ---- an item
 
-pub item_kept : (one d : Data) (name : List ℕ) (k : FormatKey) → name_of_item one ≢ name → with_item name k d one ≡ one
-item_kept one d name k other = ap (λ b. cond b (with_entry k d one) one) (bytes_eq_false (name_of_item one) name other)
+pub keys_kept : (one d : Data) (meant : Bool) (k u : FormatKey) → spelling_of u ≢ spelling_of k → value_at u (with_item k d meant one) ≡ value_at u one
+keys_kept one d true k u other = entry_other u k d one other
+keys_kept one d false k u other = refl
 
-pub keys_kept : (one d : Data) (name : List ℕ) (k u : FormatKey) → spelling_of u ≢ spelling_of k → value_at u (with_item name k d one) ≡ value_at u one
-keys_kept one d name k u other = by (bytes_eq (name_of_item one) name)
-  where
-    by : (b : Bool) → value_at u (cond b (with_entry k d one) one) ≡ value_at u one
-    by true = entry_other u k d one other
-    by false = refl
-
-pub value_set : (ms : Members) (d : Data) (k : FormatKey) → value_at k (with_item (name_of_item (table ms)) k d (table ms)) ≡ Some d
-value_set ms d k =
-    ap (λ b. value_at k (cond b (with_entry k d (table ms)) (table ms))) (bytes_eq_same (name_of_item (table ms)) (name_of_item (table ms)) refl)
-    ∙ get_here (spelling_of k) d ms
+pub value_set : (ms : Members) (d : Data) (k : FormatKey) → value_at k (with_item k d true (table ms)) ≡ Some d
+value_set ms d k = get_here (spelling_of k) d ms
 
 -- ---- a list
 
@@ -91,8 +83,12 @@ text_kept tree d t k u name other = by (value_at t tree)
     by None = refl
     by (Some list) = entry_other u t (with_items name k d list) tree other
 
-items_with : (list d : Data) (name : List ℕ) (k : FormatKey) → items_of (with_items name k d list) ≡ map (with_item name k d) (items_of list)
-items_with (array ds) d name k = list_of-items (map (with_item name k d) (list_of ds))
+-- items with the value in those that a name means
+abbrev changed : List ℕ → FormatKey → Data → List Data → List Data
+changed name k d items = with_marked k d (marks_of name items) items
+
+items_with : (list d : Data) (name : List ℕ) (k : FormatKey) → items_of (with_items name k d list) ≡ changed name k d (items_of list)
+items_with (array ds) d name k = list_of-items (changed name k d (list_of ds))
 items_with (table ms) d name k = refl
 items_with (string s) d name k = refl
 items_with (integer z) d name k = refl
@@ -110,12 +106,12 @@ found_again (boolean b) list d t is = cc
 found_again (datetime dt) list d t is = cc
 found_again (array ds) list d t is = cc
 
-pub items_set : (tree d : Data) (t k : FormatKey) (name : List ℕ) → items_at t (with_listed t name k d tree) ≡ map (with_item name k d) (items_at t tree)
+pub items_set : (tree d : Data) (t k : FormatKey) (name : List ℕ) → items_at t (with_listed t name k d tree) ≡ changed name k d (items_at t tree)
 items_set tree d t k name = by (value_at t tree) refl
   where
     at : Option Data → List Data
     at o = option_map_or items_of o []
 
-    by : (o : Option Data) → value_at t tree ≡ o → items_at t (option_map_or (λ list. with_entry t (with_items name k d list) tree) o tree) ≡ map (with_item name k d) (option_map_or items_of o [])
+    by : (o : Option Data) → value_at t tree ≡ o → items_at t (option_map_or (λ list. with_entry t (with_items name k d list) tree) o tree) ≡ changed name k d (option_map_or items_of o [])
     by None is = ap at is
     by (Some list) is = ap at (found_again tree list (with_items name k d list) t is) ∙ items_with list d name k

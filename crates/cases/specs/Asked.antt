@@ -3,7 +3,7 @@ use Rattle.std.specs.Prelude.{◌≡◌, ◌≢◌, ℕ, ◌<◌, ◌≤◌, ◌
 use Rattle.std.specs.Fmt.{decimal}
 use Rattle.std.specs.List.{join_with_byte, range_with_len, slice_split}
 use Rattle.std.specs.Option.{ForSome}
-use Rattle.cases.specs.Keys.{key_name, MaySet}
+use Rattle.cases.specs.Keys.{key_name, names_first, MaySet}
 use Rattle.cases.specs.Values.{value_text, FitsToml}
 use Rattle.cases.specs.Sweep.{KeyValues, Sweep, run_count}
 use Rattle.cases.specs.Axes.{value_at, goes_on, axes_of, place_count}
@@ -46,11 +46,11 @@ pub record AreAxes (words : List (List ℕ)) (settings : List KeyValues) : Type 
   pub level : All IsLevel (axes_of settings)
   pub sound : All IsSetting settings
 
--- no two settings have one key
+-- no two settings have one key, or keys of which the one names the first of the items that the other names
 abbrev pub AreApart : List KeyValues → Type 0
-AreApart settings = AllPairs (λ a b. a.key ≢ b.key) settings
+AreApart settings = AllPairs (λ a b. (a.key ≢ b.key) × (names_first a.key b.key ≡ false)) settings
 
--- the words are the settings, and no key stands twice
+-- the words are the settings, and no key stands twice, nor by the number 1 beside its name alone
 pub record AreSettings (words : List (List ℕ)) (settings : List KeyValues) : Type 0 where
   pub axes : AreAxes words settings
   pub once : AreApart settings

@@ -1,5 +1,6 @@
 -- The document of a case: that of a text, with the case's values and seed in it.
-use Rattle.std.specs.Prelude.{ℕ, pos, List, Option, Some, None, bytes_eq, fold, if◌then◌else◌, map, unwrap_or}
+use Rattle.std.specs.Prelude.{ℕ, pos, Bool, List, Option, Some, None, fold, if◌then◌else◌, map, unwrap_or}
+use Rattle.std.specs.List.{zip}
 use Rattle.std.specs.Ordering.{nat_cmp, match_ordering}
 use Rattle.std.specs.Cmp.Lexicographic.{slice_cmp}
 use Rattle.std.specs.Option.{option_map_or}
@@ -9,7 +10,8 @@ use Rattle.schema.specs.Schema.{spelling_of}
 use Rattle.schema.specs.Tree.{list_of, value_at}
 use Rattle.schema.specs.declared.schema.FormatKey.{FormatKey}
 use Rattle.schema.specs.declared.schema.FormatKey.TheVariants as key
-use Rattle.cases.specs.Items.{item_text, name_of_item}
+use Rattle.cases.specs.Items.{item_text}
+use Rattle.cases.specs.Meant.{marks_of}
 use Rattle.cases.specs.declared.items.ItemName.{ItemName}
 use Rattle.cases.specs.declared.values.SettingValue.{SettingValue}
 use Rattle.cases.specs.declared.values.SettingValue.TheVariants.{Whole, Switch}
@@ -34,16 +36,20 @@ with_entry k d other = other
 abbrev pub table_at : FormatKey → Data → Data
 table_at t tree = unwrap_or (value_at t tree) (table no_members)
 
--- an item of this name, with the value at this key; any other stays
-abbrev pub with_item : List ℕ → FormatKey → Data → Data → Data
-with_item name k d one = if bytes_eq (name_of_item one) name then with_entry k d one else one
+-- an item that is meant, with the value at this key; any other stays
+abbrev pub with_item : FormatKey → Data → Bool → Data → Data
+with_item k d meant one = if meant then with_entry k d one else one
 
--- a list with the value in its items of this name; what is no list stays as it is
+-- items, with the value in those that are marked
+abbrev pub with_marked : FormatKey → Data → List Bool → List Data → List Data
+with_marked k d marks items = map (λ it. with_item k d it.0 it.1) (zip marks items)
+
+-- a list with the value in its items that the name means; what is no list stays as it is
 abbrev pub with_items : List ℕ → FormatKey → Data → Data → Data
-with_items name k d (array items) = array (as_items (map (with_item name k d) (list_of items)))
+with_items name k d (array items) = array (as_items (with_marked k d (marks_of name (list_of items)) (list_of items)))
 with_items name k d other = other
 
--- the list that stands at a key, with the value in its items of this name; where nothing stands there, all stays
+-- the list that stands at a key, with the value in its items that the name means; where nothing stands there, all stays
 abbrev pub with_listed : FormatKey → List ℕ → FormatKey → Data → Data → Data
 with_listed t name k d tree = option_map_or (λ list. with_entry t (with_items name k d list) tree) (value_at t tree) tree
 

@@ -21,14 +21,14 @@ name_of_item d = name_part key.Name d ++ name_part key.Member d ++ name_part key
 abbrev pub is_letter : ℕ → Bool
 is_letter b = ((is_ascii_lowercase b || is_ascii_digit b) || (b == 45)) || (b == 46)
 
--- a name in a word begins with a dot, and has at most 34 bytes: so many have the names of two groups, each behind a dot
+-- a name in a word begins with a dot, and has at most 44 bytes: so many have the names of two groups and a number of nine digits, each behind a dot
 abbrev pub is_item_name : List ℕ → Bool
 is_item_name [] = false
-is_item_name (first ∷ rest) = ((first == 46) && nat_lt (length rest) 34) && list_all is_letter rest
+is_item_name (first ∷ rest) = ((first == 46) && nat_lt (length rest) 44) && list_all is_letter rest
 
--- a name is kept in 34 bytes, filled up with zeros
+-- a name is kept in 44 bytes, filled up with zeros
 abbrev pub kept_name : List ℕ → ItemName
-kept_name name = record { bytes = name ++ replicate (34 - length name) 0 }
+kept_name name = record { bytes = name ++ replicate (44 - length name) 0 }
 
 -- the name that is kept: what stands there of letters
 abbrev pub item_text : ItemName → List ℕ

@@ -1,5 +1,5 @@
 -- The keys of a scenario that a sweep may set, and how they are named.
-use Rattle.std.specs.Prelude.{◌≡◌, ◌⊎◌, ℕ, List, [], ◌∷◌, ◌++◌, Bool, true, false, ◌&&◌, Option, Some, None, Contains, map, filter, find, bytes_eq, if◌then◌else◌}
+use Rattle.std.specs.Prelude.{◌≡◌, ◌⊎◌, ℕ, List, [], ◌∷◌, ◌++◌, Bool, true, false, ◌&&◌, ◌||◌, Option, Some, None, Contains, codes, map, filter, find, bytes_eq, if◌then◌else◌}
 use Rattle.std.specs.List.{flat_map}
 use Rattle.std.specs.Option.{option_map_or}
 use Rattle.schema.specs.Schema.{spelling_of, key_rules_of}
@@ -115,6 +115,24 @@ are_same_items None (Some b) = false
 are_same_items (Some a) None = false
 are_same_items (Some a) (Some b) = bytes_eq a.bytes b.bytes
 
+-- two keys are spelt alike, and so are their tables
+abbrev pub are_alike : SettingKey → SettingKey → Bool
+are_alike a b = bytes_eq (spelling_of a.key) (spelling_of b.key) && are_same_tables a.table b.table
+
 -- two keys are spelt alike, and so are their tables and items
 abbrev pub is_same : SettingKey → SettingKey → Bool
-is_same a b = (bytes_eq (spelling_of a.key) (spelling_of b.key) && are_same_tables a.table b.table) && are_same_items a.item b.item
+is_same a b = are_alike a b && are_same_items a.item b.item
+
+-- the one name is the other one with `.1` behind: where the other one means one item, it means the same
+abbrev pub is_first_of : Option ItemName → Option ItemName → Bool
+is_first_of (Some a) (Some b) = bytes_eq (item_text a) (item_text b ++ codes ".1")
+is_first_of (Some a) None = false
+is_first_of None b = false
+
+-- two keys are alike, of names of which the one is the other with `.1` behind
+abbrev pub names_first : SettingKey → SettingKey → Bool
+names_first a b = are_alike a b && (is_first_of a.item b.item || is_first_of b.item a.item)
+
+-- a key is set where another one is, which stands before it
+abbrev pub sets_again : SettingKey → SettingKey → Bool
+sets_again key before = is_same key before || names_first before key

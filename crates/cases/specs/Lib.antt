@@ -1,4 +1,6 @@
 pub mod Items
+pub mod Meant
+pub mod Numbered
 pub mod Keys
 pub mod Listed
 pub mod Values

@@ -19,7 +19,7 @@ use toml::{Table, Value};
 
 /// The document with the values of a case set at their keys, and the seed at its own, where one is
 /// given. A table that isn't there is made. Where something else than a table stands in a table's place,
-/// it stays. The value of an item's key is set in each item of its list that has the name, and all else stays.
+/// it stays. The value of an item's key is set in each item of its list that the key's name means, and all else stays.
 #[tactic(auto, unfolding(crate::specs::Document::with_values))]
 pub fn with_values(
     alloc: Global,

@@ -9,18 +9,18 @@ use schema::{FormatKey, text_if};
 use std::alloc::Global;
 use toml::Value;
 
-/// The most bytes that the name of an item has: two names of groups, and a dot before each.
-const MOST: usize = 34;
+/// The most bytes that the name of an item has: two names of groups and a number of nine digits, and a dot before each.
+const MOST: usize = 44;
 
 /// The name of an item of a list, as a key keeps it.
 #[derive(Clone, Copy, Debug, PartialEq, Eq)]
 pub struct ItemName {
     /// Its bytes, the first a dot, and zeros after them.
-    pub bytes: [u8; 34],
+    pub bytes: [u8; 44],
 }
 
 impl ItemName {
-    /// The name that these bytes are: a dot, and at most 33 small letters, digits, dashes and dots.
+    /// The name that these bytes are: a dot, and at most 43 small letters, digits, dashes and dots.
     pub(crate) fn read(name: &[u8]) -> Option<ItemName>
         ensures some { IfSome result (λ item. (is_item_name name.now ≡ true) × (item ≡ kept_name name.now)) }
         ensures none { IsNone result → is_item_name name.now ≡ false }
@@ -43,7 +43,7 @@ impl ItemName {
     }
 }
 
-/// Whether the bytes are the name of an item: a dot, and at most 33 letters.
+/// Whether the bytes are the name of an item: a dot, and at most 43 letters.
 fn is_item_name(name: &[u8]) -> bool
     ensures { result ≡ is_item_name name.now }
 {

@@ -1,7 +1,8 @@
 //! The keys of a scenario that a sweep may set.
-ghost use Rattle.std.specs.Prelude.{◌≡◌, ◌++◌, ◌∷◌, ◌&&◌, [], find, bytes_eq, string_bytes, IfOk, IfSome, IsNone, OnOk};
+ghost use Rattle.std.specs.Prelude.{◌≡◌, ◌++◌, ◌∷◌, ◌&&◌, [], codes, find, bytes_eq, string_bytes, IfOk, IfSome, IsNone, OnOk};
 ghost use Rattle.std.specs.List.{flat_map};
-ghost use Rattle.cases.specs.Keys.{dotted, key_name, is_plain, item_part, keys_of_table, keys_of_row, at_top, in_table, is_named, key_named, is_same, are_same_items, are_same_tables, IsKeyNamed};
+ghost use Rattle.cases.specs.Keys.{dotted, key_name, is_plain, item_part, keys_of_table, keys_of_row, at_top, in_table, is_named, key_named, is_same, are_alike, are_same_items, are_same_tables, is_first_of, names_first, IsKeyNamed};
+ghost use Rattle.cases.specs.Items.{item_text};
 ghost use Rattle.cases.specs.declared.keys.SettingKey.{SettingKey as Wanted};
 
 use crate::items::{ItemName, push_letters};
@@ -170,9 +171,54 @@ fn is_after_dot(key: &[u8], bytes: &[u8]) -> bool
 pub(crate) fn is_same(key: SettingKey, other: SettingKey) -> bool
     ensures { result ≡ is_same key other }
 {
-    key.key.text() == other.key.text()
-        && are_same_tables(key.table, other.table)
-        && are_same_items(key.item, other.item)
+    are_alike(key, other) && are_same_items(key.item, other.item)
+}
+
+/// Whether two keys are spelt alike, and so are their tables.
+fn are_alike(key: SettingKey, other: SettingKey) -> bool
+    ensures { result ≡ are_alike key other }
+{
+    key.key.text() == other.key.text() && are_same_tables(key.table, other.table)
+}
+
+/// Whether two keys are alike, of names of which the one is the other with `.1` behind.
+pub(crate) fn names_first(alloc: Global, key: SettingKey, other: SettingKey) -> Result<bool, Memory>
+    ensures { IfOk result (λ it. it ≡ names_first key other) }
+{
+    if !are_alike(key, other) {
+        return Ok(false);
+    }
+    if is_first_of(alloc, key.item, other.item)? {
+        return Ok(true);
+    }
+    is_first_of(alloc, other.item, key.item)
+}
+
+/// Whether the one name is the other one with `.1` behind.
+fn is_first_of(
+    alloc: Global,
+    item: Option<ItemName>,
+    other: Option<ItemName>,
+) -> Result<bool, Memory>
+    ensures { IfOk result (λ it. it ≡ is_first_of item other) }
+{
+    match item {
+        Some(item) => match other {
+            Some(other) => has_one_behind(alloc, item, other),
+            None => Ok(false),
+        },
+        None => Ok(false),
+    }
+}
+
+/// Whether a name is another one with `.1` behind.
+fn has_one_behind(alloc: Global, item: ItemName, other: ItemName) -> Result<bool, Memory>
+    ensures { IfOk result (λ it. it ≡ bytes_eq (item_text item) (item_text other ++ codes ".1")) }
+{
+    let name = item.text(alloc)?;
+    let mut first = other.text(alloc)?;
+    first.push_str(".1")?;
+    Ok(name.as_str() == first.as_str())
 }
 
 /// Whether two tables are spelt alike, or neither is there.

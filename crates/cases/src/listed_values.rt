@@ -1,20 +1,22 @@
 //! Values at keys of items of lists.
-ghost use Rattle.std.specs.Prelude.{◌≡◌, bytes_eq, map, option_map, IfOk};
+ghost use Rattle.std.specs.Prelude.{◌≡◌, length, map, option_map, IfOk};
 ghost use Rattle.toml.specs.View.{view};
 ghost use Rattle.schema.specs.Tree.{value_at};
-ghost use Rattle.cases.specs.Items.{item_text, name_of_item};
+ghost use Rattle.cases.specs.Items.{item_text};
+ghost use Rattle.cases.specs.Meant.{marks_of};
 ghost use Rattle.cases.specs.Values.{FitsToml};
-ghost use Rattle.cases.specs.Document.{data_of, with_item, with_items, with_listed};
+ghost use Rattle.cases.specs.Document.{data_of, with_item, with_items, with_listed, with_marked};
 
 use crate::document::{data, with_entry};
-use crate::items::{ItemName, name_of_item};
+use crate::items::ItemName;
+use crate::meant::marks;
 use crate::values::SettingValue;
 use base::Memory;
 use schema::FormatKey;
 use std::alloc::Global;
 use toml::Value;
 
-/// The document with one value at the key of each item of a list that has this name. Where no list is, it stays.
+/// The document with one value at the key of each item of a list that this name means. Where no list is, it stays.
 pub(crate) fn with_listed(
     alloc: Global,
     tree: Value,
@@ -33,7 +35,7 @@ pub(crate) fn with_listed(
     }
 }
 
-/// The list that stands at a key, with the value in its items of this name; none where nothing stands there.
+/// The list that stands at a key, with the value in its items that the name means; none where nothing stands there.
 fn changed_list(
     alloc: Global,
     tree: &Value,
@@ -51,7 +53,7 @@ fn changed_list(
     }
 }
 
-/// A list with the value in its items of this name; any other value as it is.
+/// A list with the value in its items that the name means; any other value as it is.
 fn with_items(
     alloc: Global,
     list: &Value,
@@ -64,15 +66,15 @@ fn with_items(
 {
     match list {
         Value::Array(items) => {
-            let changed = each_with(alloc, items.as_slice(), name, key, value)?;
+            let changed = with_meant(alloc, items.as_slice(), name, key, value)?;
             Ok(Value::Array(changed))
         }
         other => Ok(other.clone()?),
     }
 }
 
-/// The items, with the value in those of this name.
-fn each_with(
+/// The items, with the value in those that the name means.
+fn with_meant(
     alloc: Global,
     items: &[Value],
     name: &str,
@@ -80,37 +82,45 @@ fn each_with(
     value: SettingValue,
 ) -> Result<Vec<Value>, Memory>
     requires { FitsToml value }
-    ensures { IfOk result (λ changed. map view changed.items ≡ map (with_item name.now key (data_of value)) (map view items.now)) }
+    ensures { IfOk result (λ changed. map view changed.items ≡ with_marked key (data_of value) (marks_of name.now (map view items.now)) (map view items.now)) }
+{
+    let marks = marks(alloc, items, name)?;
+    with_marked(alloc, items, &marks, key, value)
+}
+
+/// The items, with the value in those that are marked.
+fn with_marked(
+    alloc: Global,
+    items: &[Value],
+    marks: &[bool],
+    key: FormatKey,
+    value: SettingValue,
+) -> Result<Vec<Value>, Memory>
+    requires fits { FitsToml value }
+    requires each { length marks.now ≡ length items.now }
+    ensures { IfOk result (λ changed. map view changed.items ≡ with_marked key (data_of value) marks.now (map view items.now)) }
 {
     let mut changed = Vec::new(alloc);
-    for item in items {
-        changed.push(with_item(alloc, item, name, key, value)?)?;
+    for (place, item) in items.iter().enumerate() {
+        changed.push(with_item(alloc, item, marks[place], key, value)?)?;
     }
     Ok(changed)
 }
 
-/// An item with the value, where it has this name.
+/// An item with the value, where it is meant.
 fn with_item(
     alloc: Global,
     item: &Value,
-    name: &str,
+    is_meant: bool,
     key: FormatKey,
     value: SettingValue,
 ) -> Result<Value, Memory>
     requires { FitsToml value }
-    ensures { IfOk result (λ v. view v ≡ with_item name.now key (data_of value) (view item.now)) }
+    ensures { IfOk result (λ v. view v ≡ with_item key (data_of value) is_meant (view item.now)) }
 {
     let copy = item.clone()?;
-    if is_item_named(alloc, item, name)? {
+    if is_meant {
         return with_entry(alloc, copy, key, data(value));
     }
     Ok(copy)
-}
-
-/// Whether an item has this name.
-pub(crate) fn is_item_named(alloc: Global, item: &Value, name: &str) -> Result<bool, Memory>
-    ensures { IfOk result (λ it. it ≡ bytes_eq (name_of_item (view item.now)) name.now) }
-{
-    let own = name_of_item(alloc, item)?;
-    Ok(own.as_str() == name)
 }

@@ -1,20 +1,20 @@
 //! Whether a document has the items whose keys are set.
-ghost use Rattle.std.specs.Prelude.{◌≡◌, length, filter, map, IfOk};
+ghost use Rattle.std.specs.Prelude.{◌≡◌, Some, IfOk};
+ghost use Rattle.std.specs.List.{count_by};
 ghost use Rattle.toml.specs.View.{view};
-ghost use Rattle.cases.specs.Items.{item_text};
-ghost use Rattle.cases.specs.Missing.{has_name, has_one, is_missing, missing_of};
+ghost use Rattle.cases.specs.Missing.{is_missing, meant_count, missing_of};
 
 use crate::items::ItemName;
 use crate::keys::SettingKey;
-use crate::listed_values::is_item_named;
+use crate::meant::marks;
 use crate::settings::Setting;
 use base::Memory;
 use schema::{FormatKey, items_at};
 use std::alloc::Global;
 use toml::Value;
 
-/// The first of the settings' keys whose item the document hasn't, or has more than once; none where it has each once.
-/// Where a key's item is missing, `with_values` sets nothing at that key; where two have its name, it sets both.
+/// The first of the settings' keys whose name means no item of the document, or more than one; none where each means one.
+/// Where it means none, `with_values` sets nothing at that key; where it means two, it sets both.
 pub fn missing_item(
     alloc: Global,
     settings: &[Setting],
@@ -31,37 +31,44 @@ pub fn missing_item(
     Ok(None)
 }
 
-/// Whether a key stands in an item that isn't there once.
+/// Whether a key stands in no item, or in more than one.
 fn is_missing(alloc: Global, key: SettingKey, document: &Value) -> Result<bool, Memory>
     ensures { IfOk result (λ it. it ≡ is_missing (view document.now) key) }
 {
+    let count = items_meant(alloc, key, document)?;
+    Ok(count != 1)
+}
+
+/// How many items of its list a key's name means; 1 for a key outside lists.
+pub fn items_meant(alloc: Global, key: SettingKey, document: &Value) -> Result<usize, Memory>
+    ensures { IfOk result (λ count. count ≡ meant_count (view document.now) key.table key.item) }
+{
     match key.table {
         Some(list) => match key.item {
-            Some(item) => Ok(!has_one(alloc, list, item, document)?),
-            None => Ok(false),
+            Some(item) => count_meant(alloc, list, item, document),
+            None => Ok(1),
         },
-        None => Ok(false),
+        None => Ok(1),
     }
 }
 
-/// Whether the list of a key has one item of this name.
-fn has_one(alloc: Global, list: FormatKey, item: ItemName, document: &Value) -> Result<bool, Memory>
-    ensures { IfOk result (λ it. it ≡ has_one list (item_text item) (view document.now)) }
+/// How many items of the list of a key a name means.
+fn count_meant(
+    alloc: Global,
+    list: FormatKey,
+    item: ItemName,
+    document: &Value,
+) -> Result<usize, Memory>
+    ensures { IfOk result (λ count. count ≡ meant_count (view document.now) (Some list) (Some item)) }
 {
     let name = item.text(alloc)?;
-    let count = count_named(alloc, items_at(list, document), name.as_str())?;
-    Ok(count == 1)
+    let marks = marks(alloc, items_at(list, document), name.as_str())?;
+    Ok(count_marked(&marks))
 }
 
-/// How many of the items have this name.
-fn count_named(alloc: Global, items: &[Value], name: &str) -> Result<usize, Memory>
-    ensures { IfOk result (λ count. count ≡ length (filter (has_name name.now) (map view items.now))) }
+/// How many items are marked.
+fn count_marked(marks: &[bool]) -> usize
+    ensures { result ≡ count_by (λ meant. meant) marks.now }
 {
-    let mut count = 0usize;
-    for item in items {
-        if is_item_named(alloc, item, name)? {
-            count += 1;
-        }
-    }
-    Ok(count)
+    marks.iter().filter(|meant| **meant).count()
 }

@@ -50,7 +50,7 @@ impl Plan {
     /// only as many runs as make its interval so narrow, `until` is its width in hundredths. Whether a document has the items
     /// of lists that keys name is asked by `missing_item`.
     ///
-    /// Failures: `Words` where a word is none of these, a key stands twice, the width isn't 1 to 100, or there are more than
+    /// Failures: `Words` where a word is none of these, a key stands twice, or once more with the number 1 behind its item's name, the width isn't 1 to 100, or there are more than
     /// 1,000,000 runs; `Memory`.
     pub fn read(
         alloc: Global,
@@ -215,7 +215,7 @@ fn read_settings(alloc: Global, words: &[&str]) -> Result<Vec<Setting>, PlanFaul
             Ok(axis) => axis,
             Err(fault) => return Err(fault),
         };
-        if let Err(fault) = push_axis(&mut settings, axis) {
+        if let Err(fault) = push_axis(alloc, &mut settings, axis) {
             return Err(fault);
         }
     }
@@ -224,15 +224,23 @@ fn read_settings(alloc: Global, words: &[&str]) -> Result<Vec<Setting>, PlanFaul
 
 /// Appends the settings of an axis.
 ///
-/// Failures: `Words` where a key then stands twice; `Memory`.
-fn push_axis(settings: &mut Vec<Setting>, axis: Vec<Setting>) -> Result<(), PlanFault>
+/// Failures: `Words` where a key then stands twice, or once more with the number 1; `Memory`.
+fn push_axis(
+    alloc: Global,
+    settings: &mut Vec<Setting>,
+    axis: Vec<Setting>,
+) -> Result<(), PlanFault>
     requires known { All IsSetting (settings.old.items ++ axis.items) }
     ensures added { OnOk result (settings.new.items ≡ settings.old.items ++ axis.items) }
     ensures once { OnOk result (AreApart settings.old.items → AreApart settings.new.items) }
     ensures refused { IfErr result (RefusesMore (settings.old.items ++ axis.items)) }
 {
     for setting in axis {
-        if is_set(settings, setting.key()) {
+        let is_taken = match is_set(alloc, settings, setting.key()) {
+            Ok(is_taken) => is_taken,
+            Err(Memory) => return Err(PlanFault::Memory),
+        };
+        if is_taken {
             return Err(PlanFault::Words);
         }
         if settings.push(setting).is_err() {

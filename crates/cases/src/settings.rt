@@ -1,12 +1,14 @@
 //! One key, and the values that it is set to.
-ghost use Rattle.std.specs.Prelude.{◌≡◌};
+ghost use Rattle.std.specs.Prelude.{◌≡◌, IfOk};
 ghost use Rattle.std.specs.List.{list_any};
 ghost use Rattle.cases.specs.Axes.{value_at};
-ghost use Rattle.cases.specs.Keys.{is_same};
+ghost use Rattle.cases.specs.Keys.{sets_again};
 ghost use Rattle.cases.specs.Sweep.{choice_count};
 
-use crate::keys::{SettingKey, is_same};
+use crate::keys::{SettingKey, is_same, names_first};
 use crate::values::SettingValue;
+use base::Memory;
+use std::alloc::Global;
 use std::marker::Model;
 
 /// A key, and the values that it is set to, one after the other.
@@ -80,9 +82,25 @@ impl Setting {
     }
 }
 
-/// Whether one of the settings sets a key that is spelt like this one.
-pub(crate) fn is_set(settings: &[Setting], key: SettingKey) -> bool
-    ensures { result ≡ list_any (λ s. is_same key s.key) settings.now }
+/// Whether one of the settings sets a key that is spelt like this one, or that differs from it by `.1` behind its item's
+/// name alone.
+pub(crate) fn is_set(alloc: Global, settings: &[Setting], key: SettingKey) -> Result<bool, Memory>
+    ensures { IfOk result (λ it. it ≡ list_any (λ s. sets_again key s.key) settings.now) }
 {
-    settings.iter().any(|setting| is_same(key, setting.key()))
+    for setting in settings {
+        if sets_again(alloc, key, setting.key())? {
+            return Ok(true);
+        }
+    }
+    Ok(false)
+}
+
+/// Whether two keys are one, or differ by `.1` behind their items' names alone: then a sweep sets only one of them.
+pub fn sets_again(alloc: Global, key: SettingKey, other: SettingKey) -> Result<bool, Memory>
+    ensures { IfOk result (λ it. it ≡ sets_again key other) }
+{
+    if is_same(key, other) {
+        return Ok(true);
+    }
+    names_first(alloc, other, key)
 }

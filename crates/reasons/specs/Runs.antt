@@ -1,9 +1,8 @@
 -- What users read of a scenario that is refused, and of a run that ended early.
 use Rattle.std.specs.Prelude.{ℕ, List, ◌++◌, codes}
-use Rattle.std.specs.Fmt.{decimal}
 use Rattle.shown_names.specs.Shown.{shown_name}
 use Rattle.reasons.specs.declared.runs.RunReason.{RunReason}
-use Rattle.reasons.specs.declared.runs.RunReason.TheVariants.{Rule, Setting, NoItem, Items, Memory, Counter, Write, Thread}
+use Rattle.reasons.specs.declared.runs.RunReason.TheVariants.{Rule, Setting, Memory, Counter, Write, Thread}
 
 -- what tells all mistakes of a file
 abbrev pub explain_text : List ℕ → List ℕ
@@ -14,24 +13,10 @@ abbrev pub set_text : List ℕ → List ℕ
 set_text name = codes "without these values the scenario is accepted; write them into a copy of " ++ shown_name name
     ++ codes ", and swimsim explain tells what is wrong"
 
--- no item has the name in a key
-abbrev pub none_text : List ℕ → List ℕ
-none_text key = codes "the scenario has no item of the name in " ++ shown_name key
-
--- there are so many of what one was meant of
-abbrev pub count_text : ℕ → List ℕ
-count_text count = codes " is ambiguous: there are " ++ decimal count
-
--- so many items have the name in a key
-abbrev pub many_text : List ℕ → ℕ → List ℕ
-many_text key count = shown_name key ++ count_text count
-
 -- what is wrong with the scenario or the run
 abbrev pub run_reason_text : RunReason → List ℕ
 run_reason_text (Rule name) = explain_text name.now
 run_reason_text (Setting name) = set_text name.now
-run_reason_text (NoItem key) = none_text key.now
-run_reason_text (Items key count) = many_text key.now count
 run_reason_text Memory = codes "memory was refused; give the program more, or take a shorter run, fewer members or fewer workers"
 run_reason_text Counter = codes "a counter would pass 2^63; take a shorter run or smaller numbers"
 run_reason_text Write = codes "a file took less than it was given, as where the disk is full"

@@ -3,9 +3,11 @@
 #![tactic(auto)]
 
 mod files;
+mod items;
 mod runs;
 mod words;
 
 pub use files::FileReason;
+pub use items::ItemReason;
 pub use runs::RunReason;
 pub use words::{Clash, WordFault, WordReason};

@@ -1,7 +1,7 @@
 //! What is wrong with a scenario, a run or a piece, and what to do.
 ghost use Rattle.std.specs.Prelude.{Some};
 ghost use Rattle.std.specs.Fmt.{WritesOnOk};
-ghost use Rattle.reasons.specs.Runs.{count_text, explain_text, many_text, none_text, run_reason_text, set_text};
+ghost use Rattle.reasons.specs.Runs.{explain_text, run_reason_text, set_text};
 
 use shown_names::write_name;
 use std::fmt;
@@ -14,10 +14,6 @@ pub enum RunReason<'a> {
     Rule(&'a str),
     /// It is accepted, but not with the values of a setting.
     Setting(&'a str),
-    /// No item has the name in this key.
-    NoItem(&'a str),
-    /// So many have it.
-    Items { key: &'a str, count: usize },
     /// Memory was refused.
     Memory,
     /// A counter is full.
@@ -35,8 +31,6 @@ impl Display for RunReason<'_> {
         match self {
             RunReason::Rule(name) => write_explain(f, name),
             RunReason::Setting(name) => write_set(f, name),
-            RunReason::NoItem(key) => write_none(f, key),
-            RunReason::Items { key, count } => write_many(f, key, *count),
             RunReason::Memory => f.write_str(
                 "memory was refused; give the program more, or take a shorter run, fewer members or fewer workers",
             ),
@@ -66,27 +60,4 @@ fn write_set<W: Write>(f: &mut Formatter<W>, name: &str) -> fmt::Result
     f.write_str("without these values the scenario is accepted; write them into a copy of ")?;
     write_name(f, name)?;
     f.write_str(", and swimsim explain tells what is wrong")
-}
-
-/// Writes that no item has the name in a key.
-fn write_none<W: Write>(f: &mut Formatter<W>, key: &str) -> fmt::Result
-    ensures { WritesOnOk W.write_str_gives f.old result (none_text key.now) f.new }
-{
-    f.write_str("the scenario has no item of the name in ")?;
-    write_name(f, key)
-}
-
-/// Writes how many items have it.
-fn write_many<W: Write>(f: &mut Formatter<W>, key: &str, count: usize) -> fmt::Result
-    ensures { WritesOnOk W.write_str_gives f.old result (many_text key.now count) f.new }
-{
-    write_name(f, key)?;
-    write_count(f, count)
-}
-
-/// Writes that there are so many.
-fn write_count<W: Write>(f: &mut Formatter<W>, count: usize) -> fmt::Result
-    ensures { WritesOnOk W.write_str_gives f.old result (count_text count) f.new }
-{
-    write!(f, " is ambiguous: there are {count}")
 }

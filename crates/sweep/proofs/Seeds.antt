@@ -1,5 +1,5 @@
 -- What a document is answered doesn't depend on its seed.
-use Rattle.std.proofs.Common.{◌≡◌, ◌≢◌, ◌∙◌, ℕ, ◌<◌, ◌-◌, ◌||◌, ◌&&◌, Bool, true, false, List, [], ◌∷◌, map, flat_map, Option, Some, None, Result, Ok, Err, Ordering, Less, Equal, Greater, nat_cmp, true≢false, bytes_eq, refl, sym, ap, subst, arith, cond, if◌then◌else◌}
+use Rattle.std.proofs.Common.{◌≡◌, ◌≢◌, ◌∙◌, ℕ, ◌<◌, ◌-◌, ◌||◌, ◌&&◌, Bool, true, false, List, [], ◌∷◌, map, flat_map, Option, Some, None, Result, Ok, Err, Ordering, Less, Equal, Greater, nat_cmp, true≢false, bytes_eq, refl, sym, ap, subst, arith, if◌then◌else◌}
 use Rattle.std.specs.Prelude.{pos, drop, ◌^◌}
 use Rattle.std.specs.Cmp.Lexicographic.{slice_cmp}
 use Rattle.std.specs.List.{list_any}
@@ -25,10 +25,9 @@ use Rattle.schema.specs.declared.shape.Check.TheVariants.{Missing, Unknown, Wron
 use Rattle.scenario.specs.Setup.{Setup, Group, IsSound}
 use Rattle.scenario_reader.specs.Reading.{version_numbered, version_of, plain_group, plain_groups, group_in, path_in, swim_in, suspicion_in, lifeguard_in, link_in, gossip_in, stream_in, stream_table, slow_in, crash_in, leave_in, cut_in, pause_in, added_items, pause_items, setup_of_tree}
 use Rattle.scenario_reader.specs.Rules.{has_lost_contact, names_no_member, names_no_group, breaks_names, breaks_references, breaks_added_references, breaks_pairs, breaks_departures, breaks_pauses, breaks_times, breaks_added_times, breaks_size, least_of, least_broken_by, least_broken, unless_broken, document_verdict}
-use Rattle.cases.specs.Document.{put, with_entry, with_item, with_seed}
-use Rattle.cases.specs.Items.{name_of_item}
+use Rattle.cases.specs.Document.{put, with_entry, with_seed}
 use Rattle.cases.proofs.Names.{bytes_eq_same}
-use Rattle.cases.proofs.Puts.{keys_kept, value_set}
+use Rattle.cases.proofs.Puts.{entry_other, get_here}
 
 -- ---- what stands at the keys
 
@@ -38,15 +37,11 @@ at_seed = spelling_of key.Seed
 abbrev number : ℕ → Data
 number n = integer (pos n)
 
--- an entry of a table is one of an item of the table's own name
-as_item : (k : FormatKey) (d : Data) (ms : Members) → with_item (name_of_item (table ms)) k d (table ms) ≡ with_entry k d (table ms)
-as_item k d ms = ap (λ b. cond b (with_entry k d (table ms)) (table ms)) (bytes_eq_same (name_of_item (table ms)) (name_of_item (table ms)) refl)
-
 other_stays : (u k : FormatKey) (d : Data) (ms : Members) → spelling_of u ≢ spelling_of k → value_at u (with_entry k d (table ms)) ≡ value_at u (table ms)
-other_stays u k d ms other = sym (ap (value_at u) (as_item k d ms)) ∙ keys_kept (table ms) d (name_of_item (table ms)) k u other
+other_stays u k d ms other = entry_other u k d (table ms) other
 
 is_there : (k : FormatKey) (d : Data) (ms : Members) → value_at k (with_entry k d (table ms)) ≡ Some d
-is_there k d ms = sym (ap (value_at k) (as_item k d ms)) ∙ value_set ms d k
+is_there k d ms = get_here (spelling_of k) d ms
 
 -- the members, given a seed
 abbrev given : ℕ → Members → Members

@@ -7,7 +7,7 @@ use crate::guesses::guess_of;
 use crate::shares::parts_of;
 use arguments::values_of;
 use base::Memory;
-use cases::{Plan, PlanFault, SettingKey, SettingValue};
+use cases::{Plan, PlanFault, SettingKey, SettingValue, sets_again};
 use clap::ArgMatches;
 use reasons::{WordFault, WordReason};
 use std::alloc::Global;
@@ -23,7 +23,7 @@ pub(crate) fn settings_reason<'a>(
     if let Some(word) = refused_setting(alloc, &words)? {
         return Ok(Some(setting_reason(alloc, word)?));
     }
-    match repeated_setting(&words) {
+    match repeated_setting(alloc, &words)? {
         Some(word) => Ok(Some(WordReason::Word {
             fault: WordFault::KeyTwice,
             word,
@@ -50,16 +50,28 @@ fn refused_setting<'a>(alloc: Global, words: &[&'a str]) -> Result<Option<&'a st
 fn setting_reason<'a>(alloc: Global, word: &'a str) -> Result<WordReason<'a>, Memory>
     ensures { IfOk result (IsSettingReason word.entry.now) }
 {
-    let Some((key, list)) = word.split_once('=') else {
+    let Some((names, list)) = word.split_once('=') else {
         return Ok(form_reason(word));
     };
-    if SettingKey::named(key).is_none() {
+    if let Some(key) = unknown_key(names) {
         return key_reason(alloc, word, key);
     }
     match refused_value(list) {
-        Some(value) => Ok(value_reason(word, key, value)),
+        Some(value) => Ok(value_reason(word, names, value)),
         None => Ok(form_reason(word)),
     }
+}
+
+/// The first of the names of keys that go together that is no key's.
+fn unknown_key<'a>(names: &'a str) -> Option<&'a str>
+    ensures { IfSome result (λ key. NamesNoKey key.now) }
+{
+    for name in names.split('+') {
+        if SettingKey::named(name).is_none() {
+            return Some(name);
+        }
+    }
+    None
 }
 
 /// The word is no key with values.
@@ -81,13 +93,25 @@ fn key_reason<'a>(alloc: Global, word: &'a str, key: &'a str) -> Result<WordReas
     Ok(WordReason::Key { word, key, guess })
 }
 
-/// The first item of a list that is no value.
+/// The first part of an item of a list that is no value.
 fn refused_value<'a>(list: &'a str) -> Option<&'a str>
     ensures { IfSome result (λ value. IsNoValue value.now) }
 {
     for item in list.split(',') {
-        if SettingValue::read(item).is_none() {
-            return Some(item);
+        if let Some(part) = refused_part(item) {
+            return Some(part);
+        }
+    }
+    None
+}
+
+/// The first of the values of keys that go together that is none.
+fn refused_part<'a>(item: &'a str) -> Option<&'a str>
+    ensures { IfSome result (λ value. IsNoValue value.now) }
+{
+    for part in item.split('+') {
+        if SettingValue::read(part).is_none() {
+            return Some(part);
         }
     }
     None
@@ -104,23 +128,57 @@ fn value_reason<'a>(word: &'a str, key: &str, value: &'a str) -> WordReason<'a>
     }
 }
 
-/// The first word whose key an earlier one sets.
-fn repeated_setting<'a>(words: &[&'a str]) -> Option<&'a str>
-    ensures { IfSome result (λ word. Contains words.now word) }
+/// The first word that sets a key which an earlier one sets, maybe with the number 1 behind its item's name.
+fn repeated_setting<'a>(alloc: Global, words: &[&'a str]) -> Result<Option<&'a str>, Memory>
+    ensures { IfOk result (λ repeated. IfSome repeated (λ word. Contains words.now word)) }
 {
     for (place, word) in words.iter().enumerate() {
-        if sets_again(&words[..place], word) {
-            return Some(*word);
+        if any_shares(alloc, &words[..place], word)? {
+            return Ok(Some(*word));
         }
     }
-    None
+    Ok(None)
 }
 
-/// Whether one of the words sets the key that another one sets.
-fn sets_again(words: &[&str], word: &str) -> bool {
-    words
-        .iter()
-        .any(|earlier| key_part(earlier) == key_part(word))
+/// Whether one of the words sets a key that another word sets.
+fn any_shares(alloc: Global, words: &[&str], word: &str) -> Result<bool, Memory> {
+    for earlier in words {
+        if shares(alloc, key_part(earlier), key_part(word))? {
+            return Ok(true);
+        }
+    }
+    Ok(false)
+}
+
+/// Whether one of the names of keys that go together is among others.
+fn shares(alloc: Global, earlier: &str, names: &str) -> Result<bool, Memory> {
+    for name in names.split('+') {
+        if is_among(alloc, earlier, name)? {
+            return Ok(true);
+        }
+    }
+    Ok(false)
+}
+
+/// Whether one of the names sets the key of a name.
+fn is_among(alloc: Global, names: &str, name: &str) -> Result<bool, Memory> {
+    for earlier in names.split('+') {
+        if names_again(alloc, earlier, name)? {
+            return Ok(true);
+        }
+    }
+    Ok(false)
+}
+
+/// Whether two names are of keys of which a sweep sets only one.
+fn names_again(alloc: Global, earlier: &str, name: &str) -> Result<bool, Memory> {
+    match SettingKey::named(earlier) {
+        Some(before) => match SettingKey::named(name) {
+            Some(key) => sets_again(alloc, key, before),
+            None => Ok(false),
+        },
+        None => Ok(false),
+    }
 }
 
 /// What stands before the equals sign of a setting.

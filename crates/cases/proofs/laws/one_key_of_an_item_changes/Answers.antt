@@ -1,5 +1,5 @@
 use Rattle.cases.specs.Items.{item_text}
-use Rattle.cases.proofs.Puts.{item_kept, items_set, keys_kept, text_kept, value_set}
+use Rattle.cases.proofs.Puts.{items_set, keys_kept, text_kept, value_set}
 use Rattle.cases.proofs.laws.one_key_of_an_item_changes.Goals as goal
 
 pub returns-clause-text : goal.returns-clause-text
@@ -8,11 +8,8 @@ returns-clause-text c tree d t k u item other = text_kept tree d t k u (item_tex
 pub returns-clause-items : goal.returns-clause-items
 returns-clause-items c tree d t k item = items_set tree d t k (item_text item)
 
-pub returns-clause-others : goal.returns-clause-others
-returns-clause-others c one d name k other = item_kept one d name k other
-
 pub returns-clause-keys : goal.returns-clause-keys
-returns-clause-keys c one d name k u other = keys_kept one d name k u other
+returns-clause-keys c one d meant k u other = keys_kept one d meant k u other
 
 pub returns-clause-value : goal.returns-clause-value
 returns-clause-value c members d k = value_set members d k

@@ -1,19 +1,19 @@
 use Rattle.std.proofs.Common.{◌≡◌, ◌++◌, ◌∷◌, [], List, All, true, false, append_assoc, rules, sym, ap, subst, ◌∙◌}
 use Rattle.std.specs.List.{list_any}
-use Rattle.cases.specs.Keys.{is_same}
+use Rattle.cases.specs.Keys.{sets_again}
 use Rattle.cases.specs.Sweep.{KeyValues}
 use Rattle.cases.specs.Asked.{AreApart, IsSetting}
 use Rattle.cases.proofs.Gathered.{apart_more, set_twice}
 use Rattle.cases.proofs.plan.push_axis.Goals as goal
 
-pub returns-then-is_set-clause-refused : goal.returns-then-is_set-clause-refused
-returns-then-is_set-clause-refused c =
+pub returns-then-is_taken-clause-refused : goal.returns-then-is_taken-clause-refused
+returns-then-is_taken-clause-refused c =
     let old = c.args.settings.now.items in
     let settings = c.loop-setting.settings.items in
     let s = c.in-Some.setting in
     let rest = c.next.new.self.rest.items in
-    let twice : list_any (λ t. is_same s.key t.key) settings ≡ true =
-    ap (λ k. list_any (λ t. is_same k t.key) settings) (sym c.key.ensures) ∙ ap (λ l. list_any (λ t. is_same c.key.result t.key) l) (sym c.deref.ensures.value) ∙ sym c.is_set.ensures ∙ c.if-is_set.true in
+    let twice : list_any (λ t. sets_again s.key t.key) settings ≡ true =
+    ap (λ k. list_any (λ t. sets_again k t.key) settings) (sym c.key.ensures) ∙ ap (λ l. list_any (λ t. sets_again c.key.result t.key) l) (sym c.deref.ensures.value) ∙ sym c.in-Ok.ensures ∙ c.if-is_taken.true in
     let all : c.args.axis.items ≡ c.loop-setting.yielded ++ s ∷ rest = search rules in
     let whole : old ++ c.args.axis.items ≡ settings ++ s ∷ rest =
     ap (λ l. old ++ l) all ∙ sym (append_assoc old c.loop-setting.yielded (s ∷ rest)) ∙ ap (λ l. l ++ s ∷ rest) (sym c.loop-setting.invariant.so_far) in
@@ -25,8 +25,8 @@ loop-setting-preserved c =
     let settings = c.loop-setting.settings.items in
     let s = c.in-Some.setting in
     let rest = c.next.new.self.rest.items in
-    let none : list_any (λ t. is_same s.key t.key) settings ≡ false =
-    ap (λ k. list_any (λ t. is_same k t.key) settings) (sym c.key.ensures) ∙ ap (λ l. list_any (λ t. is_same c.key.result t.key) l) (sym c.deref.ensures.value) ∙ sym c.is_set.ensures ∙ c.if-is_set.false in
+    let none : list_any (λ t. sets_again s.key t.key) settings ≡ false =
+    ap (λ k. list_any (λ t. sets_again k t.key) settings) (sym c.key.ensures) ∙ ap (λ l. list_any (λ t. sets_again c.key.result t.key) l) (sym c.deref.ensures.value) ∙ sym c.in-Ok.ensures ∙ c.if-is_taken.false in
     let all : c.args.axis.items ≡ c.loop-setting.yielded ++ s ∷ rest = search rules in
     let pushed : c.push.new.self.items ≡ settings ++ s ∷ [] = search rules in
     record {
