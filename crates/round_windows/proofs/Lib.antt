@@ -3,3 +3,4 @@ mod Walking
 mod Dealing
 pub mod Places
 mod Ways
+pub mod OwnBounds

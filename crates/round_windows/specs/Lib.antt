@@ -1,3 +1,4 @@
 pub mod Basis
+pub mod Bounds
 pub mod Walks
 pub mod Windows
