@@ -252,12 +252,11 @@ class Page:
     def spread(self):
         watched = [(member, self.series.stories[member].learned) for member in self.series.watched]
         latest = max((at for _, learned in watched for moments in learned.values() for at in moments.values()), default=0)
-        if not latest:
+        if not watched:
             return ''
         text = figure('spread', 'How the news of a crash spread')
         text += legend([('suspect', 'have suspected it'), ('dead', 'have declared it dead')])
-        text += ('<p class="soft">Only claims from the moment of the crash on are counted: a member that had declared it dead before '
-                 'isn\'t.</p>')
+        text += '<p class="soft">A member that suspected it, or held it dead, when it crashed counts as having heard at once.</p>'
         if self.series.unwatched:
             text += f'<p class="soft">{len(self.series.unwatched)} more crashed; these are the first {len(watched)} by number.</p>'
         text += '<div class="many">'

@@ -18,7 +18,7 @@ class Story:
         self.refuted, self.recovered = Counter(), Counter()
         self.first_confirm = self.last_refute = None
         self.false_deaths = self.failed_probes = 0
-        # when each member first suspected it, and first declared it dead, since its crash
+        # how long after its crash each member suspected it, and held it dead: 0 who did so when it crashed
         self.learned = {SUSPECT: {}, CONFIRM: {}}
 
 
@@ -69,6 +69,14 @@ class Series:
                 self.stories[row.about].failed_probes += 1
             elif row.what in ('crash', 'leave'):
                 departed.add(row.member)
+                if row.what == 'crash':
+                    self.hear_at_once(row.member, states)
+
+    def hear_at_once(self, crashed, states):
+        """Keeps who suspects a member, or holds it dead, as it crashes."""
+        for (member, about), what in states.items():
+            if about == crashed and what != ALIVE:
+                self.stories[about].learned[what][member] = 0
 
     def count_claim(self, row, span, states):
         """Counts what a member holds another for, where that changes."""
@@ -84,7 +92,7 @@ class Series:
     def learn(self, row, place, departed):
         """Keeps the first to claim something; a row's line in the trace is its place and two more."""
         story = self.stories[row.about]
-        if row.about in self.watched and row.what != ALIVE and row.moment >= self.crash[row.about]:
+        if row.about in departed and row.about in self.watched and row.what != ALIVE:
             story.learned[row.what].setdefault(row.member, row.moment - self.crash[row.about])
         if row.what == CONFIRM:
             story.first_confirm = story.first_confirm or (row.moment, row.member, place + 2)

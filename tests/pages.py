@@ -10,6 +10,18 @@ EXAMPLES = DATA.parent / 'examples'
 SHOWN = ('crash', 'slow-member', 'slow-member-without-lifeguard', 'cut-between-sites', 'rolling-join', 'rolling-restart', 'pauses',
          'three-sites-wan', 'quiet')
 WAYS = ([], ['--workers', '2'], ['--workers', '3', '--parts', '3'])
+# n-4 is held dead by all when it crashes; n-5 is suspected by all, and declared dead later
+HELD = """version = 3
+seed = 1
+end = 30000
+swim = { period = 1000, timeout = 300, spread = 1000, lambda = 2 }
+link = { delay = 20 }
+group = [{ name = "n", count = 6 }]
+pause = [{ member = "n-4", from = 3000, until = 25000 }, { member = "n-5", from = 10000, until = 20000 }]
+crash = [{ member = "n-4", at = 24000 }, { member = "n-5", at = 13700 }]
+"""
+# when they were suspected and declared dead: by the trace, whose rows of this are 61 to 69, 186 to 194, 222 to 246, 320 to 327 and 405
+HEARD = {'n-4': ('<td>-' * 5, '<td>0' * 5), 'n-5': ('<td>0' * 5, '<td>3,184<td>3,204<td>9,553<td>9,553<td>9,553')}
 # a name that is no markup in the page, and of which all is seen
 NAME = '<script>&"it\'s"\u202e.toml'
 
@@ -42,7 +54,17 @@ def expect_page(program, told, text, trace):
     expect(told, page, page_of(NAME, release, style, scenario, rows_in(scenario, trace.decode())).encode())
 
 
+def check_held(program):
+    """Members that were suspected or held dead when they crashed count as such from the crash on."""
+    check(program, HELD)
+    page = program.held('p.html').decode()
+    for member, (suspected, dead) in HEARD.items():
+        table = page.partition(f'<h3>{member}</h3><div class="chart">')[2].partition('</table>')[0]
+        expect(f'table of {member}', table.partition('<tr><td>')[2], f'suspected it after{suspected}<tr><td>declared it dead after{dead}')
+
+
 def cases():
-    """Each worked run, and examples."""
+    """Each worked run, examples, and members that are held dead when they crash."""
+    yield Case('page of members that crash when they are held dead', check_held, ())
     for path in [*sorted(WORKED.glob('*.toml')), *(EXAMPLES / f'{name}.toml' for name in SHOWN)]:
         yield Case(f'page of {path.stem}', check, (text_of(path),))

@@ -77,10 +77,10 @@ module _ (s : Setup) (rows : List Row) (subject from : ℕ) (spread : Spread) (i
   all = ap (λ o. if is_some o then member_count s else 0) since
 
   suspected_same : (m : ℕ) → m < member_count s → learned spread.suspected.items from m ≡ told_after rows what.Suspect subject from m
-  suspected_same m low = ap (option_map (λ at. at - from)) (is.suspected from m begun (subst (λ n. m < n) (sym (is.suspecting ∙ all)) low))
+  suspected_same m low = ap (option_map (λ at. at - from)) (is.suspected m (subst (λ n. m < n) (sym (is.suspecting ∙ all)) low))
 
   confirmed_same : (m : ℕ) → m < member_count s → learned spread.confirmed.items from m ≡ told_after rows what.Confirm subject from m
-  confirmed_same m low = ap (option_map (λ at. at - from)) (is.confirmed from m begun (subst (λ n. m < n) (sym (is.confirming ∙ all)) low))
+  confirmed_same m low = ap (option_map (λ at. at - from)) (is.confirmed m (subst (λ n. m < n) (sym (is.confirming ∙ all)) low))
 
   -- how long after the crash the last member told of it
   pub last_is : (one other most : ℕ) → one ≡ last_learned s (learned spread.suspected.items from) → other ≡ last_learned s (learned spread.confirmed.items from)

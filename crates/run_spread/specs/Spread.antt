@@ -9,7 +9,7 @@ use Rattle.trace.specs.declared.row.What.TheVariants as what
 use Rattle.trace.specs.declared.row.Row.{Row}
 use Rattle.figures.specs.Cases.{rank, at_rank}
 use Rattle.series.specs.Watched.{at_by, crashes, crashed, watched}
-use Rattle.series.specs.Stories.{first_said}
+use Rattle.series.specs.Stories.{heard}
 use Rattle.drawing.specs.Axes.{axis_up, axis_across}
 use Rattle.drawing.specs.Escaped.{escaped}
 use Rattle.drawing.specs.Legends.{entry}
@@ -20,11 +20,11 @@ use Rattle.run_spread.specs.declared.news.ShareTimes.{ShareTimes}
 
 -- ---- when members learned of a crash
 
--- how long after a moment a member first told this of a subject, if it did
+-- how long after a subject's crash, at a moment, a member learned of it, if it did: 0 where it held the subject so before
 abbrev pub told_after : List Row → What → ℕ → ℕ → ℕ → Option ℕ
-told_after rows kind subject from member = option_map (λ at. at - from) (first_said kind subject from member rows)
+told_after rows kind subject from member = option_map (λ at. at - from) (heard kind subject member rows)
 
--- the same, where at each member's number stands when it first did
+-- the same, where at each member's number stands when it did
 abbrev pub learned : List (Option ℕ) → ℕ → ℕ → Option ℕ
 learned moments from member = option_map (λ at. at - from) (slice_index_or moments member None)
 
@@ -51,7 +51,7 @@ greatest_of_all s number = fold (λ most member. max most (number member)) 0 (ra
 abbrev pub last_learned : Setup → (ℕ → Option ℕ) → ℕ
 last_learned s learned = greatest_of_all s (λ member. unwrap_or (learned member) 0)
 
--- how long after a member's crash the last other one suspected it or declared it dead, where the crash is watched
+-- how long after a member's crash the last other one learned of it, where the crash is watched
 abbrev pub last_told : Setup → List Row → ℕ → ℕ → ℕ
 last_told s rows subject from = max (last_learned s (told_after rows what.Suspect subject from)) (last_learned s (told_after rows what.Confirm subject from))
 
@@ -137,7 +137,7 @@ watched_crash s rows step member = option_map_or (told_crash s rows step member)
 unfoldable pub spread_legend : List ℕ
 spread_legend =
     codes "<ul class=\"legend\">" ++ entry (codes "suspect") (codes "have suspected it") ++ entry (codes "dead") (codes "have declared it dead")
-    ++ codes "</ul><p class=\"soft\">Only claims from the moment of the crash on are counted: a member that had declared it dead before isn't.</p>"
+    ++ codes "</ul><p class=\"soft\">A member that suspected it, or held it dead, when it crashed counts as having heard at once.</p>"
 
 -- how many crashes aren't watched, where there are more than 12
 unfoldable pub unwatched_words : ℕ → List ℕ
@@ -149,6 +149,6 @@ spread_figure s rows step =
     figure_opening (codes "spread") (codes "How the news of a crash spread") ++ spread_legend ++ unwatched_words (crashed s (member_count s))
     ++ codes "<div class=\"many\">" ++ flat_map (watched_crash s rows step) (range_with_len 0 (member_count s)) ++ codes "</div>" ++ figure_end
 
--- the same, where somebody learned of a crash that is watched: 120 steps hold the longest time
+-- the same, where somebody crashes: 120 steps hold the longest time
 abbrev pub spread_text : Setup → List Row → List ℕ
-spread_text s rows = if nat_eq (longest s rows) 0 then [] else spread_figure s rows (longest s rows / 120 + 1)
+spread_text s rows = if nat_eq (crashed s (member_count s)) 0 then [] else spread_figure s rows (longest s rows / 120 + 1)

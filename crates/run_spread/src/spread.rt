@@ -22,16 +22,15 @@ use std::alloc::{AllocError, Global};
 /// The most crashes that are watched.
 const WATCHED: u64 = 12;
 
-/// Appends how the news of each crash spread that is watched, where somebody learned of one.
+/// Appends how the news of each crash spread that is watched, where somebody crashes.
 pub fn push_spread(alloc: Global, text: &mut String, run: &Run) -> Result<(), Memory>
     requires { IsTold run.now }
     ensures { OnOk result (string_bytes text.new ≡ string_bytes text.old ++ spread_text run.now.scenario.now run.now.tallies.now) }
 {
-    let longest = longest(run);
-    if longest == 0 {
+    if crashed(run) == 0 {
         return Ok(());
     }
-    push_figure(alloc, text, run, longest / STEPS + 1)
+    push_figure(alloc, text, run, longest(run) / STEPS + 1)
 }
 
 /// Appends the figure, in steps so long.
@@ -59,7 +58,7 @@ fn push_legend(text: &mut String) -> Result<(), AllocError>
     push_entry(text, "suspect", "have suspected it")?;
     push_entry(text, "dead", "have declared it dead")?;
     text.push_str(
-        "</ul><p class=\"soft\">Only claims from the moment of the crash on are counted: a member that had declared it dead before isn't.</p>",
+        "</ul><p class=\"soft\">A member that suspected it, or held it dead, when it crashed counts as having heard at once.</p>",
     )?;
     Ok(())
 }

@@ -1,13 +1,17 @@
 -- What one row more makes of the series.
-use Rattle.std.proofs.Common.{◌≡◌, ℕ, zero, suc, ◌+◌, ◌<◌, ◌≤◌, Bool, true, false, cond, ◌&&◌, ◌==◌, List, [], ◌∷◌, ◌++◌, length, Option, Some, None, sym, ap, subst, ◌∙◌, arith, lit<, add-zero, append-nil}
-use Rattle.std.specs.Prelude.{Result, Ok, Err, OnErr, IfSome, count_by, filter_map, if◌then◌else◌, nat_le, slice_get, slice_set, slice_index, slice_index_or}
-use Rattle.std.specs.Option.{option_map_or, option_or, option_to_list}
-use Rattle.std.specs.List.{cons_option, last_or}
+use Rattle.std.proofs.Common.{◌≡◌, ℕ, zero, suc, ◌+◌, ◌<◌, ◌≤◌, Bool, true, false, cond, ◌&&◌, ◌||◌, ◌==◌, List, [], ◌∷◌, ◌++◌, length, Option, Some, None, refl, sym, ap, subst, ◌∙◌, arith, lit<, add-zero, append-nil}
+use Rattle.std.specs.Prelude.{Result, Ok, Err, OnErr, IfSome, count_by, filter_map, if◌then◌else◌, slice_get, slice_set, slice_index, slice_index_or}
+use Rattle.std.specs.Option.{option_map, option_map_or, option_or, option_to_list}
+use Rattle.std.specs.List.{cons_option, last_or, list_any}
+use Rattle.std.proofs.Math.Bool.{and-false}
+use denote.Enum.Bare.{sameb, same_true}
+use Rattle.trace.specs.contracts.row.What.{the_type}
 use Rattle.scenario.specs.Setup.{Setup}
 use Rattle.trace.specs.declared.row.What.{What}
 use Rattle.trace.specs.declared.row.What.TheVariants as what
 use Rattle.trace.specs.declared.row.Row.{Row}
 use Rattle.reports.specs.Rows.{has_kind, is_about, tells_of, tells_lost}
+use Rattle.reports.specs.Revivals.{views, is_view, is_view_of}
 use Rattle.reports.proofs.Detections.{tells_of-it, tells_of-other}
 use Rattle.series.specs.declared.grid.Grid.{Grid}
 use Rattle.series.specs.declared.spread.Spread.{Spread}
@@ -16,9 +20,10 @@ use Rattle.series.specs.Grid.{count_at}
 use Rattle.series.specs.Spans.{span_at}
 use Rattle.series.specs.Lines.{line_at}
 use Rattle.series.specs.Changes.{Change, AreFlowsOf}
-use Rattle.series.specs.Stories.{claimed_state, claims_of, claim_told, claim_change, IsStoryOf, IsSpreadOf, ComesNext, refutes_in}
+use Rattle.series.specs.Stories.{claimed_state, claims_of, claim_told, claim_change, is_crash_of, heard, with_row, IsStoryOf, IsSpreadOf, ComesNext, refutes_in}
 use Rattle.series.specs.Series.{sends_in, loses_in, kind_place, healths_of, health_told}
-use Rattle.series.proofs.Telling.{count-push, told-push, lines_other, count_other, said_other, said_more, first_line-push, last_line-push}
+use Rattle.series.proofs.Telling.{count-push, told-push, lines_other, count_other, first_line-push, last_line-push}
+use Rattle.series.proofs.Hearing.{crashed_more, heard_other, heard_more}
 use Rattle.series.proofs.Counted.{same_place}
 use Rattle.series.proofs.Revived.{revived_other, revived_more}
 
@@ -57,25 +62,114 @@ healths-push s rows row = told-push (health_told s) rows row
 
 -- ---- a member's story
 
+-- the row tells nothing of a subject, but that it crashes
+record TellsNothing (s : Setup) (subject : ℕ) (row : Row) : Type 0 where
+  claim : claim_told s subject row ≡ None
+  back : (held : Bool) → ((has_kind what.Alive row && held) && is_about subject row) ≡ false
+  view : (member : ℕ) → is_view_of member subject row ≡ false
+  suspect : tells_of what.Suspect subject row ≡ false
+  confirm : tells_of what.Confirm subject row ≡ false
+  refute : tells_of what.Refute subject row ≡ false
+  fail : tells_of what.Fail subject row ≡ false
+
 -- a row about another member tells nothing of it
-pub untold : (s : Setup) (subject : ℕ) (story : Story) (rows : List Row) (row : Row) → is_about subject row ≡ false → IsStoryOf s subject story rows → IsStoryOf s subject story (rows ++ row ∷ [])
-untold s subject story rows row other is =
-    let none : (kind : What) → tells_of kind subject row ≡ false = λ kind. tells_of-other kind subject row other in
+other_tells : (s : Setup) (subject : ℕ) (row : Row) → is_about subject row ≡ false → TellsNothing s subject row
+other_tells s subject row other =
     record {
-      claims = subst (AreFlowsOf 3 story.claims) (sym (told-push (claim_told s subject) rows row ∙ ap (λ b. claims_of s subject rows ++ option_to_list (if b then claim_change (span_at s row.at) row else None)) other ∙ append-nil (claims_of s subject rows))) is.claims;
-      revived = λ k low. is.revived k low ∙ revived_other s subject k rows row other;
-      refuted = λ k low. is.refuted k low ∙ count_other (refutes_in s subject k) rows row (ap (λ t. t && k == span_at s row.at) (none what.Refute));
-      first_confirm = is.first_confirm ∙ ap (λ l. slice_get l 0) (lines_other (tells_of what.Confirm subject) rows row (none what.Confirm));
-      last_refute = is.last_refute ∙ ap (last_or None) (lines_other (tells_of what.Refute subject) rows row (none what.Refute));
-      spread = record {
-        since = is.spread.since;
-        suspecting = is.spread.suspecting;
-        confirming = is.spread.confirming;
-        suspected = λ from m begins low. is.spread.suspected from m begins low ∙ said_other what.Suspect subject from m rows row (none what.Suspect);
-        confirmed = λ from m begins low. is.spread.confirmed from m begins low ∙ said_other what.Confirm subject from m rows row (none what.Confirm);
-      };
-      fails = is.fails ∙ count_other (tells_of what.Fail subject) rows row (none what.Fail);
+      claim = ap (λ b. if b then claim_change (span_at s row.at) row else None) other;
+      back = λ held. ap (λ b. (has_kind what.Alive row && held) && b) other ∙ and-false (has_kind what.Alive row && held);
+      view = λ member. ap (λ b. is_view row && ((row.member == member) && b)) other ∙ ap (λ b. is_view row && b) (and-false (row.member == member)) ∙ and-false (is_view row);
+      suspect = tells_of-other what.Suspect subject row other;
+      confirm = tells_of-other what.Confirm subject row other;
+      refute = tells_of-other what.Refute subject row other;
+      fail = tells_of-other what.Fail subject row other;
     }
+
+-- nor does the row of a crash
+crash_tells : (s : Setup) (subject : ℕ) (row : Row) → row.what ≡ what.Crash → TellsNothing s subject row
+crash_tells s subject row is =
+    record {
+      claim = ap (λ w. if is_about subject row then option_map (λ state. record { member = row.member; state = state; span = span_at s row.at }) (claimed_state w) else None) is ∙ no_claim (is_about subject row);
+      back = λ held. ap (λ w. (sameb the_type w what.Alive && held) && is_about subject row) is;
+      view = λ member. ap (λ w. list_any (sameb the_type w) views && ((row.member == member) && is_about subject row)) is;
+      suspect = ap (λ w. sameb the_type w what.Suspect && is_about subject row) is;
+      confirm = ap (λ w. sameb the_type w what.Confirm && is_about subject row) is;
+      refute = ap (λ w. sameb the_type w what.Refute && is_about subject row) is;
+      fail = ap (λ w. sameb the_type w what.Fail && is_about subject row) is;
+    }
+  where
+    no_claim : (b : Bool) → ◌≡◌ {A = Option Change} (if b then None else None) None
+    no_claim true = refl
+    no_claim false = refl
+
+-- what such a row leaves of when others learned of its crash, with whether it crashes by it
+spread_same : (s : Setup) (subject : ℕ) (spread : Spread) (rows : List Row) (row : Row) (crashed : Bool) → TellsNothing s subject row → IsSpreadOf s subject spread rows
+    → crashed ≡ (spread.crashed || is_crash_of subject row) → IsSpreadOf s subject (record spread { crashed = crashed }) (rows ++ row ∷ [])
+spread_same s subject spread rows row crashed nothing is comes =
+    record {
+      since = is.since;
+      crashed = comes ∙ ap (λ b. b || is_crash_of subject row) is.crashed ∙ sym (crashed_more subject rows row);
+      suspecting = is.suspecting;
+      confirming = is.confirming;
+      suspected = λ m low. is.suspected m low ∙ heard_other what.Suspect subject m rows row (nothing.view m) (ap (λ t. t && row.member == m) nothing.suspect);
+      confirmed = λ m low. is.confirmed m low ∙ heard_other what.Confirm subject m rows row (nothing.view m) (ap (λ t. t && row.member == m) nothing.confirm);
+    }
+
+-- what such a row leaves of its story, but for that
+unmoved : (s : Setup) (subject : ℕ) (story : Story) (spread : Spread) (rows : List Row) (row : Row) → TellsNothing s subject row → IsStoryOf s subject story rows → IsSpreadOf s subject spread (rows ++ row ∷ [])
+    → IsStoryOf s subject (record story { spread = spread }) (rows ++ row ∷ [])
+unmoved s subject story spread rows row nothing is spread_is =
+    record {
+      claims = subst (AreFlowsOf 3 story.claims) (sym (told-push (claim_told s subject) rows row ∙ ap (λ o. claims_of s subject rows ++ option_to_list o) nothing.claim ∙ append-nil (claims_of s subject rows))) is.claims;
+      revived = λ k low. is.revived k low ∙ revived_other s subject k rows row nothing.back;
+      refuted = λ k low. is.refuted k low ∙ count_other (refutes_in s subject k) rows row (ap (λ t. t && k == span_at s row.at) nothing.refute);
+      first_confirm = is.first_confirm ∙ ap (λ l. slice_get l 0) (lines_other (tells_of what.Confirm subject) rows row nothing.confirm);
+      last_refute = is.last_refute ∙ ap (last_or None) (lines_other (tells_of what.Refute subject) rows row nothing.refute);
+      spread = spread_is;
+      fails = is.fails ∙ count_other (tells_of what.Fail subject) rows row nothing.fail;
+    }
+
+same_crashed : (a b : Bool) → b ≡ false → a ≡ (a || b)
+same_crashed true b none = refl
+same_crashed false b none = sym none
+
+-- a row of another kind isn't that of a crash
+pub no_crash : (subject : ℕ) (row : Row) → has_kind what.Crash row ≡ false → is_crash_of subject row ≡ false
+no_crash subject row apart = ap (λ t. t && row.member == subject) apart
+
+-- a row about another member, which isn't that of this one's crash, leaves its story
+pub untold : (s : Setup) (subject : ℕ) (story : Story) (rows : List Row) (row : Row) → is_about subject row ≡ false → is_crash_of subject row ≡ false → IsStoryOf s subject story rows
+    → IsStoryOf s subject story (rows ++ row ∷ [])
+untold s subject story rows row other no_crash is =
+    let nothing = other_tells s subject row other in
+    unmoved s subject story story.spread rows row nothing is (spread_same s subject story.spread rows row story.spread.crashed nothing is.spread (same_crashed story.spread.crashed _ no_crash))
+
+-- so does the row of another's crash
+pub untold_crash : (s : Setup) (subject : ℕ) (story : Story) (rows : List Row) (row : Row) → has_kind what.Crash row ≡ true → ¬ (subject ≡ row.member) → IsStoryOf s subject story rows
+    → IsStoryOf s subject story (rows ++ row ∷ [])
+untold_crash s subject story rows row crash apart is =
+    let nothing = crash_tells s subject row (same_true the_type tt row.what what.Crash crash) in
+    let no_crash : is_crash_of subject row ≡ false = ap (λ t. has_kind what.Crash row && t) (unlike row.member subject apart) ∙ and-false (has_kind what.Crash row) in
+    unmoved s subject story story.spread rows row nothing is (spread_same s subject story.spread rows row story.spread.crashed nothing is.spread (same_crashed story.spread.crashed _ no_crash))
+  where
+    unlike : (a b : ℕ) → ¬ (b ≡ a) → (a == b) ≡ false
+    unlike a b h = grind (arith)
+
+-- the row of its own crash tells of that alone
+pub told_crash : (s : Setup) (subject : ℕ) (story : Story) (rows : List Row) (row : Row) → has_kind what.Crash row ≡ true → row.member ≡ subject → IsStoryOf s subject story rows
+    → IsStoryOf s subject (record story { spread = record story.spread { crashed = true } }) (rows ++ row ∷ [])
+told_crash s subject story rows row crash is_its is =
+    let nothing = crash_tells s subject row (same_true the_type tt row.what what.Crash crash) in
+    let comes : is_crash_of subject row ≡ true = ap (λ t. t && row.member == subject) crash ∙ alike row.member subject is_its in
+    unmoved s subject story (record story.spread { crashed = true }) rows row nothing is
+    (spread_same s subject story.spread rows row true nothing is.spread (sym (ap (λ b. story.spread.crashed || b) comes ∙ or-true story.spread.crashed)))
+  where
+    alike : (a b : ℕ) → a ≡ b → (a == b) ≡ true
+    alike a b h = grind (arith)
+
+    or-true : (b : Bool) → (b || true) ≡ true
+    or-true true = refl
+    or-true false = refl
 
 -- what a row about the member tells of it
 pub told : (s : Setup) (subject : ℕ) (old new : Story) (rows : List Row) (row : Row) (span number : ℕ) → is_about subject row ≡ true → ComesNext s row span number rows → IsStoryOf s subject old rows
@@ -105,31 +199,34 @@ told s subject old new rows row span number about next is claims refuted revived
           ∙ sym (count-push (tells_of what.Fail subject) rows row);
     }
 
-pub spread_more : (s : Setup) (subject : ℕ) (old new : Spread) (rows : List Row) (row : Row) (suspects confirms : Bool) → is_about subject row ≡ true → IsSpreadOf s subject old rows → new.since ≡ old.since
+pub spread_more : (s : Setup) (subject : ℕ) (old new : Spread) (rows : List Row) (row : Row) → is_about subject row ≡ true → is_crash_of subject row ≡ false → IsSpreadOf s subject old rows
+    → new.since ≡ old.since → new.crashed ≡ old.crashed
     → length new.suspected.items ≡ length old.suspected.items → length new.confirmed.items ≡ length old.confirmed.items
-    → ((from : ℕ) → old.since ≡ Some from → suspects ≡ (has_kind what.Suspect row && nat_le from row.at))
-    → ((from : ℕ) → old.since ≡ Some from → confirms ≡ (has_kind what.Confirm row && nat_le from row.at))
     → ((m : ℕ) → m < length old.suspected.items → slice_index_or new.suspected.items m None
-    ≡ option_or (slice_index_or old.suspected.items m None) (if suspects && row.member == m then Some row.at else None))
+    ≡ (if row.member == m then with_row old.crashed what.Suspect row (slice_index_or old.suspected.items m None) else slice_index_or old.suspected.items m None))
     → ((m : ℕ) → m < length old.confirmed.items → slice_index_or new.confirmed.items m None
-    ≡ option_or (slice_index_or old.confirmed.items m None) (if confirms && row.member == m then Some row.at else None))
+    ≡ (if row.member == m then with_row old.crashed what.Confirm row (slice_index_or old.confirmed.items m None) else slice_index_or old.confirmed.items m None))
     → IsSpreadOf s subject new (rows ++ row ∷ [])
-spread_more s subject old new rows row suspects confirms about is same long long_too is_suspected is_confirmed suspected confirmed =
+spread_more s subject old new rows row about no_crash is same crashed long long_too suspected confirmed =
     record {
       since = same ∙ is.since;
+      crashed = crashed ∙ same_crashed old.crashed _ no_crash ∙ ap (λ b. b || is_crash_of subject row) is.crashed ∙ sym (crashed_more subject rows row);
       suspecting = long ∙ is.suspecting;
       confirming = long_too ∙ is.confirming;
-      suspected = λ from m begins low.
-          let begun : old.since ≡ Some from = sym same ∙ begins in
+      suspected = λ m low.
           let within : m < length old.suspected.items = subst (λ n. m < n) long low in
-          said_more what.Suspect subject from m rows row _ _ about (is.suspected from m begun within)
-          (suspected m within ∙ ap (λ t. option_or (slice_index_or old.suspected.items m None) (if t && row.member == m then Some row.at else None)) (is_suspected from begun));
-      confirmed = λ from m begins low.
-          let begun : old.since ≡ Some from = sym same ∙ begins in
+          suspected m within ∙ next what.Suspect m _ (is.suspected m within);
+      confirmed = λ m low.
           let within : m < length old.confirmed.items = subst (λ n. m < n) long_too low in
-          said_more what.Confirm subject from m rows row _ _ about (is.confirmed from m begun within)
-          (confirmed m within ∙ ap (λ t. option_or (slice_index_or old.confirmed.items m None) (if t && row.member == m then Some row.at else None)) (is_confirmed from begun));
+          confirmed m within ∙ next what.Confirm m _ (is.confirmed m within);
     }
+  where
+    next : (kind : What) (m : ℕ) (was : Option ℕ) → was ≡ heard kind subject m rows
+        → (if row.member == m then with_row old.crashed kind row was else was) ≡ heard kind subject m (rows ++ row ∷ [])
+    next kind m was so_far =
+        ap (λ o. if row.member == m then with_row old.crashed kind row o else o) so_far
+        ∙ ap (λ c. if row.member == m then with_row c kind row (heard kind subject m rows) else heard kind subject m rows) is.crashed
+        ∙ sym (heard_more kind subject m rows row about no_crash)
 
 -- ---- no more is told than there are rows
 

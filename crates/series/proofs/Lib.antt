@@ -4,6 +4,7 @@ pub mod Flowing
 pub mod Telling
 pub mod Counted
 pub mod Revived
+pub mod Hearing
 pub mod Gathering
 pub mod Holding
 mod Watching

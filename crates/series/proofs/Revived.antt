@@ -151,15 +151,11 @@ revived_more s subject k span old new rows row about spanned claims so_far is =
     ∙ ap (λ t. count_by (revives_in s subject k) (rows_in_place rows) + cond t 1 0) (sym (revives-last s subject k old rows row about claims))
     ∙ sym (placed-push (revives_in s subject k) rows row (λ p. refl))
 
-and-false : (a b : Bool) → b ≡ false → (a && b) ≡ false
-and-false true b is = is
-and-false false b is = refl
-
-pub revived_other : (s : Setup) (subject k : ℕ) (rows : List Row) (row : Row) → is_about subject row ≡ false
+pub revived_other : (s : Setup) (subject k : ℕ) (rows : List Row) (row : Row) → ((held : Bool) → ((has_kind what.Alive row && held) && is_about subject row) ≡ false)
     → count_by (revives_in s subject k) (rows_in_place rows) ≡ count_by (revives_in s subject k) (rows_in_place (rows ++ row ∷ []))
-revived_other s subject k rows row other =
+revived_other s subject k rows row none =
     sym (placed-push (revives_in s subject k) rows row (λ p. refl)
-    ∙ ap (λ t. count_by (revives_in s subject k) (rows_in_place rows) + cond t 1 0) (ap (λ t. t && k == span_at s row.at) (and-false (is_back (holds_failed rows) row) (is_about subject row) other))
+    ∙ ap (λ t. count_by (revives_in s subject k) (rows_in_place rows) + cond (t && k == span_at s row.at) 1 0) (none (option_map_or (holds_failed rows row.member) row.about false))
     ∙ add-zero (count_by (revives_in s subject k) (rows_in_place rows)))
 
 -- a row by which a member is taken for alive again is of that kind

@@ -1,17 +1,14 @@
 -- What one row more tells of a member.
-use Rattle.std.proofs.Common.{◌≡◌, ℕ, ◌+◌, Bool, true, false, cond, ◌&&◌, ◌==◌, List, [], ◌∷◌, ◌++◌, length, Option, Some, None, refl, sym, ap, ◌∙◌, arith, add-zero, append-nil}
-use Rattle.std.specs.Prelude.{filter_map, find, count_by, if◌then◌else◌, nat_le, slice_get}
+use Rattle.std.proofs.Common.{◌≡◌, ℕ, ◌+◌, Bool, true, false, cond, List, [], ◌∷◌, ◌++◌, length, Option, Some, None, refl, sym, ap, ◌∙◌, arith, add-zero, append-nil}
+use Rattle.std.specs.Prelude.{filter_map, count_by, if◌then◌else◌, slice_get}
 use Rattle.std.specs.Option.{option_or, option_to_list}
 use Rattle.std.specs.List.{last_or, cons_option}
 use Rattle.std.proofs.lemmas.List.Elements.{filter_map-append}
-use Rattle.std.proofs.lemmas.List.Folds.{find-append}
 use Rattle.std.proofs.lemmas.List.Sums.{sum_by_push}
 use Rattle.trace.specs.declared.row.What.{What}
 use Rattle.trace.specs.declared.row.Row.{Row}
 use Rattle.reports.specs.Rows.{has_kind, is_about, tells_of}
-use Rattle.reports.specs.Departures.{moment_of}
-use Rattle.reports.proofs.Detections.{tells_of-it, first-or, or-none}
-use Rattle.series.specs.Stories.{says, first_said}
+use Rattle.reports.proofs.Detections.{tells_of-it}
 use Rattle.series.specs.declared.lines.Line.{Line}
 use Rattle.series.specs.Lines.{line_at, lines_from, lines_of}
 
@@ -90,40 +87,3 @@ lines_other test rows row none = sym (lines-push test rows row ∙ ap (λ t. lin
 
 pub count_other : {X : Type 0} (test : X → Bool) (xs : List X) (x : X) → test x ≡ false → count_by test xs ≡ count_by test (xs ++ x ∷ [])
 count_other test xs x none = sym (count-push test xs x ∙ ap (λ t. count_by test xs + cond t 1 0) none ∙ add-zero (count_by test xs))
-
--- ---- when members first said it
-
-moment-one : (test : Bool) (row : Row) → moment_of (cond test (Some row) None) ≡ (if test then Some row.at else None)
-moment-one true row = refl
-moment-one false row = refl
-
-pub said-push : (kind : What) (subject from member : ℕ) (rows : List Row) (row : Row) → first_said kind subject from member (rows ++ row ∷ [])
-    ≡ option_or (first_said kind subject from member rows) (if says kind subject member row && nat_le from row.at then Some row.at else None)
-said-push kind subject from member rows row =
-    let test : Row → Bool = λ r. says kind subject member r && nat_le from r.at in
-    ap moment_of (find-append test rows (row ∷ [])) ∙ first-or (find test rows) (find test (row ∷ []))
-    ∙ ap (option_or (first_said kind subject from member rows)) (moment-one (test row) row)
-
-pub said_other : (kind : What) (subject from member : ℕ) (rows : List Row) (row : Row) → tells_of kind subject row ≡ false
-    → first_said kind subject from member rows ≡ first_said kind subject from member (rows ++ row ∷ [])
-said_other kind subject from member rows row none =
-    sym (said-push kind subject from member rows row
-    ∙ ap (λ t. option_or (first_said kind subject from member rows) (if (t && row.member == member) && nat_le from row.at then Some row.at else None)) none
-    ∙ or-none (first_said kind subject from member rows))
-
-in_order : (a b c : Bool) → ((a && c) && b) ≡ ((a && b) && c)
-in_order true true true = refl
-in_order true true false = refl
-in_order true false true = refl
-in_order true false false = refl
-in_order false b c = refl
-
-pub said_more : (kind : What) (subject from member : ℕ) (rows : List Row) (row : Row) (old new : Option ℕ) → is_about subject row ≡ true
-    → old ≡ first_said kind subject from member rows
-    → new ≡ option_or old (if (has_kind kind row && nat_le from row.at) && row.member == member then Some row.at else None)
-    → new ≡ first_said kind subject from member (rows ++ row ∷ [])
-said_more kind subject from member rows row old new about was is =
-    is ∙ ap (λ o. option_or o (if (has_kind kind row && nat_le from row.at) && row.member == member then Some row.at else None)) was
-    ∙ ap (λ t. option_or (first_said kind subject from member rows) (if t then Some row.at else None))
-    (in_order (has_kind kind row) (row.member == member) (nat_le from row.at) ∙ ap (λ t. (t && row.member == member) && nat_le from row.at) (sym (tells_of-it kind subject row about)))
-    ∙ sym (said-push kind subject from member rows row)

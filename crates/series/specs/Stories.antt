@@ -1,13 +1,13 @@
 -- What the rows of a run tell of one member.
-use Rattle.std.specs.Prelude.{◌≡◌, ℕ, ◌+◌, ◌<◌, ◌≤◌, ◌^◌, Bool, true, ◌&&◌, ◌==◌, nat_le, if◌then◌else◌, Option, Some, None, IfSome, List, filter_map, find, count_by, length, slice_index_or}
-use Rattle.std.specs.Option.{option_map}
-use Rattle.std.specs.List.{last_or, slice_get}
+use Rattle.std.specs.Prelude.{◌≡◌, ℕ, ◌+◌, ◌<◌, ◌≤◌, ◌^◌, Bool, true, false, ◌&&◌, ◌==◌, if◌then◌else◌, Option, Some, None, IfSome, List, [], ◌∷◌, filter, filter_map, find, count_by, length, slice_index_or}
+use Rattle.std.specs.Option.{option_map, option_map_or, option_or}
+use Rattle.std.specs.List.{last_or, list_any, slice_get}
 use Rattle.scenario.specs.Setup.{Setup}
 use Rattle.trace.specs.declared.row.What.{What}
 use Rattle.trace.specs.declared.row.What.TheVariants as what
 use Rattle.trace.specs.declared.row.Row.{Row}
-use Rattle.reports.specs.Rows.{Placed, rows_in_place, is_about, tells_of}
-use Rattle.reports.specs.Revivals.{is_revival}
+use Rattle.reports.specs.Rows.{Placed, rows_in_place, has_kind, is_about, tells_of}
+use Rattle.reports.specs.Revivals.{is_view, is_view_of, is_revival}
 use Rattle.reports.specs.Departures.{moment_of}
 use Rattle.series.specs.declared.story.Story.{Story}
 use Rattle.series.specs.declared.spread.Spread.{Spread}
@@ -48,19 +48,48 @@ revives_in s subject span p = (is_revival p && is_about subject p.row) && span =
 abbrev pub says : What → ℕ → ℕ → Row → Bool
 says kind subject member row = tells_of kind subject row && row.member == member
 
--- when a member first told this of a subject at a moment or later, if it did
-abbrev pub first_said : What → ℕ → ℕ → ℕ → List Row → Option ℕ
-first_said kind subject from member rows = moment_of (find (λ row. says kind subject member row && nat_le from row.at) rows)
+-- when a member first told this of a subject, if it did
+abbrev pub first_said : What → ℕ → ℕ → List Row → Option ℕ
+first_said kind subject member rows = moment_of (find (says kind subject member) rows)
 
--- what is kept of a subject's crash, where that is watched, is when each member first suspected the subject from then on, and first confirmed that it failed
+-- the row is that of the subject's crash
+abbrev pub is_crash_of : ℕ → Row → Bool
+is_crash_of subject row = has_kind what.Crash row && row.member == subject
+
+-- the rows before a subject's crash, and those from it on; before it are all where it isn't there
+abbrev pub before_crash : ℕ → List Row → List Row
+before_crash subject [] = []
+before_crash subject (row ∷ rows) = if is_crash_of subject row then [] else row ∷ before_crash subject rows
+
+abbrev pub from_crash : ℕ → List Row → List Row
+from_crash subject [] = []
+from_crash subject (row ∷ rows) = if is_crash_of subject row then row ∷ rows else from_crash subject rows
+
+-- the moment of a row, where it tells this
+abbrev pub told_at : What → Row → Option ℕ
+told_at kind row = if has_kind kind row then Some row.at else None
+
+-- when a member came to hold a subject so, where it does by the last of these rows that tells how it holds it
+abbrev pub held_so : What → ℕ → ℕ → List Row → Option ℕ
+held_so kind subject member rows = option_map_or (told_at kind) (last_or None (filter (is_view_of member subject) rows)) None
+
+-- when a member learned of a subject's crash: it held the subject so when it crashed, or else told so first from then on
+abbrev pub heard : What → ℕ → ℕ → List Row → Option ℕ
+heard kind subject member rows = option_or (held_so kind subject member (before_crash subject rows)) (first_said kind subject member (from_crash subject rows))
+
+-- when a member learned of a crash, or came to hold so whom hasn't crashed yet, with one row of its own more that is about this one
+abbrev pub with_row : Bool → What → Row → Option ℕ → Option ℕ
+with_row true kind row moment = option_or moment (told_at kind row)
+with_row false kind row moment = if is_view row then told_at kind row else moment
+
+-- what is kept of a subject's crash, where that is watched, is when each member learned of it: by which it suspects the subject, and by which it holds it dead
 pub record IsSpreadOf (s : Setup) (subject : ℕ) (spread : Spread) (rows : List Row) : Type 0 where
   pub since : spread.since ≡ watched s subject
+  pub crashed : spread.crashed ≡ list_any (is_crash_of subject) rows
   pub suspecting : length spread.suspected.items ≡ places s subject
   pub confirming : length spread.confirmed.items ≡ places s subject
-  pub suspected : (from member : ℕ) → spread.since ≡ Some from → member < length spread.suspected.items
-      → slice_index_or spread.suspected.items member None ≡ first_said what.Suspect subject from member rows
-  pub confirmed : (from member : ℕ) → spread.since ≡ Some from → member < length spread.confirmed.items
-      → slice_index_or spread.confirmed.items member None ≡ first_said what.Confirm subject from member rows
+  pub suspected : (member : ℕ) → member < length spread.suspected.items → slice_index_or spread.suspected.items member None ≡ heard what.Suspect subject member rows
+  pub confirmed : (member : ℕ) → member < length spread.confirmed.items → slice_index_or spread.confirmed.items member None ≡ heard what.Confirm subject member rows
 
 -- what is kept is what these rows tell of the subject
 pub record IsStoryOf (s : Setup) (subject : ℕ) (story : Story) (rows : List Row) : Type 0 where

@@ -201,8 +201,8 @@ fn crash_by_end(scenario: &Scenario, member: MemberId) -> Option<Moment>
     }
 }
 
-/// Takes in what a row, which stands on the line of that number, tells of the member that it is about.
-/// A refusal leaves what is told.
+/// Takes in what a row, which stands on the line of that number, tells of the member that crashes by it,
+/// or else of the one that it is about. A refusal leaves what is told.
 fn follow_subject(
     stories: &mut Vec<Story>,
     row: &Row,
@@ -216,6 +216,10 @@ fn follow_subject(
     ensures err { OnErr result ((s : Setup) (rows : List AnyRow) → AreStoriesOf s stories.old.items rows → AreStoriesOf s stories.new.items rows) }
     ensures all { length stories.new.items ≡ length stories.old.items }
 {
+    if is_crash(row) {
+        stories[row.member.index()].crash();
+        return Ok(());
+    }
     let Some(about) = row.about else {
         return Ok(());
     };
@@ -224,6 +228,13 @@ fn follow_subject(
     story.make_room(row, members)?;
     story.follow(row, span, number);
     Ok(())
+}
+
+/// Whether a row is that of a crash.
+fn is_crash(row: &Row) -> bool
+    ensures { result ≡ has_kind What.Crash row.now }
+{
+    row.what == What::Crash
 }
 
 /// Counts the message that a row tells of, and whether it was lost.

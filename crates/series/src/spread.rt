@@ -1,27 +1,30 @@
-//! When members first learned of a crash.
-ghost use Rattle.std.specs.Prelude.{◌≡◌, ℕ, ◌<◌, ◌&&◌, ◌==◌, ◌++◌, ◌∷◌, [], true, if◌then◌else◌, nat_le, List, Some, None, IfOk, length, slice_index_or};
-ghost use Rattle.std.specs.Option.{option_or};
-ghost use Rattle.reports.specs.Rows.{has_kind};
+//! When members learned of a crash.
+ghost use Rattle.std.specs.Prelude.{◌≡◌, ℕ, ◌<◌, ◌==◌, ◌++◌, ◌∷◌, [], true, false, if◌then◌else◌, List, None, IfOk, length, slice_index_or};
+ghost use Rattle.reports.specs.Revivals.{is_view};
+ghost use Rattle.series.specs.Stories.{told_at, with_row};
 
-use base::{MemberId, Memory, Moment};
+use base::{Memory, Moment};
 use std::alloc::Global;
 use trace::{Row, What};
 
-/// When members first suspected a member that crashed, and first confirmed that it failed, where its
-/// crash is watched. It takes no memory where it isn't.
+/// When members learned of the crash of a member, where that is watched: when they suspected it, and
+/// when they confirmed that it failed. It takes no memory where it isn't.
 #[derive(Drop)]
 pub struct Spread {
-    /// When the member crashes: what is told earlier doesn't count.
+    /// When the member crashes.
     since: Option<Moment>,
-    /// When each member first suspected it.
+    /// Whether the row of its crash came.
+    crashed: bool,
+    /// Since when each member suspects it, until it crashes; from then on, when each suspected it that
+    /// did so when it crashed, or first did so later.
     suspected: Vec<Option<Moment>>,
-    /// When each first confirmed that it failed.
+    /// The same of those who confirm that it failed.
     confirmed: Vec<Option<Moment>>,
 }
 
 impl Spread {
     ghost use Rattle.scenario.specs.Setup.{Setup, member_count};
-    ghost use Rattle.series.specs.Stories.{IsSpreadOf};
+    ghost use Rattle.series.specs.Stories.{IsSpreadOf, is_crash_of};
     ghost use Rattle.series.specs.Watched.{watched};
     ghost use Rattle.trace.specs.declared.row.Row.{Row as AnyRow};
     ghost use Rattle.reports.specs.Rows.{is_about};
@@ -38,37 +41,44 @@ impl Spread {
         let places = if since.is_some() { members } else { 0 };
         Ok(Spread {
             since,
+            crashed: false,
             suspected: no_moments(alloc, places)?,
             confirmed: no_moments(alloc, places)?,
         })
     }
 
-    /// Takes in what a row tells that is about the member.
+    /// Takes in what a row tells that is about the member, and isn't that of its crash.
     pub(crate) fn follow(&mut self, row: &Row)
-        ensures { (s : Setup) (subject : ℕ) (rows : List AnyRow) → is_about subject row.now ≡ true → IsSpreadOf s subject self.old rows
+        ensures { (s : Setup) (subject : ℕ) (rows : List AnyRow) → is_about subject row.now ≡ true → is_crash_of subject row.now ≡ false → IsSpreadOf s subject self.old rows
             → IsSpreadOf s subject self.new (rows ++ row.now ∷ []) }
     {
-        let suspects = tells_since(row, What::Suspect, self.since);
-        note(&mut self.suspected, suspects, row.member, row.at);
-        let confirms = tells_since(row, What::Confirm, self.since);
-        note(&mut self.confirmed, confirms, row.member, row.at);
+        note(&mut self.suspected, self.crashed, What::Suspect, row);
+        note(&mut self.confirmed, self.crashed, What::Confirm, row);
     }
 
-    /// When the member crashes, where that is watched: what is told earlier doesn't count.
+    /// Takes in that the member crashes.
+    pub(crate) fn crash(&mut self)
+        ensures { self.new ≡ record self.old { crashed = true } }
+    {
+        self.crashed = true;
+    }
+
+    /// When the member crashes, where that is watched.
     pub fn since(&self) -> Option<Moment>
         ensures { result ≡ self.now.since }
     {
         self.since
     }
 
-    /// When each member first suspected it, at that member's number; empty where it isn't watched.
+    /// When each member suspected it that did so when it crashed, or first did so later, at that member's
+    /// number; empty where its crash isn't watched.
     pub fn suspected(&self) -> &[Option<Moment>]
         ensures { result.now ≡ self.now.suspected.items }
     {
         self.suspected.as_slice()
     }
 
-    /// When each first confirmed that it failed, likewise.
+    /// When each confirmed that it failed, likewise.
     pub fn confirmed(&self) -> &[Option<Moment>]
         ensures { result.now ≡ self.now.confirmed.items }
     {
@@ -86,25 +96,43 @@ fn no_moments(alloc: Global, members: usize) -> Result<Vec<Option<Moment>>, Memo
     Ok(moments)
 }
 
-/// Whether a row tells of this at a moment or later, where there is one.
-fn tells_since(row: &Row, kind: What, since: Option<Moment>) -> bool
-    ensures { (from : ℕ) → since ≡ Some from → result ≡ (has_kind kind row.now && nat_le from row.now.at) }
+/// Notes what a row tells about a member that crashes, by which its own member learned of it.
+fn note(moments: &mut Vec<Option<Moment>>, crashed: bool, kind: What, row: &Row)
+    ensures all { length moments.new.items ≡ length moments.old.items }
+    ensures noted { (m : ℕ) → m < length moments.old.items → slice_index_or moments.new.items m None
+        ≡ (if row.now.member == m then with_row crashed kind row.now (slice_index_or moments.old.items m None) else slice_index_or moments.old.items m None) }
 {
-    match since {
-        Some(from) => row.what == kind && from <= row.at,
-        None => false,
+    let place = row.member.index();
+    if place < moments.len() {
+        moments[place] = with_row(moments[place], crashed, kind, row);
     }
 }
 
-/// Notes a member's first moment, where there is one to note, the member has none yet and there is a
-/// place for it.
-fn note(firsts: &mut Vec<Option<Moment>>, notes: bool, member: MemberId, at: Moment)
-    ensures all { length firsts.new.items ≡ length firsts.old.items }
-    ensures noted { (m : ℕ) → m < length firsts.old.items → slice_index_or firsts.new.items m None
-        ≡ option_or (slice_index_or firsts.old.items m None) (if notes && member == m then Some at else None) }
+/// When a member learned of a crash, with one row of its own more about whom crashes. Before the crash
+/// the last row counts, from then on the first that tells so.
+fn with_row(moment: Option<Moment>, crashed: bool, kind: What, row: &Row) -> Option<Moment>
+    ensures { result ≡ with_row crashed kind row.now moment }
 {
-    let place = member.index();
-    if notes && place < firsts.len() {
-        firsts[place] = firsts[place].or(Some(at));
+    let told = told_at(kind, row);
+    if crashed {
+        moment.or(told)
+    } else if is_view(row) {
+        told
+    } else {
+        moment
     }
+}
+
+/// The moment of a row, where it tells this.
+fn told_at(kind: What, row: &Row) -> Option<Moment>
+    ensures { result ≡ told_at kind row.now }
+{
+    if row.what == kind { Some(row.at) } else { None }
+}
+
+/// Whether a row tells what its member holds from now on.
+fn is_view(row: &Row) -> bool
+    ensures { result ≡ is_view row.now }
+{
+    row.what == What::Alive || row.what == What::Suspect || row.what == What::Confirm
 }

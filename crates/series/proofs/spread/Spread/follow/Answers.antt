@@ -3,6 +3,5 @@ use Rattle.series.proofs.Gathering.{spread_more}
 use Rattle.series.proofs.spread.Spread.follow.Goals as goal
 
 pub returns : goal.returns
-returns c s subject rows about is =
-    spread_more s subject c.args.self.now _ rows c.args.row.now _ _ about is refl c.note.ensures.all c.note-2.ensures.all
-    c.tells_since-suspects.ensures c.tells_since-confirms.ensures c.note.ensures.noted c.note-2.ensures.noted
+returns c s subject rows about no_crash is =
+    spread_more s subject c.args.self.now _ rows c.args.row.now about no_crash is refl refl c.note.ensures.all c.note-2.ensures.all c.note.ensures.noted c.note-2.ensures.noted
