@@ -6,4 +6,4 @@ mod faults;
 mod gate;
 
 pub use faults::first_of;
-pub use gate::{Gate, OpenGate};
+pub use gate::{Entered, Gate, OpenGate, enter};

@@ -16,3 +16,4 @@ mod EndingsOfRuns
 mod SentWorkers
 mod WritingTurns
 mod ClosingEndings
+mod GateBounds

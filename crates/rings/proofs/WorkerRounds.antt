@@ -23,7 +23,9 @@ use Rattle.rounds.proofs.LotWindows.{lot_of_window, lot_rest}
 use Rattle.round_windows.specs.declared.course.Rounds.{Rounds}
 use Rattle.round_windows.specs.declared.window.Ran.{Ran}
 use Rattle.round_windows.specs.Basis.{Basis, IsBasis, GoBy, basis_of, division_of, plan_of}
+use Rattle.round_windows.specs.Bounds.{IsOwnBound}
 use Rattle.round_windows.specs.Windows.{HasRan}
+use Rattle.round_windows.proofs.OwnBounds.{own_bound}
 use Rattle.turns.proofs.After.{of_events}
 use Rattle.rings.specs.declared.rows.Gathered.{Gathered}
 use Rattle.rings.specs.declared.peers.Peer.{Peer}
@@ -84,6 +86,13 @@ module _ {Q : Type 0} (set : Q → FinMap key_cmp Event) (basis : Basis) (is : I
     -- up to its bound the part has run as the next round begins
     pub runs_to_bound : HasRunTo (plan_of basis) (round + 1) number (bound_of (plan_of basis) first number)
     runs_to_bound = let same : suc round ≡ round + 1 = omega arith in subst (λ n. HasRunTo (plan_of basis) n number (bound_of (plan_of basis) first number)) same (begins.world, first, begins.in_round, refl)
+
+    -- how far its window goes is the part's own bound
+    pub own_bound_here : (from end bound : ℕ) → (first ≡ Some from) × (from ≤ end) → end ≡ s.end → bound ≡ bound_of (plan_of basis) (Some from) number → IsOwnBound (plan_of basis) round number bound
+    own_bound_here from end bound pends ends chosen =
+        let in_time = pends.1 in
+        subst (IsOwnBound (plan_of basis) round number) (sym chosen)
+        (own_bound (plan_of basis) round number from begins.world is.plan low (subst (IsRound (plan_of basis) round begins.world) pends.0 begins.in_round) (omega (arith, in_time, ends)))
 
     -- the window that was run is that of the round
     pub ran_round : (ran : Ran Q) → HasRan set basis (bound_of (plan_of basis) first number) (world_of set part) ran → HasRanRound set basis number round ran

@@ -1,7 +1,7 @@
 //! The processes that a worker holds, and a round of them.
 ghost use Rattle.std.specs.Prelude.{◌≡◌, ◌∷◌, [], ◌++◌, Some, IfOk, IfErr, IfSome, OnOk, OnErr};
-ghost use Rattle.gates.specs.Gates.{KnowsAll, AwaitsAll};
 ghost use Rattle.round_windows.specs.Basis.{Basis, basis_of, GoBy};
+ghost use Rattle.round_windows.specs.Bounds.{AwaitsRounds};
 ghost use Rattle.rings.specs.Processes.{Belongs, IsReady, IsWaiting};
 ghost use Rattle.rings.specs.Holding.{Holds};
 ghost use Rattle.rings.specs.Telling.{MayEndBy};
@@ -12,7 +12,7 @@ use crate::piece::{Piece, RunPost};
 use crate::process::{Counts, Process, Waiting};
 use base::{Fault, Memory};
 use board::Site;
-use gates::Gate;
+use gates::{Gate, enter};
 use member::Event;
 use round_windows::Rounds;
 use std::alloc::Global;
@@ -110,7 +110,7 @@ impl<'b, K: OfRun, Q: EventQueue<Event> + Drop> Hold<'b, K, Q> {
         requires run { K.basis ≡ Some (basis_of rounds.now) }
         requires holds { Holds Q.set (basis_of rounds.now) self.old }
         requires known { G.knows worker }
-        requires awaited { AwaitsAll G.awaits rounds.now.division.now.parts }
+        requires awaited { AwaitsRounds G.awaits (basis_of rounds.now) }
         ensures holds { Holds Q.set (basis_of rounds.now) self.new }
         ensures fault { IfErr result (MayEndBy (basis_of rounds.now)) }
     {
@@ -135,7 +135,7 @@ impl<'b, K: OfRun, Q: EventQueue<Event> + Drop> Hold<'b, K, Q> {
         requires run { K.basis ≡ Some (basis_of rounds.now) }
         requires holds { Holds Q.set (basis_of rounds.now) self.old }
         requires known { G.knows worker }
-        requires awaited { AwaitsAll G.awaits rounds.now.division.now.parts }
+        requires awaited { AwaitsRounds G.awaits (basis_of rounds.now) }
         ensures holds { Holds Q.set (basis_of rounds.now) self.new }
         ensures fault { IfErr result (MayEndBy (basis_of rounds.now)) }
     {
@@ -186,8 +186,9 @@ impl<'b, K: OfRun, Q: EventQueue<Event> + Drop> Hold<'b, K, Q> {
     }
 }
 
-/// Runs the window of the process, and lets it tell the others. Where nothing is left up to the end it
-/// sends its last rows instead, and its lines go to the board: then nothing waits.
+/// Tells the gate of the process and how far its window goes, runs that window, and lets it tell the
+/// others. Where nothing is left up to the end it sends its last rows instead, and its lines go to the
+/// board: then nothing waits.
 fn run_process<'p, 'b, K: OfRun, Q: EventQueue<Event> + Drop, J: Site, G: Gate>(
     rt: &impl Wait,
     alloc: Global,
@@ -202,7 +203,7 @@ fn run_process<'p, 'b, K: OfRun, Q: EventQueue<Event> + Drop, J: Site, G: Gate>(
     requires run { K.basis ≡ Some (basis_of rounds.now) }
     requires ready { IsReady Q.set (basis_of rounds.now) process }
     requires known { G.knows worker }
-    requires awaited { AwaitsAll G.awaits rounds.now.division.now.parts }
+    requires awaited { AwaitsRounds G.awaits (basis_of rounds.now) }
     ensures waiting { IfOk result (λ o. IfSome o (IsWaiting Q.set (basis_of rounds.now))) }
     ensures fault { IfErr result (MayEndBy (basis_of rounds.now)) }
 {
@@ -211,8 +212,9 @@ fn run_process<'p, 'b, K: OfRun, Q: EventQueue<Event> + Drop, J: Site, G: Gate>(
         deal(rt, post, Piece::Ended(lines))?;
         return Ok(None);
     };
-    gate.enter(worker, process.round + 1, process.lines.number);
-    let waiting = process.run(rt, alloc, from, slept, rounds)?;
+    let bound = process.bound(from, rounds);
+    let entered = enter(gate, worker, process.round + 1, process.lines.number, bound);
+    let waiting = process.run(rt, alloc, from, entered, slept, rounds)?;
     Ok(Some(waiting))
 }
 

@@ -68,22 +68,19 @@ impl<'b, K: OfRun> LotTaker<'b, K> {
         }
     }
 
-    /// Takes all that is still to come, up to its end: the fault by which the worker ended, or this
-    /// one where that is first.
-    fn drain(&mut self, rt: &impl Wait, patience: &mut Patience, so_far: Fault) -> Fault
+    /// Takes what comes next, where something is still to come, and drops it: the fault by which the
+    /// worker ended, or this one where that is first.
+    fn skip(&mut self, rt: &impl Wait, patience: &mut Patience, so_far: Fault) -> Fault
         requires { (basis : Basis) → K.basis ≡ Some basis → MayEndBy basis so_far }
         ensures { (basis : Basis) → K.basis ≡ Some basis → MayEndBy basis result }
     {
-        for _ in rt.forever() {
-            if !self.is_open {
-                return so_far;
-            }
-            match self.take(rt, patience) {
-                Ok(_) => {}
-                Err(fault) => return first_of(fault, so_far),
-            }
+        if !self.is_open {
+            return so_far;
         }
-        unreachable!()
+        if let Err(fault) = self.take(rt, patience) {
+            return first_of(fault, so_far);
+        }
+        so_far
     }
 }
 
@@ -170,7 +167,8 @@ fn sort(rows: &mut Vec<Row>) -> Result<(), Memory>
 }
 
 /// Takes all that is still to come, up to the end of each worker: of the faults by which they ended
-/// and this one the first.
+/// and this one the first. It takes from all parts in turn, so that none waits for room while another
+/// one is waited for.
 pub(crate) fn drained<'b, K: OfRun>(
     rt: &impl Wait,
     takers: &mut Vec<LotTaker<'b, K>>,
@@ -181,8 +179,39 @@ pub(crate) fn drained<'b, K: OfRun>(
     ensures { (basis : Basis) → K.basis ≡ Some basis → MayEndBy basis result }
 {
     let mut first = fault;
+    for _ in rt.forever() {
+        if !are_any_open(takers) {
+            return first;
+        }
+        first = skip_each(rt, takers, patience, first);
+    }
+    unreachable!()
+}
+
+/// Whether something is still to come from any part.
+fn are_any_open<'b, K: OfRun>(takers: &[LotTaker<'b, K>]) -> bool {
+    for taker in takers {
+        if taker.is_open {
+            return true;
+        }
+    }
+    false
+}
+
+/// Takes what comes next from each part from which something is still to come: of the faults by which
+/// workers ended and this one the first.
+fn skip_each<'b, K: OfRun>(
+    rt: &impl Wait,
+    takers: &mut Vec<LotTaker<'b, K>>,
+    patience: &mut Patience,
+    fault: Fault,
+) -> Fault
+    requires { (basis : Basis) → K.basis ≡ Some basis → MayEndBy basis fault }
+    ensures { (basis : Basis) → K.basis ≡ Some basis → MayEndBy basis result }
+{
+    let mut first = fault;
     for taker in takers.iter_mut() {
-        first = taker.drain(rt, patience, first);
+        first = taker.skip(rt, patience, first);
     }
     first
 }

@@ -1,5 +1,5 @@
 //! A logical process of a run: a part of the cluster, and its lines to the others.
-ghost use Rattle.std.specs.Prelude.{◌≡◌, ◌⊎◌, ◌+◌, ◌≤◌, Some, IfOk, IfErr, OnOk, IfSome, IfNone};
+ghost use Rattle.std.specs.Prelude.{◌≡◌, ◌⊎◌, ◌+◌, ◌<◌, ◌≤◌, Some, IfOk, IfErr, OnOk, IfSome, IfNone};
 ghost use Rattle.rounds.specs.Starts.{IsUpTo};
 ghost use Rattle.rounds.specs.Plan.{bound_of};
 ghost use Rattle.round_windows.specs.Basis.{basis_of, plan_of, GoBy};
@@ -15,6 +15,7 @@ use crate::patience::Patience;
 use crate::peers::Telling;
 use crate::rows::Gathered;
 use base::{Fault, Moment};
+use gates::Entered;
 use member::Event;
 use round_windows::{Rounds, round_bound, run_window};
 use std::alloc::Global;
@@ -68,8 +69,18 @@ impl<'b, K: OfRun, Q: EventQueue<Event> + Drop> Process<'b, K, Q> {
         }
     }
 
-    /// Runs the window of its part in the round, in which this is the first moment that pends, and
-    /// tells the others, also how often its worker has slept.
+    /// Before which moment the window of its part stays in the round, in which this is the first moment
+    /// that pends.
+    pub(crate) fn bound(&self, from: Moment, rounds: &Rounds) -> Moment
+        requires rounds { GoBy rounds.now }
+        requires own { self.now.lines.number < rounds.now.division.now.parts }
+        ensures { result ≡ bound_of (plan_of (basis_of rounds.now)) (Some from) self.now.lines.number }
+    {
+        round_bound(from, rounds.end, rounds.ways[self.lines.number])
+    }
+
+    /// Runs the window of its part in the round, in which this is the first moment that pends, up to the
+    /// bound of which a gate was told, and tells the others, also how often its worker has slept.
     ///
     /// Faults: `Memory`; `Worn` where a counter of the window would pass 2^63; `Relay` where another
     /// can't be told. All others are told of the fault.
@@ -78,6 +89,7 @@ impl<'b, K: OfRun, Q: EventQueue<Event> + Drop> Process<'b, K, Q> {
         rt: &impl Wait,
         alloc: Global,
         from: Moment,
+        entered: Entered,
         slept: u64,
         rounds: &Rounds,
     ) -> Result<Waiting<'b, K, Q>, Fault>
@@ -85,6 +97,8 @@ impl<'b, K: OfRun, Q: EventQueue<Event> + Drop> Process<'b, K, Q> {
         requires run { K.basis ≡ Some (basis_of rounds.now) }
         requires ready { IsReady Q.set (basis_of rounds.now) self }
         requires pends { (self.first ≡ Some from) × (from ≤ rounds.now.end) }
+        requires entered { (entered.window ≡ self.round + 1) × (entered.part ≡ self.lines.number) }
+        requires bound { entered.bound ≡ bound_of (plan_of (basis_of rounds.now)) (Some from) self.lines.number }
         ensures waiting { IfOk result (IsWaiting Q.set (basis_of rounds.now)) }
         ensures fault { IfErr result (MayEndBy (basis_of rounds.now)) }
     {
@@ -95,7 +109,12 @@ impl<'b, K: OfRun, Q: EventQueue<Event> + Drop> Process<'b, K, Q> {
             mut lines,
             ..
         } = self;
-        let window = Window { round, from, slept };
+        let window = Window {
+            round,
+            from,
+            bound: entered.bound,
+            slept,
+        };
         match told(alloc, part, window, &mut gathered, &mut lines, rounds) {
             Ok((part, told)) => Ok(Waiting {
                 part,
@@ -157,6 +176,7 @@ struct Window {
     round: u64,
     /// The first moment that pends anywhere.
     from: Moment,
+    bound: Moment,
     slept: u64,
 }
 
@@ -174,7 +194,7 @@ fn told<'b, K: OfRun, Q: EventQueue<Event> + Drop>(
     requires begins { Begins Q.set (basis_of rounds.now) lines.old.number window.round (Some window.from) part }
     requires gathered { GathersSoFar (basis_of rounds.now) lines.old.number window.round gathered.old }
     requires lines { AreLines (basis_of rounds.now) lines.old }
-    requires pends { window.from ≤ rounds.now.end }
+    requires bound { window.bound ≡ bound_of (plan_of (basis_of rounds.now)) (Some window.from) lines.old.number }
     ensures lines { AreLines (basis_of rounds.now) lines.new }
     ensures own { lines.new.number ≡ lines.old.number }
     ensures told { IfOk result (λ r. (r.1.from ≡ lines.old.number) × (r.1.round ≡ window.round)) }
@@ -182,8 +202,7 @@ fn told<'b, K: OfRun, Q: EventQueue<Event> + Drop>(
     ensures gathered { OnOk result (GathersUpTo (basis_of rounds.now) lines.old.number (bound_of (plan_of (basis_of rounds.now)) (Some window.from) lines.old.number) gathered.new) }
     ensures fault { IfErr result (MayEndBy (basis_of rounds.now)) }
 {
-    let bound = round_bound(window.from, rounds.end, rounds.ways[lines.number]);
-    let came = run_window(alloc, part, bound, rounds)?;
+    let came = run_window(alloc, part, window.bound, rounds)?;
     lines.tell(alloc, window.round, window.slept, came, gathered)
 }
 

@@ -10,10 +10,11 @@ ghost use Rattle.member.specs.Opening.{opening};
 ghost use Rattle.member_laws.specs.Runs.{IsRunOf, WearsOut};
 ghost use Rattle.rounds.specs.Starts.{IsUpTo};
 ghost use Rattle.turns.specs.Parts.{StandFor, NonePendsBefore};
-ghost use Rattle.gates.specs.Gates.{KnowsAll, AwaitsAll};
+ghost use Rattle.gates.specs.Gates.{KnowsAll};
 ghost use Rattle.outputs.specs.Promise.{KeepsPromise, WearsOutReport, summed};
 ghost use Rattle.outputs.specs.Traced.{IsEarly, KeepsTrace};
 ghost use Rattle.round_windows.specs.Basis.{basis_of, GoBy};
+ghost use Rattle.round_windows.specs.Bounds.{AwaitsRounds, AwaitsRun};
 ghost use Rattle.rings.specs.Closing.{TakesAll};
 ghost use Rattle.rings.specs.Processes.{IsReady};
 ghost use Rattle.rings.specs.Starting.{MayStart};
@@ -55,8 +56,9 @@ use worker_queue::{EventQueue, WheelQueue};
 /// as are asked for, but no more than there are parts. It writes what `run_one` writes, whatever the
 /// division and the number of workers are: the trace, and once that is whole and its sink flushed the
 /// report, whose sink is flushed too. After a fault the sinks have got a beginning of that. Each
-/// worker tells the gate of each of its parts before it runs it in a round. The sinks stay on the
-/// calling thread. It waits for its threads.
+/// worker tells the gate of each of its parts before it runs it in a round, and below which bound: its
+/// own, no later than the moment before which nothing can come to the part, and no earlier than one that
+/// would serve all parts. The sinks stay on the calling thread. It waits for its threads.
 ///
 /// Faults: `Memory`; `Worn` where a counter of the run or of the report would pass 2^63; `Write`
 /// where a sink failed; `Relay` where a thread could not be started, or did not hand on what it was
@@ -75,9 +77,9 @@ pub fn run_by_rings<A: Sink, B: Sink, G: Gate, R: Threads + Wait + Sync>(
     requires countable { A.failed trace.old < 2 ^ 63 }
     requires countable_report { B.failed report.old < 2 ^ 63 }
 
-    // The gate allows for each worker, and for each part in each window.
+    // The gate allows for each worker, and for each part in each round below its own bound there.
     requires known { KnowsAll G.knows workers }
-    requires windows { AwaitsAll G.awaits division.now.parts }
+    requires windows { AwaitsRun G.awaits scenario.now division.now }
 
     // The sinks get exactly the trace of the scenario's run, and the report on it; after a fault a beginning of that.
     ensures promise { KeepsPromise A.held A.failed B.held B.failed scenario.now trace.old trace.new report.old report.new result }
@@ -111,9 +113,9 @@ pub fn run_by_rings_gathered<A: Sink, B: Sink, C: GatherRows, G: Gate, R: Thread
     requires countable_report { B.failed report.old < 2 ^ 63 }
     requires none_gathered { C.has place.old.gathered scenario.now [] }
 
-    // The gate allows for each worker, and for each part in each window.
+    // The gate allows for each worker, and for each part in each round below its own bound there.
     requires known { KnowsAll G.knows workers }
-    requires windows { AwaitsAll G.awaits division.now.parts }
+    requires windows { AwaitsRun G.awaits scenario.now division.now }
 
     // The sinks get exactly the trace of the scenario's run, and the report on it; after a fault a beginning of that.
     ensures promise { KeepsPromise A.held A.failed B.held B.failed scenario.now place.old.trace place.new.trace report.old report.new (summed result) }
@@ -148,7 +150,7 @@ fn run_into<T: TakeRows<P>, P, G: Gate, R: Threads + Wait + Sync>(
     requires countable { T.failed place.old < 2 ^ 63 }
     requires none_gathered { T.gathered place.old scenario.now [] }
     requires known { KnowsAll G.knows workers }
-    requires windows { AwaitsAll G.awaits division.now.parts }
+    requires windows { AwaitsRun G.awaits scenario.now division.now }
     ensures trace { KeepsTrace scenario.now (T.held place.old) (T.held place.new) (T.failed place.old) (T.failed place.new) result }
     ensures gathered { IfOk result (T.gathered place.new scenario.now) }
     ensures sound { IsSound scenario.now }
@@ -186,7 +188,7 @@ fn by_workers<
     requires run { K.basis ≡ Some (basis_of rounds.now) }
     requires opened { StandFor Q.set rounds.now.division.now parts.items (opening rounds.now.cluster.scenario.now) }
     requires known { KnowsAll G.knows workers }
-    requires windows { AwaitsAll G.awaits rounds.now.division.now.parts }
+    requires windows { AwaitsRounds G.awaits (basis_of rounds.now) }
     requires countable { T.failed place.old < 2 ^ 63 }
     requires none_gathered { T.gathered place.old rounds.now.cluster.scenario.now [] }
     ensures trace { KeepsTrace rounds.now.cluster.scenario.now (T.held place.old) (T.held place.new) (T.failed place.old) (T.failed place.new) result }

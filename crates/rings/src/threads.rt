@@ -1,9 +1,10 @@
 //! The threads of a run, from their start to their end.
 ghost use Rattle.std.specs.Prelude.{◌≡◌, ◌<◌, ◌^◌, [], Some, IfOk, IfErr};
 ghost use Rattle.std.specs.Thread.{IsSync, IsSend};
-ghost use Rattle.gates.specs.Gates.{KnowsAll, AwaitsAll};
+ghost use Rattle.gates.specs.Gates.{KnowsAll};
 ghost use Rattle.outputs.specs.Traced.{IsEarly, KeepsTrace};
 ghost use Rattle.round_windows.specs.Basis.{basis_of, GoBy};
+ghost use Rattle.round_windows.specs.Bounds.{AwaitsRounds};
 ghost use Rattle.rings.specs.Starting.{MayStart};
 
 use crate::closing::take_back;
@@ -133,7 +134,7 @@ fn start_workers<
     requires rounds { GoBy rounds.now }
     requires run { K.basis ≡ Some (basis_of rounds.now) }
     requires known { KnowsAll G.knows hands.workers }
-    requires windows { AwaitsAll G.awaits rounds.now.division.now.parts }
+    requires windows { AwaitsRounds G.awaits (basis_of rounds.now) }
     ensures { IfErr result IsEarly }
 {
     let Ok(mut threads) = Vec::with_capacity(alloc, hands.workers) else {
@@ -148,7 +149,7 @@ fn start_workers<
         let thread = scope.spawn(
             move || -> RunPost<K, Q, J>
                 requires { GoBy rounds.now × (K.basis ≡ Some (basis_of rounds.now)) × G.knows number
-                    × AwaitsAll G.awaits rounds.now.division.now.parts }
+                    × AwaitsRounds G.awaits (basis_of rounds.now) }
             {
                 let place = Place { number, share, all };
                 work(rt, alloc, post, place, crew, rounds, gate)

@@ -1,7 +1,7 @@
 //! A worker of a run: it takes its share of the processes from the board, and runs them round after round.
 ghost use Rattle.std.specs.Prelude.{◌≡◌, Some, IfErr};
-ghost use Rattle.gates.specs.Gates.{KnowsAll, AwaitsAll};
 ghost use Rattle.round_windows.specs.Basis.{Basis, basis_of, GoBy};
+ghost use Rattle.round_windows.specs.Bounds.{AwaitsRounds};
 ghost use Rattle.rings.specs.Holding.{Holds};
 ghost use Rattle.rings.specs.Telling.{MayEndBy};
 
@@ -46,7 +46,7 @@ pub(crate) fn work<'p, 'b, K: OfRun, Q: EventQueue<Event> + Drop, J: Site, G: Ga
     requires rounds { GoBy rounds.now }
     requires run { K.basis ≡ Some (basis_of rounds.now) }
     requires known { G.knows place.number }
-    requires awaited { AwaitsAll G.awaits rounds.now.division.now.parts }
+    requires awaited { AwaitsRounds G.awaits (basis_of rounds.now) }
 {
     match run_share(rt, alloc, &mut post, place, crew, rounds, gate) {
         Ok(()) => crew.end(),
@@ -98,7 +98,7 @@ fn run_share<'p, 'b, K: OfRun, Q: EventQueue<Event> + Drop, J: Site, G: Gate>(
     requires rounds { GoBy rounds.now }
     requires run { K.basis ≡ Some (basis_of rounds.now) }
     requires known { G.knows place.number }
-    requires awaited { AwaitsAll G.awaits rounds.now.division.now.parts }
+    requires awaited { AwaitsRounds G.awaits (basis_of rounds.now) }
     ensures fault { IfErr result (MayEndBy (basis_of rounds.now)) }
 {
     let mut hold = Hold::new(alloc, place.all)?;
@@ -127,7 +127,7 @@ fn run_to_end<'p, 'b, K: OfRun, Q: EventQueue<Event> + Drop, J: Site, G: Gate>(
     requires run { K.basis ≡ Some (basis_of rounds.now) }
     requires holds { Holds Q.set (basis_of rounds.now) hold.old }
     requires known { G.knows place.number }
-    requires awaited { AwaitsAll G.awaits rounds.now.division.now.parts }
+    requires awaited { AwaitsRounds G.awaits (basis_of rounds.now) }
     ensures fault { IfErr result (MayEndBy (basis_of rounds.now)) }
 {
     let mut solo = Solo::new();
@@ -193,7 +193,7 @@ fn run_together<'p, 'b, K: OfRun, Q: EventQueue<Event> + Drop, J: Site, G: Gate>
     requires run { K.basis ≡ Some (basis_of rounds.now) }
     requires holds { Holds Q.set (basis_of rounds.now) hold.old }
     requires known { G.knows worker }
-    requires awaited { AwaitsAll G.awaits rounds.now.division.now.parts }
+    requires awaited { AwaitsRounds G.awaits (basis_of rounds.now) }
     ensures holds { Holds Q.set (basis_of rounds.now) hold.new }
     ensures fault { IfErr result (MayEndBy (basis_of rounds.now)) }
 {
@@ -226,7 +226,7 @@ fn run_alone<'p, 'b, K: OfRun, Q: EventQueue<Event> + Drop, J: Site, G: Gate>(
     requires run { K.basis ≡ Some (basis_of rounds.now) }
     requires holds { Holds Q.set (basis_of rounds.now) hold.old }
     requires known { G.knows place.number }
-    requires awaited { AwaitsAll G.awaits rounds.now.division.now.parts }
+    requires awaited { AwaitsRounds G.awaits (basis_of rounds.now) }
     ensures holds { Holds Q.set (basis_of rounds.now) hold.new }
     ensures fault { IfErr result (MayEndBy (basis_of rounds.now)) }
 {

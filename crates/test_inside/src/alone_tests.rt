@@ -2,7 +2,7 @@
 ghost use Rattle.std.specs.Prelude.{⊤};
 
 use crate::ways::{Way, dealt, run_by};
-use base::Fault;
+use base::{Fault, Moment};
 use gates::Gate;
 use outputs::Summary;
 use rings::run_by_rings;
@@ -88,9 +88,9 @@ impl Slow {
 impl Gate for Slow {
     ghost knows = { λ _. ⊤ };
 
-    ghost awaits = { λ _ _. ⊤ };
+    ghost awaits = { λ _ _ _. ⊤ };
 
-    fn enter(&self, worker: usize, window: u64, _part: usize) {
+    fn enter(&self, worker: usize, window: u64, _part: usize, _bound: Moment) {
         self.entries.fetch_add(1, Ordering::SeqCst);
         if worker == 0 {
             self.enter_first(window);

@@ -2,7 +2,7 @@
 ghost use Rattle.std.specs.Prelude.{⊤, ◌≤◌};
 
 use crate::ways::divided;
-use base::{Fault, Memory};
+use base::{Fault, Memory, Moment};
 use gates::Gate;
 use outputs::Summary;
 use rings::run_by_rings;
@@ -201,9 +201,9 @@ impl Book {
 impl Gate for Book {
     ghost knows = { λ _. ⊤ };
 
-    ghost awaits = { λ window _. 1 ≤ window };
+    ghost awaits = { λ window _ _. 1 ≤ window };
 
-    fn enter(&self, worker: usize, window: u64, part: usize) {
+    fn enter(&self, worker: usize, window: u64, part: usize, _bound: Moment) {
         if !self.are_known(worker, window, part) {
             self.note(STRANGE);
             return;

@@ -11,6 +11,8 @@ mod board_tests;
 #[cfg(test)]
 mod book;
 #[cfg(test)]
+mod bounds_tests;
+#[cfg(test)]
 mod choices_tests;
 #[cfg(test)]
 mod far_sites_tests;

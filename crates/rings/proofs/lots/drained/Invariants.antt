@@ -3,5 +3,8 @@ use Rattle.round_windows.specs.Basis.{Basis}
 use Rattle.rings.specs.Telling.{MayEndBy}
 use Rattle.rings.proofs.lots.drained.Given as goal
 
-abbrev pub invariant-loop-taker : goal.invariant-loop-taker
-invariant-loop-taker g l = (basis : Basis) → g.K.OfRun.basis ≡ Some basis → MayEndBy basis l.first
+abbrev pub invariant-loop : goal.invariant-loop
+invariant-loop g l = record {
+  goes_on : (goal.iterator-loop g).can_next l.iterator' × (goal.iterator-loop g).is_finite l.iterator';
+  may : (basis : Basis) → g.K.OfRun.basis ≡ Some basis → MayEndBy basis l.first;
+}

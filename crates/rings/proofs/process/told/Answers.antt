@@ -1,4 +1,4 @@
-use Rattle.std.proofs.Common.{Some, ◌∙◌, subst, refl}
+use Rattle.std.proofs.Common.{Some, ◌∙◌, subst, arith}
 use Rattle.windows.specs.WorldOf.{world_of}
 use Rattle.windows.specs.Wears.{WearsInWindow}
 use Rattle.round_windows.specs.Basis.{Basis, IsBasis, basis_of}
@@ -7,8 +7,11 @@ use Rattle.rings.specs.Peers.{AreLines}
 use Rattle.rings.specs.Telling.{MayEndBy}
 use Rattle.rings.specs.Windows.{GathersUpTo, GathersSoFar, HasRanRound}
 use Rattle.rings.proofs.WorkerEndings.{of_the_run, on_ok, ends_by_window, handed_on}
-use Rattle.rings.proofs.WorkerRounds.{way_there, bound_here, consistent_here, ran_round, wears_here}
+use Rattle.rings.proofs.WorkerRounds.{consistent_here, ran_round, wears_here}
 use Rattle.rings.proofs.process.told.Goals as goal
+
+pub run_window-requires-clause-in_time : goal.run_window-requires-clause-in_time
+run_window-requires-clause-in_time g c = omega (arith, c.requires.bound)
 
 pub run_window-requires-clause-consistent : goal.run_window-requires-clause-consistent
 run_window-requires-clause-consistent g c =
@@ -18,20 +21,18 @@ pub returns-in_err-came-clause-fault : goal.returns-in_err-came-clause-fault
 returns-in_err-came-clause-fault g c =
     let rounds = c.args.rounds.now in
     let number = c.args.lines.now.number in
-    let bound = bound_here rounds c.requires.rounds (Some c.args.window.from) c.args.window.from refl number _ c.round_bound-bound.result (way_there rounds c.requires.rounds number c.requires.lines.own) c.round_bound-bound.ensures in
     handed_on (MayEndBy (basis_of rounds)) _ _ c.from_residual.ensures.1
-    (ends_by_window (basis_of rounds) _ (WearsInWindow rounds.cluster.scenario.now c.round_bound-bound.result (world_of g.Q.EventQueue.set c.args.part))
+    (ends_by_window (basis_of rounds) _ (WearsInWindow rounds.cluster.scenario.now c.args.window.bound (world_of g.Q.EventQueue.set c.args.part))
     (λ wears.
     wears_here g.Q.EventQueue.set (basis_of rounds) c.requires.rounds.basis number c.args.window.round (Some c.args.window.from) c.args.part c.requires.begins c.requires.lines.own
-    (subst (λ t. WearsInWindow rounds.cluster.scenario.now t (world_of g.Q.EventQueue.set c.args.part)) bound wears))
+    (subst (λ t. WearsInWindow rounds.cluster.scenario.now t (world_of g.Q.EventQueue.set c.args.part)) c.requires.bound wears))
     c.in_err-came.ensures.fault)
 
 pub returns-clause-gathered : goal.returns-clause-gathered
 returns-clause-gathered g c =
     let rounds = c.args.rounds.now in
     let number = c.args.lines.now.number in
-    let bound = bound_here rounds c.requires.rounds (Some c.args.window.from) c.args.window.from refl number _ c.round_bound-bound.result (way_there rounds c.requires.rounds number c.requires.lines.own) c.round_bound-bound.ensures in
-    on_ok c.tell.result _ _ (λ gathers. subst (λ t. GathersUpTo (basis_of rounds) number t c.tell.new.gathered) (c.in_ok-came.ensures.ran.until ∙ bound) (gathers (basis_of rounds) c.requires.run)) c.tell.ensures.gathered
+    on_ok c.tell.result _ _ (λ gathers. subst (λ t. GathersUpTo (basis_of rounds) number t c.tell.new.gathered) (c.in_ok-came.ensures.ran.until ∙ c.requires.bound) (gathers (basis_of rounds) c.requires.run)) c.tell.ensures.gathered
 
 pub tell-requires-clause-basis : goal.tell-requires-clause-basis
 tell-requires-clause-basis g c = of_the_run IsBasis g.K.OfRun.basis (basis_of c.args.rounds.now) c.requires.run c.requires.rounds.basis
@@ -44,10 +45,9 @@ tell-requires-clause-came g c =
     let rounds = c.args.rounds.now in
     let one = basis_of rounds in
     let number = c.args.lines.now.number in
-    let bound = bound_here rounds c.requires.rounds (Some c.args.window.from) c.args.window.from refl number _ c.round_bound-bound.result (way_there rounds c.requires.rounds number c.requires.lines.own) c.round_bound-bound.ensures in
     of_the_run (λ basis. HasRanRound g.Q.EventQueue.set basis number c.args.window.round c.in_ok-came.came) g.K.OfRun.basis one c.requires.run
     (ran_round g.Q.EventQueue.set one c.requires.rounds.basis number c.args.window.round (Some c.args.window.from) c.args.part c.requires.begins c.requires.lines.own c.in_ok-came.came
-    (subst (λ t. HasRan g.Q.EventQueue.set one t (world_of g.Q.EventQueue.set c.args.part) c.in_ok-came.came) bound c.in_ok-came.ensures.ran))
+    (subst (λ t. HasRan g.Q.EventQueue.set one t (world_of g.Q.EventQueue.set c.args.part) c.in_ok-came.came) c.requires.bound c.in_ok-came.ensures.ran))
 
 pub tell-requires-clause-gathered : goal.tell-requires-clause-gathered
 tell-requires-clause-gathered g c =

@@ -3,6 +3,9 @@ use Rattle.horizons.specs.Between.{part_number}
 use Rattle.rounds.specs.Plan.{AreWaysInto}
 use Rattle.round_windows.specs.Basis.{way_at}
 use Rattle.outputs.proofs.Early.{no_memory}
+use Rattle.round_windows.specs.Basis.{basis_of}
+use Rattle.round_windows.specs.Walks.{AreRoundWays}
+use Rattle.rings.proofs.GateBounds.{awaits_rounds, ways_of}
 use Rattle.rings.proofs.run.run_into.Goals as goal
 
 pub returns-in_err-links-clause-trace : goal.returns-in_err-links-clause-trace
@@ -27,3 +30,15 @@ rounds_of-requires-clause-into g c =
     let made = c.in_ok-walks.ensures.walks in
     subst (λ ways. AreWaysInto c.args.scenario.now (part_number c.args.division.now) (way_at ways)) (sym c.deref.ensures.value)
     (c.in_ok-ways.ensures.into c.args.division.now c.requires.divides c.in_ok-parts.ensures.below (record { parts = c.in_ok-walks.ensures.parts; between = made.0; least = made.1; walks = made.2 }))
+
+-- ---- what the gate is told
+
+pub by_workers-requires-clause-windows : goal.by_workers-requires-clause-windows
+by_workers-requires-clause-windows g c _ _ =
+    let s = c.args.scenario.now in
+    let deal = c.args.division.now in
+    let made = c.in_ok-walks.ensures.walks in
+    let ways = c.rounds_of.ensures.ways ∙ c.deref.ensures.value in
+    let by = ways_of s deal _ (record { parts = c.in_ok-walks.ensures.parts; between = made.0; least = made.1; walks = made.2 })
+    (ap length ways ∙ c.in_ok-ways.ensures.count ∙ c.in_ok-walks.ensures.parts) (subst (AreRoundWays s _) (sym ways) c.in_ok-ways.ensures.ticks) in
+    awaits_rounds g.G.Gate.awaits (basis_of c.rounds_of.result) s deal (ap (λ cluster. cluster.scenario.now) c.rounds_of.ensures.cluster) c.rounds_of.ensures.division by c.requires.windows

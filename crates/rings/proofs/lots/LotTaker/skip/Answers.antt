@@ -1,7 +1,7 @@
 use Rattle.std.proofs.Common.{sym, subst}
 use Rattle.rings.specs.Telling.{MayEndBy}
 use Rattle.rings.proofs.LotsFaults.{first_may}
-use Rattle.rings.proofs.lots.LotTaker.drain.Goals as goal
+use Rattle.rings.proofs.lots.LotTaker.skip.Goals as goal
 
 pub returns-in-Err : goal.returns-in-Err
 returns-in-Err g c = λ basis is.
