@@ -1,7 +1,7 @@
 -- Of which commands more is told than the line of a failure, and what is told of a scenario.
 use Rattle.std.specs.Prelude.{◌≡◌, ◌⊎◌, ◌++◌, ◌||◌, ℕ, List, [], ◌∷◌, Bool, true, bytes_eq, codes, if◌then◌else◌}
 use Rattle.clap.specs.Words.{Text}
-use Rattle.mistake_text.specs.Told.{TellsLines}
+use Rattle.diagnostic_text.specs.Told.{TellsLines}
 
 -- more is always told of these commands
 abbrev pub tells_always : Text → Bool

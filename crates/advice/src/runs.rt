@@ -8,9 +8,9 @@ use reasons::RunReason;
 pub(crate) fn run_reason(failure: &Failure<'_>) -> Option<RunReason<'static>> {
     match failure {
         Failure::Run(Fault::Memory) | Failure::Memory => Some(RunReason::Memory),
-        Failure::Run(Fault::Worn) => Some(RunReason::Counter),
+        Failure::Run(Fault::CounterOverflow) => Some(RunReason::Counter),
         Failure::Run(Fault::Write) => Some(RunReason::Write),
-        Failure::Run(Fault::Relay) => Some(RunReason::Thread),
+        Failure::Run(Fault::ThreadLost) => Some(RunReason::Thread),
         _ => None,
     }
 }

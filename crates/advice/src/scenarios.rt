@@ -3,8 +3,8 @@ ghost use Rattle.std.specs.Prelude.{◌≡◌, IfOk, string_bytes};
 ghost use Rattle.advice.specs.Told.{IsBeginning, TellsFirst};
 
 use base::Memory;
+use diagnostics::of_refused;
 use files::Files;
-use mistakes::of_refused;
 use scenario_reader::read;
 use std::alloc::Global;
 
@@ -42,7 +42,7 @@ fn first_of_text(alloc: Global, name: &str, bytes: &[u8], rule: u8) -> Result<St
     ensures { IfOk result (λ text. TellsFirst rule (string_bytes text)) }
 {
     let mistakes = of_refused(alloc, bytes, rule)?;
-    let lines = mistake_text::lines(alloc, name, bytes, &mistakes)?;
+    let lines = diagnostic_text::lines(alloc, name, bytes, &mistakes)?;
     Ok(String::from_str(alloc, first_block(lines.as_str()))?)
 }
 

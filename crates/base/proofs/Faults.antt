@@ -1,21 +1,21 @@
 -- Faults are told apart.
 use Rattle.std.proofs.Common.{◌≢◌}
-use Rattle.base.specs.declared.fault.Fault.TheVariants.{Memory, Worn, Write, Relay}
+use Rattle.base.specs.declared.fault.Fault.TheVariants.{Memory, CounterOverflow, Write, ThreadLost}
 
-pub memory≢worn : Memory ≢ Worn
-memory≢worn is = cc
+pub memory≢overflow : Memory ≢ CounterOverflow
+memory≢overflow is = cc
 
 pub memory≢write : Memory ≢ Write
 memory≢write is = cc
 
-pub memory≢relay : Memory ≢ Relay
+pub memory≢relay : Memory ≢ ThreadLost
 memory≢relay is = cc
 
-pub worn≢write : Worn ≢ Write
-worn≢write is = cc
+pub overflow≢write : CounterOverflow ≢ Write
+overflow≢write is = cc
 
-pub worn≢relay : Worn ≢ Relay
-worn≢relay is = cc
+pub overflow≢relay : CounterOverflow ≢ ThreadLost
+overflow≢relay is = cc
 
-pub write≢relay : Write ≢ Relay
+pub write≢relay : Write ≢ ThreadLost
 write≢relay is = cc

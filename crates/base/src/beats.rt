@@ -1,3 +1,5 @@
+//! When a member's period or gossip timer is due next: a whole number of intervals after its beat (memberlist's
+//! rules).
 ghost use Rattle.std.specs.Prelude.{◌≡◌, ◌+◌, ◌^◌, ◌<◌, ◌≤◌};
 ghost use Rattle.base.specs.Beats.{next_in_step, IsNextInStep};
 

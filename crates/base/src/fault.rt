@@ -1,3 +1,4 @@
+//! The faults that end a run early, F1 to F4: refused memory, a counter overflow, a failed write, a lost thread.
 ghost use Rattle.std.specs.Prelude.{◌≡◌};
 ghost use Rattle.base.specs.declared.fault.Fault.TheVariants as fault;
 
@@ -29,13 +30,13 @@ pub enum Fault {
     Memory,
     /// A counter stands at its limit, 2^63, and would have to rise.
     #[error("F2")]
-    Worn,
+    CounterOverflow,
     /// A sink failed to take what was written.
     #[error("F3")]
     Write,
     /// The threads of a parallel run did not hand on what they were given.
     #[error("F4")]
-    Relay,
+    ThreadLost,
 }
 
 impl From<Memory> for Fault {

@@ -1,3 +1,4 @@
+//! Moments, members' numbers, and the key by which the events of a run are put in order.
 ghost use Rattle.std.specs.Prelude.{◌≡◌, ℕ};
 
 use std::marker::Model;

@@ -1,3 +1,4 @@
+//! The trait of values that have an event's key, by which a queue of pending events can put them in order.
 ghost use Rattle.std.specs.Prelude.{◌≡◌};
 ghost use Rattle.base.specs.declared.key.Key.{Key};
 

@@ -1,3 +1,5 @@
+//! Decimal logarithms of the cluster's size in whole numbers: digits limit how often an update is sent, and
+//! thousandths scale how long a suspicion lasts.
 ghost use Rattle.std.specs.Prelude.{◌≡◌, ◌-◌, ◌≤◌};
 ghost use Rattle.base.specs.Logarithm.{digit_count, leading_digit, log_of, leading_digits, tenth_log_of, fine_log_of};
 

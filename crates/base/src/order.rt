@@ -1,3 +1,4 @@
+//! A law of event keys: their comparison is a total order, so events with different keys never tie.
 ghost use Rattle.std.specs.Prelude.{◌≡◌};
 ghost use Rattle.std.specs.Cmp.{IsTotalOrder};
 ghost use Rattle.std.specs.FinMap.{IsAntisymmetric};

@@ -1,3 +1,5 @@
+//! Which rules members follow where the papers on SWIM and Lifeguard differ from memberlist.
+
 /// By whose rules members go, where two are known.
 #[derive(Clone, Copy, Debug, PartialEq, Eq)]
 pub enum Profile {

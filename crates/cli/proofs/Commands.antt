@@ -17,11 +17,11 @@ use Rattle.run_command.specs.Outcomes.{EndsWithCause, RunFails, RunsAll}
 use Rattle.run_command.proofs.Causes.{run_item, run_memory, run_mistaken, run_output, run_preset, run_usage}
 use Rattle.sweep_command.specs.Outcomes.{SweepFails, SweepsAll}
 use Rattle.sweep_command.proofs.Causes.{sweep_memory, sweep_mistaken, sweep_output, sweep_preset, sweep_usage}
-use Rattle.pieces.specs.declared.piece.Piece.{Piece}
-use Rattle.pieces.specs.Pieces.{IsPiece}
-use Rattle.answers.specs.Wants.{IsBounded}
-use Rattle.answers.specs.Words.{AreWants}
-use Rattle.answers.specs.declared.want.Want.{Want}
+use Rattle.shards.specs.declared.piece.Piece.{Piece}
+use Rattle.shards.specs.Pieces.{IsPiece}
+use Rattle.goals.specs.Wants.{IsBounded}
+use Rattle.goals.specs.Words.{AreWants}
+use Rattle.goals.specs.declared.want.Want.{Want}
 use Rattle.cli.specs.Outcomes.{AsksForProgress, CheckFails, EndsRunBy, HasDone, Fails}
 use Rattle.files.specs.Files.{Making}
 use Rattle.command_line.specs.Printed.{rows_line, PresetFails, PrintsPreset}

@@ -4,8 +4,8 @@ use Rattle.std.specs.Io.KnownBytes.{Appends, Keeps}
 use Rattle.base.specs.declared.fault.Fault.{Fault}
 use Rattle.base.specs.declared.fault.Fault.TheVariants as fault
 use Rattle.scenario.specs.Setup.{Setup, member_count}
-use Rattle.member_laws.specs.Runs.{WearsOut}
-use Rattle.outputs.specs.Promise.{WearsOutReport}
+use Rattle.member_laws.specs.Runs.{CounterOverflows}
+use Rattle.run_output.specs.Promise.{ReportOverflows}
 use Rattle.clap.specs.Words.{Text}
 use Rattle.files.specs.Files.{KnownFile, Making}
 use Rattle.command_line.specs.Words.{AsksForRun, AsksForCheck, AsksForExplain, AsksForHelp, AsksForInit, AsksForNoPreset, AsksForVersion, IsNoCommand}
@@ -93,7 +93,7 @@ DoneUnprinted words before after making = ((version : List ℕ) × (count : ℕ)
 -- By which faults the run of a scenario by so many workers may end: by a worn counter only where one would pass its limit, by
 -- what threads lost only where there are several workers.
 abbrev pub EndsRunBy : Setup → ℕ → Fault → Type 0
-EndsRunBy s workers cause = (cause ≡ fault.Worn → WearsOut s ⊎ WearsOutReport s) × (cause ≡ fault.Relay → 2 ≤ workers)
+EndsRunBy s workers cause = (cause ≡ fault.CounterOverflow → CounterOverflows s ⊎ ReportOverflows s) × (cause ≡ fault.ThreadLost → 2 ≤ workers)
 
 -- why the file was not checked
 abbrev pub CheckFails : Shelf → Shelf → Text → Failure → Type 0

@@ -2,24 +2,24 @@
 ghost use Rattle.std.specs.Prelude.{◌≡◌, ◌≢◌, ◌<◌, ◌≤◌, ◌^◌, ◌⊎◌, IfOk, IfErr, OnOk, OnErr, IsErrOf, length};
 ghost use Rattle.std.specs.Thread.{IsSync};
 ghost use Rattle.scenario.specs.Setup.{member_count};
-ghost use Rattle.member_laws.specs.Runs.{WearsOut};
+ghost use Rattle.member_laws.specs.Runs.{CounterOverflows};
 ghost use Rattle.trace.specs.Writers.{writer_under, put_failures};
-ghost use Rattle.outputs.specs.Promise.{WritesRun, WritesBeginning, WearsOutReport};
+ghost use Rattle.run_output.specs.Promise.{WritesRun, WritesBeginning, ReportOverflows};
 ghost use Rattle.page_runs.specs.Pages.{WritesRunAndPage, BeginsRunAndPage};
 ghost use Rattle.cli.specs.Outcomes.{EndsRunBy};
 
 use base::Fault;
-use outputs::Summary;
 use page_runs::{RunShown, run_with_page};
+use partitioning::run_shared;
 use run_command::Simulator;
+use run_output::Summary;
+use run_progress::run_watched;
 use scenario::{Division, Scenario, Workers};
-use sharing::run_shared;
 use std::alloc::Global;
 use std::io::Write;
 use std::sync::Wait;
 use std::thread::Threads;
 use trace::{Put, Sink};
-use watched_runs::run_watched;
 
 /// What simulates a scenario by threads of the runtime.
 #[derive(Drop)]
@@ -91,16 +91,16 @@ pub fn simulate<T: Write, R: Sink, W: Write>(
     ensures first { 0 < put_failures result.0 → result.1 ≡ report }
     ensures whole { OnOk result.2 (put_failures result.0 ≡ 0) }
     ensures whole_report { OnOk result.2 (R.failed result.1 ≡ R.failed report) }
-    ensures lasts { OnOk result.2 (¬ (WearsOut scenario.now)) }
+    ensures lasts { OnOk result.2 (¬ (CounterOverflows scenario.now)) }
 
     // no fault comes without its cause
-    ensures worn { IsErrOf result.2 Fault.Worn → WearsOut scenario.now ⊎ WearsOutReport scenario.now }
+    ensures overflow { IsErrOf result.2 Fault.CounterOverflow → CounterOverflows scenario.now ⊎ ReportOverflows scenario.now }
     ensures write { IsErrOf result.2 Fault.Write → (0 < put_failures result.0) ⊎ (R.failed report < R.failed result.1) }
-    ensures relay { IsErrOf result.2 Fault.Relay → put_failures result.0 ≡ 0 }
+    ensures relay { IsErrOf result.2 Fault.ThreadLost → put_failures result.0 ≡ 0 }
     ensures others_report { IfErr result.2 (λ cause. cause ≢ Fault.Write → R.failed result.1 ≡ R.failed report) }
 
     // one worker alone loses nothing to threads
-    ensures threads { IsErrOf result.2 Fault.Relay → 2 ≤ workers }
+    ensures threads { IsErrOf result.2 Fault.ThreadLost → 2 ≤ workers }
     ensures cause { IfErr result.2 (EndsRunBy scenario.now workers) }
 {
     match watch {
@@ -162,17 +162,17 @@ pub fn simulate_with_page<T: Write, R: Sink, P: Write, W: Write>(
     ensures whole { OnOk result.3 (put_failures result.0 ≡ 0) }
     ensures whole_report { OnOk result.3 (R.failed result.1 ≡ R.failed report) }
     ensures whole_page { OnOk result.3 (put_failures result.2 ≡ 0) }
-    ensures lasts { OnOk result.3 (¬ (WearsOut scenario.now)) }
+    ensures lasts { OnOk result.3 (¬ (CounterOverflows scenario.now)) }
 
     // no fault comes without its cause
-    ensures worn { IsErrOf result.3 Fault.Worn → WearsOut scenario.now ⊎ WearsOutReport scenario.now }
+    ensures overflow { IsErrOf result.3 Fault.CounterOverflow → CounterOverflows scenario.now ⊎ ReportOverflows scenario.now }
     ensures write { IsErrOf result.3 Fault.Write → (0 < put_failures result.0) ⊎ ((R.failed report < R.failed result.1) ⊎ (0 < put_failures result.2)) }
-    ensures relay { IsErrOf result.3 Fault.Relay → put_failures result.0 ≡ 0 }
+    ensures relay { IsErrOf result.3 Fault.ThreadLost → put_failures result.0 ≡ 0 }
     ensures others_report { IfErr result.3 (λ cause. cause ≢ Fault.Write → R.failed result.1 ≡ R.failed report) }
     ensures others_page { IfErr result.3 (λ cause. cause ≢ Fault.Write → put_failures result.2 ≡ 0) }
 
     // one worker alone loses nothing to threads
-    ensures threads { IsErrOf result.3 Fault.Relay → 2 ≤ workers }
+    ensures threads { IsErrOf result.3 Fault.ThreadLost → 2 ≤ workers }
     ensures cause { IfErr result.3 (EndsRunBy scenario.now workers) }
 {
     let mut reported = report;

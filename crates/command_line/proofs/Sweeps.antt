@@ -2,9 +2,9 @@
 use Rattle.std.proofs.Common.{◌≡◌, ◌∙◌, List, Option, Some, None, false, codes, sym, ap, subst}
 use Rattle.std.proofs.lemmas.Option.{none-some}
 use Rattle.clap.specs.Words.{Row, first_of}
-use Rattle.cases.specs.Sweep.{Sweep as Planned}
-use Rattle.answers.specs.declared.want.Want.{Want}
-use Rattle.pieces.specs.declared.piece.Piece.{Piece}
+use Rattle.sweep_plan.specs.Sweep.{Sweep as Planned}
+use Rattle.goals.specs.declared.want.Want.{Want}
+use Rattle.shards.specs.declared.piece.Piece.{Piece}
 use Rattle.command_line.specs.Words.{have_sense, AreWantsIn, AsksForPiece, IsPlanIn, IsSweepIn}
 use Rattle.command_line.specs.declared.words.SweepWords.{SweepWords}
 use Rattle.command_line.proofs.RunRows.{rows_met}

@@ -1,8 +1,8 @@
 -- A word asks for one width.
 use Rattle.std.proofs.Common.{◌≡◌, ℕ, List, [], Option, Some, None, codes, refl, sym, ap, subst, unwrap_or}
 use Rattle.clap.specs.Words.{Row, Text, all_of, first_of}
-use Rattle.cases.specs.Asked.{IsSweepOf}
-use Rattle.cases.specs.Sweep.{Sweep as Planned}
+use Rattle.sweep_plan.specs.Asked.{IsSweepOf}
+use Rattle.sweep_plan.specs.Sweep.{Sweep as Planned}
 use Rattle.decimals.proofs.Numbers.{same_number}
 use Rattle.command_line.specs.Words.{AsksForWidth, IsPlanIn}
 

@@ -40,9 +40,9 @@ IsMistaken _ = ⊥
 -- the number by which users know a fault of a run
 abbrev pub fault_number : Fault → ℕ
 fault_number fault.Memory = 1
-fault_number fault.Worn = 2
+fault_number fault.CounterOverflow = 2
 fault_number fault.Write = 3
-fault_number fault.Relay = 4
+fault_number fault.ThreadLost = 4
 
 -- the number by which users know a fault of a division
 abbrev pub division_number : DivisionFault → ℕ

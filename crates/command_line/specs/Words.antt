@@ -5,12 +5,12 @@ use Rattle.clap.specs.Words.{App, Row, Rule, Text, new_app, new_rule, with_rule,
 use Rattle.clap.specs.Words.{all_of, first_of, fault_of, subcommand_of, kind_of, IsAmong}
 use Rattle.clap.specs.declared.error.kind.ErrorKind.{ErrorKind}
 use Rattle.clap.specs.declared.error.kind.ErrorKind.TheVariants.{DisplayHelp, DisplayVersion}
-use Rattle.cases.specs.Sweep.{Sweep as Planned}
-use Rattle.cases.specs.Asked.{IsSweepOf}
-use Rattle.answers.specs.Words.{AreWants}
-use Rattle.answers.specs.declared.want.Want.{Want}
-use Rattle.pieces.specs.Pieces.{IsPieceWord}
-use Rattle.pieces.specs.declared.piece.Piece.{Piece}
+use Rattle.sweep_plan.specs.Sweep.{Sweep as Planned}
+use Rattle.sweep_plan.specs.Asked.{IsSweepOf}
+use Rattle.goals.specs.Words.{AreWants}
+use Rattle.goals.specs.declared.want.Want.{Want}
+use Rattle.shards.specs.Pieces.{IsPieceWord}
+use Rattle.shards.specs.declared.piece.Piece.{Piece}
 use Rattle.presets.specs.Presets.{word_of}
 use Rattle.presets.specs.declared.preset.Preset.{Preset}
 use Rattle.decimals.specs.Numbers.{IsDecimal}

@@ -80,9 +80,9 @@ fn fault_number(fault: Fault) -> u8
 {
     match fault {
         Fault::Memory => 1,
-        Fault::Worn => 2,
+        Fault::CounterOverflow => 2,
         Fault::Write => 3,
-        Fault::Relay => 4,
+        Fault::ThreadLost => 4,
     }
 }
 

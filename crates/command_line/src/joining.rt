@@ -8,9 +8,9 @@ ghost use Rattle.command_line.specs.Words.{join_app, may_name, pieces_rule, IsJo
 use crate::chained::{and_option, and_required};
 use crate::failure::Failure;
 use crate::telling::{wants_asked, with_telling};
-use answers::Want;
 use arguments::{is_given, new_command, value_of, values_of};
 use clap::{Arg, ArgMatches, Command};
+use goals::Want;
 use std::alloc::{AllocError, Global};
 
 /// The words of the command `join`.

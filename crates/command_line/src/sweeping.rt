@@ -1,10 +1,10 @@
 //! The command `sweep`: what it takes, and what its words ask for.
 ghost use Rattle.std.specs.Prelude.{◌≡◌, ◌⊎◌, ℕ, map, option_map, unwrap_or, IfOk, IfErr, IsErrOf, List, [], Option, Some, codes, true};
 ghost use Rattle.clap.specs.Words.{App, first_of, found_of, rows_of, subcommand_rows_of};
-ghost use Rattle.cases.specs.Asked.{IsSweepOf};
-ghost use Rattle.cases.specs.Sweep.{Sweep as Planned};
+ghost use Rattle.sweep_plan.specs.Asked.{IsSweepOf};
+ghost use Rattle.sweep_plan.specs.Sweep.{Sweep as Planned};
 ghost use Rattle.command_line.specs.declared.words.SweepWords.{SweepWords as Sought};
-ghost use Rattle.pieces.specs.declared.piece.Piece.{Piece as Part};
+ghost use Rattle.shards.specs.declared.piece.Piece.{Piece as Part};
 ghost use Rattle.arguments.specs.Rules.{is_given, IsLocal};
 ghost use Rattle.command_line.specs.Words.{have_sense, sweep_app, with_cases, with_runs, AreWantsIn, AsksForPiece, AsksForWidth, IsPlanIn, IsSweepIn};
 
@@ -13,11 +13,11 @@ use crate::failure::Failure;
 use crate::telling::{wants_asked, with_telling};
 use crate::words::SweepWords;
 use arguments::{is_given, new_command, value_of, values_of, with_file};
-use cases::{Plan, PlanFault};
 use clap::{ArgMatches, Command};
 use decimals::number;
-use pieces::Piece;
+use shards::Piece;
 use std::alloc::{AllocError, Global};
+use sweep_plan::{Plan, PlanFault};
 
 /// The command `sweep`.
 pub(crate) fn sweep_command<'a>(alloc: Global) -> Result<Command<'a>, AllocError>

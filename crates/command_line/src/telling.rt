@@ -1,15 +1,15 @@
 //! What is told of the cases of a sweep: the options that say so, and what their words ask for.
 ghost use Rattle.std.specs.Prelude.{◌≡◌, ◌⊎◌, map, unwrap_or, IfOk, IfErr, IsErrOf, List, []};
 ghost use Rattle.clap.specs.Words.{App, found_of, rows_of};
-ghost use Rattle.answers.specs.declared.want.Want.{Want as Wanting};
+ghost use Rattle.goals.specs.declared.want.Want.{Want as Wanting};
 ghost use Rattle.arguments.specs.Rules.{IsLocal};
 ghost use Rattle.command_line.specs.Words.{with_telling, AreWantsIn};
 
 use crate::chained::{and_flag, and_option, and_repeated};
 use crate::failure::Failure;
-use answers::{Want, WantFault, read_wants};
 use arguments::values_of;
 use clap::{ArgMatches, Command};
+use goals::{Want, WantFault, read_wants};
 use std::alloc::{AllocError, Global};
 
 /// A command with the options more that say what is told of the cases of a sweep.

@@ -12,15 +12,15 @@ use crate::joining::{JoinWords, join_asked};
 use crate::paging::{PageWords, page_asked};
 use crate::running::run_asked;
 use crate::sweeping::sweep_asked;
-use answers::Want;
 use arguments::value_of;
-use cases::Plan;
 use clap::error::ErrorKind;
 use clap::{ArgMatches, Error};
-use pieces::Piece;
+use goals::Want;
 use presets::Preset;
+use shards::Piece;
 use std::alloc::Global;
 use std::convert::AsStr;
+use sweep_plan::Plan;
 
 /// How the members are to be divided into parts, in the words of the command line.
 #[derive(Clone, Copy, Debug)]

@@ -2,8 +2,8 @@
 use Rattle.std.specs.Prelude.{◌≡◌, ℕ, List, Bool, true, false, Option, Some, None, Result, Ok, Err}
 use Rattle.std.specs.Io.KnownBytes.{Appends}
 use Rattle.scenario.specs.Setup.{Setup}
-use Rattle.mistake_text.specs.Told.{TellsDocument, TellsLines}
-use Rattle.accepted.specs.Told.{TellsMeaning, TellsMeaningDocument}
+use Rattle.diagnostic_text.specs.Told.{TellsDocument, TellsLines}
+use Rattle.explain_command.specs.Told.{TellsMeaning, TellsMeaningDocument}
 use Rattle.files.specs.Files.{KnownFile}
 use Rattle.shown_names.specs.Shown.{shown_name}
 use Rattle.command_line.specs.declared.explaining.ExplainWords.{ExplainWords}

@@ -2,7 +2,7 @@
 ghost use Rattle.std.specs.Prelude.{IfOk, string_bytes};
 ghost use Rattle.explain_command.specs.Outcomes.{TellsSetup};
 
-use accepted::{document_of, lines_of};
+use crate::telling::{document_of, lines_of};
 use base::Memory;
 use command_line::ExplainWords;
 use scenario::Scenario;

@@ -6,7 +6,7 @@ ghost use Rattle.explain_command.specs.Outcomes.{TellsMistakes, TellsSetup, Tell
 use crate::accepting::meaning;
 use base::Memory;
 use command_line::ExplainWords;
-use mistakes::of_refused;
+use diagnostics::of_refused;
 use scenario::Scenario;
 use scenario_reader::read;
 use std::alloc::Global;
@@ -63,9 +63,9 @@ fn refused(
 {
     let mistakes = of_refused(alloc, bytes, rule)?;
     let text = if words.json {
-        mistake_text::json(alloc, words.file, bytes, &mistakes)?
+        diagnostic_text::json(alloc, words.file, bytes, &mistakes)?
     } else {
-        mistake_text::lines(alloc, words.file, bytes, &mistakes)?
+        diagnostic_text::lines(alloc, words.file, bytes, &mistakes)?
     };
     Ok(Explained {
         text,

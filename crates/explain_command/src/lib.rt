@@ -5,5 +5,6 @@
 mod accepting;
 mod answer;
 mod explaining;
+mod telling;
 
 pub use explaining::explain_file;

@@ -7,7 +7,7 @@ use Rattle.std.proofs.lemmas.Fmt.{decimal_injective, decimal_is_IsNumeral}
 use Rattle.std.proofs.lemmas.Str.Parse.{digit_at}
 use Rattle.std.proofs.lemmas.List.Elements.{All-cons, All-head, All-map, All-nil, All-tail, All-weaker}
 use Rattle.reports.specs.Text.{figure}
-use Rattle.cases.proofs.Words.{Lacks, decimal_lacks, joined_split}
+use Rattle.sweep_plan.proofs.Words.{Lacks, decimal_lacks, joined_split}
 
 abbrev pub Small : Option ℕ → Type 0
 Small f = ForSome f (λ n. n < 2 ^ 63)

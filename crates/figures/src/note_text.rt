@@ -18,7 +18,7 @@ impl RunNote {
         ensures { IfOk result (λ text. string_bytes text ≡ note_text self.now) }
     {
         let figures = self.figures(alloc)?;
-        joined(alloc, &figures)
+        joined_figures(alloc, &figures)
     }
 
     /// What it says, in the order in which it is written.
@@ -49,7 +49,7 @@ fn push_times(figures: &mut Vec<Option<u64>>, crashes: &[CrashTimes]) -> Result<
 }
 
 /// Figures with spaces between them.
-fn joined(alloc: Global, figures: &[Option<u64>]) -> Result<String, Memory>
+fn joined_figures(alloc: Global, figures: &[Option<u64>]) -> Result<String, Memory>
     ensures { IfOk result (λ text. string_bytes text ≡ join_with_byte 32 (map figure figures.now)) }
 {
     let mut text = String::new(alloc);

@@ -2,9 +2,9 @@
 use Rattle.std.specs.Prelude.{◌≡◌, ◌≤◌, ℕ, List, ◌∷◌, ◌++◌, codes, string_bytes}
 use Rattle.std.specs.Fmt.{decimal}
 use Rattle.toml.specs.Data.{Data}
-use Rattle.cases.specs.Keys.{IsKeyNamed}
-use Rattle.cases.specs.Missing.{meant_count}
-use Rattle.cases.specs.declared.keys.SettingKey.{SettingKey}
+use Rattle.sweep_plan.specs.Keys.{IsKeyNamed}
+use Rattle.sweep_plan.specs.Missing.{meant_count}
+use Rattle.sweep_plan.specs.declared.keys.SettingKey.{SettingKey}
 use Rattle.reasons.specs.declared.items.ItemReason.{ItemReason}
 use Rattle.reasons.specs.declared.items.ItemReason.TheVariants.{Absent, Many, PastLast}
 

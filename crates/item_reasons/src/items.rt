@@ -6,10 +6,10 @@ ghost use Rattle.toml.specs.View.{view};
 ghost use Rattle.item_reasons.specs.Items.{IsItemReason, Means};
 
 use base::Memory;
-use cases::{SettingKey, items_meant};
 use decimals::number;
 use reasons::ItemReason;
 use std::alloc::Global;
+use sweep_plan::{SettingKey, items_meant};
 use toml::Value;
 
 /// Why a key, as a word says it, means no one item of a document: several have its name, or so many that its number is past the

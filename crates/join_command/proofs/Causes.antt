@@ -2,7 +2,7 @@
 use Rattle.std.proofs.Common.{◌≡◌, ◌⊎◌, ℕ, List, Option, Some, None, inl, inr, sym, subst}
 use Rattle.std.specs.Borrow.{Bor}
 use Rattle.clap.specs.Words.{Text}
-use Rattle.cases.specs.Sweep.{Sweep}
+use Rattle.sweep_plan.specs.Sweep.{Sweep}
 use Rattle.figures.specs.declared.summary.CaseSummary.{CaseSummary}
 use Rattle.files.specs.Files.{KnownFile, Making}
 use Rattle.command_line.specs.declared.joining.JoinWords.{JoinWords}
@@ -10,8 +10,8 @@ use Rattle.command_line.specs.declared.paging.PageWords.{PageWords}
 use Rattle.command_line.specs.declared.failure.Failure.{Failure}
 use Rattle.command_line.specs.declared.failure.Failure.TheVariants as failing
 use Rattle.scenario_files.specs.Shelves.{Shelf, IsUnread}
-use Rattle.joins.specs.declared.fault.JoinFault.{JoinFault}
-use Rattle.joins.specs.declared.fault.JoinFault.TheVariants as fault
+use Rattle.shard_merge.specs.declared.fault.JoinFault.{JoinFault}
+use Rattle.shard_merge.specs.declared.fault.JoinFault.TheVariants as fault
 use Rattle.join_command.specs.Outcomes.{FailsToGather, FailsToStore, FailsToStoreAsked, FailsToStoreBoth, FailsToStorePage, IsWant, JoinFails, PageFails, piece_failure}
 
 -- the failures by which either may end

@@ -7,9 +7,9 @@ use Rattle.std.specs.declared.alloc.Global.{Global}
 use Rattle.clap.specs.Words.{Text}
 use Rattle.base.specs.declared.fault.Fault.TheVariants as cause
 use Rattle.trace.specs.Sinks.{AppendsBeginning}
-use Rattle.cases.specs.Sweep.{Sweep}
+use Rattle.sweep_plan.specs.Sweep.{Sweep}
 use Rattle.figures.specs.declared.summary.CaseSummary.{CaseSummary}
-use Rattle.case_telling.specs.Telling.{IsSweepPage, TellsCases}
+use Rattle.sweep_output.specs.Telling.{IsSweepPage, TellsCases}
 use Rattle.files.specs.Files.{Making, Holds, HoldsNow, KeepsOthers, KeepsAllOthers, CannotMake, CannotMakeSecond, AreThreeFiles}
 use Rattle.command_line.specs.Words.{AsksForJoin, AsksForPage}
 use Rattle.command_line.specs.declared.joining.JoinWords.{JoinWords}
@@ -17,10 +17,10 @@ use Rattle.command_line.specs.declared.paging.PageWords.{PageWords}
 use Rattle.command_line.specs.declared.failure.Failure.{Failure}
 use Rattle.command_line.specs.declared.failure.Failure.TheVariants.{File, Pieces, Run, Memory}
 use Rattle.command_line.specs.declared.failure.PieceFault.TheVariants as piece
-use Rattle.joins.specs.Joined.{Joins}
-use Rattle.joins.specs.Reasons.{IsReason}
-use Rattle.joins.specs.declared.fault.JoinFault.{JoinFault}
-use Rattle.joins.specs.declared.fault.JoinFault.TheVariants as fault
+use Rattle.shard_merge.specs.Joined.{Joins}
+use Rattle.shard_merge.specs.Reasons.{IsReason}
+use Rattle.shard_merge.specs.declared.fault.JoinFault.{JoinFault}
+use Rattle.shard_merge.specs.declared.fault.JoinFault.TheVariants as fault
 use Rattle.scenario_files.specs.Shelves.{Shelf, IsRefused, IsUnread, HoldsBeginning}
 
 -- the name at a place among these; the other one where there is none

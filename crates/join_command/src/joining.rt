@@ -1,19 +1,19 @@
 //! The pieces of a sweep in files, put together into the table of the whole.
 ghost use Rattle.std.specs.Prelude.{◌≡◌, ◌<◌, All, Some, [], IfOk, IfErr, OnOk, length, string_bytes};
-ghost use Rattle.answers.specs.Wants.{HasFewRuns, IsBounded};
-ghost use Rattle.cases.specs.Sweep.{case_count};
-ghost use Rattle.case_telling.specs.Telling.{TellsCases};
+ghost use Rattle.goals.specs.Wants.{HasFewRuns, IsBounded};
+ghost use Rattle.sweep_plan.specs.Sweep.{case_count};
+ghost use Rattle.sweep_output.specs.Telling.{TellsCases};
 ghost use Rattle.join_command.specs.Outcomes.{FailsToGather, FailsToStoreAsked, FailsToStorePaged, GathersCases, JoinFails, JoinsAll, StoresAsked, StoresPaged};
 
 use crate::paging::page_of;
 use crate::reading::{gather, name_at};
 use crate::storing::{store, store_both};
 use base::Memory;
-use case_telling::cases_told;
 use command_line::{Failure, JoinWords, Release};
 use files::Files;
-use joins::Joined;
+use shard_merge::Joined;
 use std::alloc::Global;
+use sweep_output::cases_told;
 use trace::Put;
 
 /// Puts the pieces in the files of the words together, and writes the table of the whole to a file, and a page of the cases to

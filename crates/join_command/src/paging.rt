@@ -1,20 +1,20 @@
 //! A page of the cases that the pieces of a sweep came to.
 ghost use Rattle.std.specs.Prelude.{◌≡◌, All, ◌<◌, IfOk, IfErr, OnOk, length, string_bytes};
-ghost use Rattle.answers.specs.Wants.{HasFewRuns, IsBounded};
-ghost use Rattle.cases.specs.Sweep.{case_count};
-ghost use Rattle.case_telling.specs.Telling.{IsSweepPage};
+ghost use Rattle.goals.specs.Wants.{HasFewRuns, IsBounded};
+ghost use Rattle.sweep_plan.specs.Sweep.{case_count};
+ghost use Rattle.sweep_output.specs.Telling.{IsSweepPage};
 ghost use Rattle.join_command.specs.Outcomes.{FailsToStorePage, PageFails, PagesAll, StoresPage, scenario_name};
 
 use crate::reading::{gather, name_at};
 use crate::storing::store;
-use answers::Want;
 use base::Memory;
-use case_telling::{SweepShown, cases_page};
 use command_line::{Failure, PageWords, Release};
 use files::Files;
-use joins::Joined;
+use goals::Want;
+use shard_merge::Joined;
 use std::alloc::Global;
 use std::io;
+use sweep_output::{SweepShown, cases_page};
 use trace::Put;
 
 /// Puts the pieces in the files of the words together, and writes a page of the cases to a file, which is made once they are.

@@ -1,13 +1,13 @@
 //! The pieces in files, put together.
 ghost use Rattle.std.specs.Prelude.{◌≡◌, ◌<◌, ◌^◌, All, IfOk, IfErr};
-ghost use Rattle.answers.specs.Wants.{HasFewRuns};
-ghost use Rattle.joins.specs.Joined.{Joins};
+ghost use Rattle.goals.specs.Wants.{HasFewRuns};
+ghost use Rattle.shard_merge.specs.Joined.{Joins};
 ghost use Rattle.join_command.specs.Outcomes.{FailsToGather, FailsToRead, GathersCases, HoldTexts, RefusesPieces, name_at, piece_failure};
 
 use command_line::{Failure, PieceFault};
 use files::Files;
-use joins::{JoinFault, Joined, join};
 use scenario_files::load_bytes;
+use shard_merge::{JoinFault, Joined, join};
 use std::alloc::Global;
 use trace::Sink;
 

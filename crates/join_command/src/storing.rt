@@ -7,11 +7,11 @@ ghost use Rattle.trace.specs.Writers.{put_failures, writer_under};
 ghost use Rattle.join_command.specs.Outcomes.{AppendsBoth, BeginsBoth, FailsToStore, FailsToStoreBoth, Stores, StoresBoth};
 
 use base::Fault;
-use case_telling::put_text;
 use command_line::Failure;
 use files::{Files, PairFault};
 use scenario_files::{file_failure, run_told};
 use std::io::Write;
+use sweep_output::put_text;
 use trace::{Put, Sink, Stopped};
 
 /// Writes a text to the file of this name, which isn't that of the source.

@@ -1,3 +1,5 @@
+//! A member's health score (Lifeguard's local health multiplier, LHA-Probe), which lengthens the member's own probe
+//! times.
 ghost use Rattle.std.specs.Prelude.{◌≡◌, ◌*◌, ◌≤◌, ◌^◌};
 
 use crate::probe::Probe;

@@ -1,3 +1,5 @@
+//! How long a helper waits for the target's ack before it sends a nack to the member that asked (Lifeguard,
+//! LHA-Probe).
 ghost use Rattle.std.specs.Prelude.{◌≡◌, ◌≤◌, ◌^◌};
 ghost use Rattle.lifeguard.specs.NackDelay.{nack_delay_of};
 

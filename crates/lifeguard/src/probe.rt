@@ -1,3 +1,5 @@
+//! The state of a member's probe under way: the target, the acks and nacks so far, and the missed nacks that count
+//! against the member's own health score (LHA-Probe; memberlist counts each one).
 ghost use Rattle.std.specs.Prelude.{◌≡◌, ◌<◌, ◌≤◌, ◌↔◌, IsTrue};
 
 use base::{MemberId, Moment};

@@ -1,3 +1,4 @@
+//! The indirect probes that a helper has passed on and still owes an ack or a nack (Lifeguard, LHA-Probe).
 ghost use Rattle.std.specs.Prelude.{◌≡◌, false, OnOk, OnErr};
 ghost use Rattle.std.specs.FinSet as set;
 ghost use Rattle.std.specs.Coded.{coded_ℕ, coded×};

@@ -1,3 +1,4 @@
+//! The least delay of a link between two members of a scenario, found from two members of each group.
 ghost use Rattle.std.specs.Prelude.{◌≡◌, ◌<◌, length};
 ghost use Rattle.links.specs.Table.{link_at};
 ghost use Rattle.links.specs.Least.{IsLeast, IsLeastFrom, lesser_of, is_third, is_other};
@@ -15,7 +16,7 @@ pub(crate) fn least_delay(links: &Links) -> Option<u64>
     let mut least = None;
     for from in 0..links.groups.len() {
         if !is_third(links.groups.as_slice(), from) {
-            least = lesser(least, least_from(links, from));
+            least = lesser_delay(least, least_from(links, from));
         }
     }
     least
@@ -40,7 +41,7 @@ fn least_from(links: &Links, from: usize) -> Option<u64>
     let mut least = None;
     for to in 0..links.groups.len() {
         if is_other(links.groups.as_slice(), from, to) {
-            least = lesser(least, Some(links.link_between(from, to).delay));
+            least = lesser_delay(least, Some(links.link_between(from, to).delay));
         }
     }
     least
@@ -63,7 +64,7 @@ fn is_third(groups: &[usize], member: usize) -> bool
 }
 
 /// The smaller of two, where there are both.
-fn lesser(one: Option<u64>, other: Option<u64>) -> Option<u64>
+fn lesser_delay(one: Option<u64>, other: Option<u64>) -> Option<u64>
     ensures { result ≡ lesser_of one other }
 {
     let Some(a) = one else { return other };

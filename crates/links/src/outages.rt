@@ -1,3 +1,4 @@
+//! When the link between two groups is cut: the scenario's cuts, sorted by time and gathered by pair of groups.
 ghost use Rattle.std.specs.Prelude.{◌≡◌, ℕ, ◌<◌, ◌≤◌, ◌||◌, ◌&&◌, length, nat_le, nat_lt, slice_index_or, IfOk, OnOk};
 ghost use Rattle.std.specs.List.{list_any};
 ghost use Rattle.std.specs.List.Sorted.{IsPermutation};

@@ -1,3 +1,4 @@
+//! Which link joins two groups: of several `[[path]]` entries for one pair of groups the last one counts.
 ghost use Rattle.std.specs.Prelude.{◌≡◌, ℕ, map, filter, IfOk, unwrap_or};
 ghost use Rattle.scenario.specs.Setup.{leads, last_link};
 ghost use Rattle.links.specs.Entries.{route};

@@ -1,3 +1,4 @@
+//! When each member is slow and by how many ticks: the scenario's `[[slow]]` entries, gathered by member.
 ghost use Rattle.std.specs.Prelude.{◌≡◌, ℕ, ◌<◌, ◌++◌, cond, nat_eq, [], ◌∷◌, IfOk, OnOk, vec_len};
 ghost use Rattle.links.specs.Entries.{spans_in, span_of, slow_spans};
 

@@ -1,3 +1,4 @@
+//! The table of a scenario's links, from which the way of a message between two members is looked up without memory.
 ghost use Rattle.std.specs.Prelude.{ℕ, ◌≤◌, ◌^◌};
 ghost use Rattle.scenario.specs.Setup.{IsSoundLink};
 ghost use Rattle.links.specs.Entries.{link_of_pair, spans_in, extra_in};

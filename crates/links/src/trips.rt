@@ -1,3 +1,5 @@
+//! How messages travel over streams (TCP) by memberlist's rules: a call opens a stream, and what is lost is sent
+//! again.
 ghost use Rattle.std.specs.Prelude.{◌≡◌, ℕ, ◌+◌, ◌^◌, ◌<◌, ◌≤◌, Some, IfSome};
 ghost use Rattle.streams.specs.Draw.{Words, words_of};
 ghost use Rattle.scenario.specs.Setup.{Setup, member_count, link_between};

@@ -14,8 +14,8 @@ abbrev pub size_of : List ℕ → ℕ → ℕ
 size_of groups number = count_by (λ g. nat_eq g number) groups
 
 -- its first member: members are numbered in the order of groups, so those of earlier groups come before it
-abbrev pub first_of : List ℕ → ℕ → ℕ
-first_of groups number = count_by (λ g. nat_lt g number) groups
+abbrev pub first_of_group : List ℕ → ℕ → ℕ
+first_of_group groups number = count_by (λ g. nat_lt g number) groups
 
 -- NAME of NAME-0
 abbrev pub without_index : List ℕ → List ℕ
@@ -23,7 +23,7 @@ without_index name = if bytes_eq (codes "-0") (drop (length name - 2) name) then
 
 -- the name of a group, by the name of its first member
 abbrev pub group_name : Setup → ℕ → List ℕ
-group_name s number = without_index (name_of s (first_of (groups_of s) number))
+group_name s number = without_index (name_of s (first_of_group (groups_of s) number))
 
 -- a later path names the same two groups
 abbrev pub is_hidden : List Path → ℕ → Path → Bool

@@ -1,6 +1,7 @@
+//! The groups of a scenario's members: their numbers, sizes, first members and names.
 ghost use Rattle.std.specs.Prelude.{◌≡◌, IfOk};
 ghost use Rattle.scenario.specs.Setup.{name_of};
-ghost use Rattle.meaning.specs.Groups.{groups_of, size_of, first_of, without_index, group_name};
+ghost use Rattle.meaning.specs.Groups.{groups_of, size_of, first_of_group, without_index, group_name};
 
 use base::{MemberId, Memory};
 use scenario::Scenario;
@@ -25,8 +26,8 @@ pub fn size_of(groups: &[usize], number: usize) -> usize
 }
 
 /// The number of the first member of a group.
-pub fn first_of(groups: &[usize], number: usize) -> usize
-    ensures { result ≡ first_of groups.now number }
+pub fn first_of_group(groups: &[usize], number: usize) -> usize
+    ensures { result ≡ first_of_group groups.now number }
 {
     groups.iter().filter(|group| **group < number).count()
 }
@@ -48,7 +49,7 @@ pub fn group_name<'a>(scenario: &'a Scenario, groups: &[usize], number: usize) -
     requires { groups.now ≡ groups_of scenario.now }
     ensures { result.now ≡ group_name scenario.now number }
 {
-    without_index(member_name(scenario, first_of(groups, number)))
+    without_index(member_name(scenario, first_of_group(groups, number)))
 }
 
 /// The name of the group whose first member has this name.

@@ -12,7 +12,7 @@ mod times;
 mod trips;
 mod ways;
 
-pub use groups::{first_of, group_name, groups_of, member_name, size_of};
+pub use groups::{first_of_group, group_name, groups_of, member_name, size_of};
 pub use list::item_at;
 pub use news::message_limit;
 pub use paths::is_hidden;

@@ -1,3 +1,4 @@
+//! Access to a list by place, with a contract that ties the item to the list in the specifications.
 ghost use Rattle.std.specs.Prelude.{◌≡◌, ◌<◌, IfSome, length, slice_get};
 
 /// The item at a place of a list, if there is one.

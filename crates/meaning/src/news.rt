@@ -1,3 +1,5 @@
+//! How far an update spreads: on how many messages of one member it rides at the most (piggyback),
+//! lambda times the number of decimal digits of the cluster's size.
 ghost use Rattle.std.specs.Prelude.{◌≡◌, ◌<◌, ◌^◌};
 ghost use Rattle.scenario.specs.Setup.{member_count};
 ghost use Rattle.membership.specs.Table.{live_count};

@@ -1,3 +1,4 @@
+//! Which paths decide nothing, because a later path names the same two groups.
 ghost use Rattle.std.specs.Prelude.{◌≡◌, ◌<◌, length};
 ghost use Rattle.scenario.specs.Setup.{leads};
 ghost use Rattle.std.specs.List.{list_any};

@@ -1,3 +1,5 @@
+//! How often members push and pull: the wait between two pushes grows with the cluster's size (memberlist's rules),
+//! once more for each doubling past 32 members.
 ghost use Rattle.std.specs.Prelude.{◌≡◌, ◌≤◌, ◌^◌, ◌*◌, count_by, nat_lt};
 ghost use Rattle.scenario.specs.Setup.{member_count};
 ghost use Rattle.member.specs.Step.{doublings_to};

@@ -1,3 +1,5 @@
+//! What a quiet run costs, in which nothing is lost and nobody crashes, leaves or pauses: its messages,
+//! the rows of its trace and their bytes.
 ghost use Rattle.std.specs.Prelude.{◌≡◌, ◌+◌, ◌*◌, ◌/◌, ◌<◌, ◌≤◌, ◌^◌};
 ghost use Rattle.scenario.specs.Setup.{member_count};
 ghost use Rattle.meaning.specs.Pushes.{half_push, pushes_in};

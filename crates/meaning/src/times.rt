@@ -1,3 +1,5 @@
+//! The protocol's times among all members: suspicions by further accusers (LHA-Suspicion), period and timeout
+//! by health score (LHA-Probe), and a helper's delay before its nack.
 ghost use Rattle.std.specs.Prelude.{◌≡◌, ◌≤◌, ◌^◌};
 ghost use Rattle.scenario.specs.Setup.{member_count};
 ghost use Rattle.suspicion.specs.Times.{most_accusers, min_timeout, timeout};

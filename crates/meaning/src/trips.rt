@@ -1,3 +1,4 @@
+//! The greatest round trip over all pairs of members, from the delay and the jitter of their links.
 ghost use Rattle.std.specs.Prelude.{◌≡◌, ◌<◌, ◌≤◌, ◌^◌, IfOk};
 ghost use Rattle.scenario.specs.Setup.{member_count, IsSoundLink};
 ghost use Rattle.meaning.specs.Groups.{groups_of};

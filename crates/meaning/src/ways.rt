@@ -1,3 +1,4 @@
+//! The links between one group and each other group, looked up once so that a round trip takes no search of the paths.
 ghost use Rattle.std.specs.Prelude.{◌≡◌, ◌<◌, IfOk, replicate};
 ghost use Rattle.scenario.specs.Setup.{member_count, group_at, leads, link_between, IsSoundLink};
 ghost use Rattle.meaning.specs.Trips.{AreWaysOf, AreLinksBy, last_of, put_if};

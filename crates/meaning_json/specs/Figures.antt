@@ -16,7 +16,7 @@ use Rattle.suspicion.specs.Times.{most_accusers, min_timeout, timeout}
 use Rattle.suspicion.specs.Settings.{terms_of}
 use Rattle.lifeguard.specs.NackDelay.{nack_delay_of}
 use Rattle.meaning.specs.Each.{made_of_each}
-use Rattle.meaning.specs.Groups.{groups_of, size_of, first_of, group_name, is_hidden}
+use Rattle.meaning.specs.Groups.{groups_of, size_of, first_of_group, group_name, is_hidden}
 use Rattle.meaning.specs.News.{message_limit}
 use Rattle.meaning.specs.Quiet.{quiet_of}
 use Rattle.meaning.specs.Times.{worst_health, pace_at}
@@ -48,7 +48,7 @@ group_data s m =
 
 -- a group, at its first member
 abbrev pub group_item : Setup → ℕ → List Data
-group_item s m = if nat_eq (first_of (groups_of s) (group_at s.groups m)) m then group_data s m ∷ [] else []
+group_item s m = if nat_eq (first_of_group (groups_of s) (group_at s.groups m)) m then group_data s m ∷ [] else []
 
 abbrev pub groups_data : Setup → Data
 groups_data s = list_of (flat_map (group_item s) (range_with_len 0 (member_count s)))

@@ -1,3 +1,4 @@
+//! The JSON document of an accepted scenario: its figures, its script, and its warnings with reason, remedy and place.
 ghost use Rattle.std.specs.Prelude.{◌≡◌, IfOk};
 ghost use Rattle.serde_json.specs.View.{view};
 ghost use Rattle.meaning.specs.Groups.{groups_of};

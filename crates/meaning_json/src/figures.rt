@@ -1,3 +1,4 @@
+//! The figures as JSON values: groups, links and paths, the protocol's times, gossip, and what a quiet run costs.
 ghost use Rattle.std.specs.Prelude.{◌≡◌, ◌++◌, ◌<◌, ◌≤◌, IfOk, OnOk, length, map};
 ghost use Rattle.serde_json.specs.View.{view};
 ghost use Rattle.scenario.specs.Setup.{member_count};
@@ -9,7 +10,7 @@ use crate::lists::{list_of, push_value};
 use crate::members::{put_number, put_text};
 use base::{MemberId, Profile};
 use meaning::{
-    cost_of_quiet, first_of, group_name, is_hidden, item_at, least_suspicion, member_name,
+    cost_of_quiet, first_of_group, group_name, is_hidden, item_at, least_suspicion, member_name,
     message_limit, most_accusers, nack_delay, pace_with, suspicion_time, worst_health,
 };
 use meaning_text::{name_of_group, size_of_group};
@@ -69,7 +70,7 @@ fn push_group(
 {
     let _few = scenario.members();
     let number = scenario.group_number(MemberId(member as u16));
-    if first_of(groups, number) == member {
+    if first_of_group(groups, number) == member {
         push_value(values, group_value(alloc, scenario, groups, member)?)
     } else {
         Ok(())

@@ -1,3 +1,4 @@
+//! How a JSON list is built from its values, one at a time.
 ghost use Rattle.std.specs.Prelude.{◌≡◌, ◌++◌, [], ◌∷◌, OnOk, map};
 ghost use Rattle.serde_json.specs.View.{view};
 ghost use Rattle.meaning_json.specs.Figures.{list_of};

@@ -1,3 +1,4 @@
+//! The script up to the end of the run as a JSON value: crashes, leaves, slow times, cuts and pauses.
 ghost use Rattle.std.specs.Prelude.{◌≡◌, ◌++◌, ◌<◌, IfOk, OnOk, flat_map, map};
 ghost use Rattle.serde_json.specs.View.{view};
 ghost use Rattle.scenario.specs.Setup.{member_count};

@@ -19,7 +19,7 @@ use Rattle.suspicion.specs.Settings.{terms_of}
 use Rattle.lifeguard.specs.NackDelay.{nack_delay_of}
 use Rattle.reports.specs.Text.{line, count_line}
 use Rattle.meaning.specs.Each.{made_of_each}
-use Rattle.meaning.specs.Groups.{groups_of, size_of, first_of, group_name, is_hidden}
+use Rattle.meaning.specs.Groups.{groups_of, size_of, first_of_group, group_name, is_hidden}
 use Rattle.meaning.specs.News.{message_limit}
 use Rattle.meaning.specs.Quiet.{quiet_of}
 use Rattle.meaning.specs.declared.quiet.Quiet.{Quiet}
@@ -44,7 +44,7 @@ group_text s m = group_words s m ++ contact_text s (contact_of s m) ++ codes "\n
 
 -- the line of a group, at its first member
 abbrev pub group_line : Setup → ℕ → List ℕ
-group_line s m = if nat_eq (first_of (groups_of s) (group_at s.groups m)) m then group_text s m else []
+group_line s m = if nat_eq (first_of_group (groups_of s) (group_at s.groups m)) m then group_text s m else []
 
 -- how many members there are, and their groups
 unfoldable pub member_lines : Setup → List ℕ

@@ -1,3 +1,5 @@
+//! The lines on streams: whether a call follows a ping without an ack (memberlist's rules),
+//! and how a stream sends again what was lost.
 ghost use Rattle.std.specs.Prelude.{◌≡◌, ◌++◌, OnOk};
 ghost use Rattle.std.specs.String.{string_bytes};
 ghost use Rattle.meaning_text.specs.Lines.{call_lines, fallback_line, stream_line};

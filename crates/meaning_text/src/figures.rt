@@ -1,3 +1,4 @@
+//! The lines of all figures in their order: the cluster, the protocol's times, the script, and a quiet run's cost.
 ghost use Rattle.std.specs.Prelude.{◌≡◌, ◌++◌, OnOk};
 ghost use Rattle.std.specs.String.{string_bytes};
 ghost use Rattle.meaning.specs.Groups.{groups_of};

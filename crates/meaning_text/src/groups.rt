@@ -1,3 +1,4 @@
+//! The lines on members: how many there are, and for each group its name, its size, its start and its contact.
 ghost use Rattle.std.specs.Prelude.{◌≡◌, ◌++◌, ◌<◌, OnOk};
 ghost use Rattle.std.specs.String.{string_bytes};
 ghost use Rattle.reports.specs.Text.{count_line};
@@ -6,7 +7,7 @@ ghost use Rattle.meaning.specs.Groups.{groups_of, group_name, size_of};
 ghost use Rattle.meaning_text.specs.Lines.{member_lines, group_line, group_words, group_text, contact_text};
 
 use base::MemberId;
-use meaning::{first_of, group_name, member_name, size_of};
+use meaning::{first_of_group, group_name, member_name, size_of};
 use scenario::Scenario;
 use std::alloc::AllocError;
 
@@ -48,7 +49,7 @@ fn push_group(
 {
     let _few = scenario.members();
     let number = scenario.group_number(MemberId(member as u16));
-    if first_of(groups, number) == member {
+    if first_of_group(groups, number) == member {
         push_group_text(text, scenario, groups, member)
     } else {
         Ok(())

@@ -1,3 +1,4 @@
+//! The two numbers that a warning compares, taken from the scenario and its greatest round trip.
 ghost use Rattle.std.specs.Prelude.{◌≡◌, ◌≤◌, ◌^◌};
 ghost use Rattle.meaning_text.specs.Numbers.{compared, numbers_of, crash_at, slow_from, slow_extra, leave_at, cut_at, pause_from, pause_length};
 

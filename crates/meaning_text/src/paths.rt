@@ -1,3 +1,5 @@
+//! The lines on the network: the link of all pairs, the paths that decide, a window's length
+//! and the greatest round trip.
 ghost use Rattle.std.specs.Prelude.{◌≡◌, ◌++◌, ◌<◌, OnOk, length};
 ghost use Rattle.std.specs.String.{string_bytes};
 ghost use Rattle.meaning.specs.Each.{made_at};

@@ -1,3 +1,4 @@
+//! The lines on what happens up to the end of the run: crashes, leaves, slow times, cuts and pauses.
 ghost use Rattle.std.specs.Prelude.{◌≡◌, ◌++◌, ◌<◌, OnOk, flat_map};
 ghost use Rattle.std.specs.List.{range_with_len};
 ghost use Rattle.std.specs.String.{string_bytes};

@@ -1,3 +1,5 @@
+//! The whole text on an accepted scenario: its figures, then each warning with its reason, its place
+//! and what mends it.
 ghost use Rattle.std.specs.Prelude.{◌≡◌, ◌++◌, IfOk, OnOk, flat_map};
 ghost use Rattle.std.specs.String.{string_bytes};
 ghost use Rattle.meaning_text.specs.Text.{text_of, warning_text, warning_head, warning_end, message_of, numbers_text};

@@ -1,3 +1,5 @@
+//! The lines on the protocol's times: suspicions (LHA-Suspicion), period, timeout and nacks (LHA-Probe),
+//! how far an update spreads, and gossip (memberlist's rules).
 ghost use Rattle.std.specs.Prelude.{◌≡◌, ◌++◌, ◌*◌, ◌≤◌, OnOk};
 ghost use Rattle.std.specs.String.{string_bytes};
 ghost use Rattle.scenario.specs.Setup.{member_count};

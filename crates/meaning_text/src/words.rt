@@ -1,3 +1,4 @@
+//! The fixed words of each warning: its kind, its reason without numbers, and what mends it.
 ghost use Rattle.std.specs.Prelude.{◌≡◌};
 ghost use Rattle.meaning_text.specs.Words.{kind_of, reason_of, remedy_of};
 

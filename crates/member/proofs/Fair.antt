@@ -37,11 +37,11 @@ use Rattle.probing.specs.ProbeOrder.{next_of}
 use Rattle.suspicion.proofs.Timeouts.{min-le-timeout}
 use Rattle.member.specs.declared.member.Phase.{Phase}
 use Rattle.member.specs.declared.member.Phase.TheVariants.{Waiting, Joining, Running}
-use Rattle.member.specs.declared.content.Content.{Content}
-use Rattle.member.specs.declared.content.Content.TheVariants.{Start, Crash, Leave, JoinTimer, PeriodTimer, TimeoutTimer, NackTimer, SuspicionTimer, Join, Welcome, Ping, PingReq, Ack, Nack, Bye, DeadlineTimer, GossipTimer, PushTimer, Call, Answer, Gossip, Push, Pull}
-use Rattle.member.specs.declared.telling.Telling.{Telling}
-use Rattle.member.specs.declared.telling.Telling.TheVariants.{Aloud, Quietly}
-use Rattle.member.specs.Telling.{is_aloud}
+use Rattle.member.specs.declared.event_kind.EventKind.{EventKind}
+use Rattle.member.specs.declared.event_kind.EventKind.TheVariants.{Start, Crash, Leave, JoinTimer, PeriodTimer, TimeoutTimer, NackTimer, SuspicionTimer, Join, Welcome, Ping, PingReq, Ack, Nack, Bye, DeadlineTimer, GossipTimer, PushTimer, Call, Answer, Gossip, Push, Pull}
+use Rattle.member.specs.declared.announce.Announce.{Announce}
+use Rattle.member.specs.declared.announce.Announce.TheVariants.{Aloud, Quietly}
+use Rattle.member.specs.Announce.{is_aloud}
 use Rattle.member.specs.State.{State, is_probed}
 use Rattle.incarnation.specs.Refutations.{does_refute}
 use Rattle.membership.specs.Table.{is_confirm, does_override, live_count}
@@ -192,7 +192,7 @@ module _ (s : Setup) (sound : IsSound s) (k : Key) (n : ℕ) where
     counts = fair.counts;
   }
 
-  fair_event : (at to : ℕ) (content : Content) (o : Effect) → k.at < at → (to ≢ k.to → k.at + (link_between s k.to to).delay ≤ at) → IsWellMade s k n o → IsWellMade s k n (with_event s k at to content o)
+  fair_event : (at to : ℕ) (content : EventKind) (o : Effect) → k.at < at → (to ≢ k.to → k.at + (link_between s k.to to).delay ≤ at) → IsWellMade s k n o → IsWellMade s k n (with_event s k at to content o)
   unfolding with_event
   fair_event at to content o h linked fair =
       let put_off = (is_awake_at s to at).later in
@@ -209,10 +209,10 @@ module _ (s : Setup) (sound : IsSound s) (k : Key) (n : ℕ) where
         counts = fair.counts;
       }
 
-  fair_own : (at : ℕ) (content : Content) (o : Effect) → k.at < at → IsWellMade s k n o → IsWellMade s k n (with_event s k at k.to content o)
+  fair_own : (at : ℕ) (content : EventKind) (o : Effect) → k.at < at → IsWellMade s k n o → IsWellMade s k n (with_event s k at k.to content o)
   fair_own at content o h fair = fair_event at k.to content o h (λ other. absurd (other refl)) fair
 
-  fair_timer : (ticks : ℕ) (content : Content) (o : Effect) → 0 < ticks → IsWellMade s k n o → IsWellMade s k n (with_timer s k ticks content o)
+  fair_timer : (ticks : ℕ) (content : EventKind) (o : Effect) → 0 < ticks → IsWellMade s k n o → IsWellMade s k n (with_timer s k ticks content o)
   unfolding with_timer
   fair_timer ticks content o h fair = fair_own (k.at + ticks) content o (omega arith) fair
 
@@ -241,16 +241,16 @@ module _ (s : Setup) (sound : IsSound s) (k : Key) (n : ℕ) where
 
   -- ---- messages
 
-  fair_sent_off : (to : ℕ) (content : Content) (arrival : Option ℕ) (o : Effect) → IfSome arrival (λ at. k.at + (link_between s k.to to).delay ≤ at) → IsWellMade s k n o → IsWellMade s k n (sent_off s k to content arrival o)
+  fair_sent_off : (to : ℕ) (content : EventKind) (arrival : Option ℕ) (o : Effect) → IfSome arrival (λ at. k.at + (link_between s k.to to).delay ≤ at) → IsWellMade s k n o → IsWellMade s k n (sent_off s k to content arrival o)
   fair_sent_off to content None o h fair = fair_number o fair
   fair_sent_off to content (Some at) o h fair = fair_event at to content o (let d = (sound.between k.to to).delay.0 in omega arith) (λ _. h) fair
 
-  fair_posted : (tells : What) (to value : ℕ) (content : Content) (arrival : Option ℕ × Words) (o : Effect) → IsFrom (k.at + (link_between s k.to to).delay) arrival → IsWellMade s k n o
+  fair_posted : (tells : What) (to value : ℕ) (content : EventKind) (arrival : Option ℕ × Words) (o : Effect) → IsFrom (k.at + (link_between s k.to to).delay) arrival → IsWellMade s k n o
       → IsWellMade s k n (posted s k tells to value content arrival o)
   unfolding posted
   fair_posted tells to value content arrival o later fair = fair_sent_off to content arrival.0 _ later (fair_row tells _ _ _ _ (fair_state _ o refl fair))
 
-  fair_sent : (tells : What) (to value : ℕ) (content : Content) (o : Effect) → IsWellMade s k n o → IsWellMade s k n (sent s k tells to value content o)
+  fair_sent : (tells : What) (to value : ℕ) (content : EventKind) (o : Effect) → IsWellMade s k n o → IsWellMade s k n (sent s k tells to value content o)
   fair_sent tells to value content o fair = fair_posted tells to value content _ o (arrival_later s k.to to k.at o.state.words) fair
 
   fair_ping : (to initiator seq : ℕ) (o : Effect) → IsWellMade s k n o → IsWellMade s k n (ping_sent s k to initiator seq o)
@@ -329,7 +329,7 @@ module _ (s : Setup) (sound : IsSound s) (k : Key) (n : ℕ) where
   unfolding with_put
   fair_put u o fair = fair_gossip_set s.gossip _ sound.gossip (fair_state _ o refl fair)
 
-  fair_passed_on : (telling : Telling) (u : Update) (o : Effect) → IsWellMade s k n o → IsWellMade s k n (passed_on s k telling u o)
+  fair_passed_on : (telling : Announce) (u : Update) (o : Effect) → IsWellMade s k n o → IsWellMade s k n (passed_on s k telling u o)
   unfolding passed_on
   fair_passed_on telling u o fair = fair_choice (is_aloud telling) _ _ (fair_put u o fair) fair
 
@@ -352,7 +352,7 @@ module _ (s : Setup) (sound : IsSound s) (k : Key) (n : ℕ) where
       fair_choice (does_refute (profile_of s) o.state.incarnation claim number) _ _ (fair_refuted (number + 1) o fair)
       (fair_choice (is_own_death (profile_of s) claim o.state.heard_dead) _ _ (fair_dead number o fair) fair)
 
-  fair_told : (telling : Telling) (tells : What) (subject value : ℕ) (o : Effect) → IsWellMade s k n o → IsWellMade s k n (with_told telling k tells subject value o)
+  fair_told : (telling : Announce) (tells : What) (subject value : ℕ) (o : Effect) → IsWellMade s k n o → IsWellMade s k n (with_told telling k tells subject value o)
   fair_told telling tells subject value o fair = fair_choice (is_aloud telling) _ _ (fair_row _ _ _ _ o fair) fair
 
   same_choice : (b : Bool) (t v : State) (number : ℕ) → t.next_number ≡ number → v.next_number ≡ number → (cond b t v).next_number ≡ number
@@ -369,37 +369,37 @@ module _ (s : Setup) (sound : IsSound s) (k : Key) (n : ℕ) where
   same_death Papers subject now t = refl
   same_death Memberlist subject now t = refl
 
-  fair_claim : (telling : Telling) (u : Update) (claim : Claim) (o : Effect) → IsWellMade s k n o → IsWellMade s k n (claim_heard s telling k u claim o)
+  fair_claim : (telling : Announce) (u : Update) (claim : Claim) (o : Effect) → IsWellMade s k n o → IsWellMade s k n (claim_heard s telling k u claim o)
   unfolding alive_heard suspect_heard confirm_heard
   fair_claim telling u Alive o fair = fair_told telling _ _ _ _ (fair_state _ o refl fair)
   fair_claim telling u Suspect o fair =
       fair_own _ _ _ (omega (arith, min-le-timeout (terms_of s) (live_count o.state.table) 0 (terms_sound s sound))) (fair_told telling _ _ _ _ (fair_state _ o refl fair))
   fair_claim telling u Confirm o fair = fair_told telling _ _ _ _ (fair_state _ o (same_death (profile_of s) u.subject k.at (without_suspicion u.subject o.state)) fair)
 
-  fair_news : (telling : Telling) (u : Update) (o : Effect) → IsWellMade s k n o → IsWellMade s k n (news_heard s telling k u o)
+  fair_news : (telling : Announce) (u : Update) (o : Effect) → IsWellMade s k n o → IsWellMade s k n (news_heard s telling k u o)
   unfolding news_heard
   fair_news telling u o fair = fair_passed_on telling u _ (fair_claim telling u u.claim _ (fair_kept u o fair))
 
-  fair_counted : (telling : Telling) (u : Update) (found : Option HeldSuspicion) (o : Effect) → IsWellMade s k n o → IsWellMade s k n (accusation_counted s telling k u (option_map (answer_to k.at) found) o)
+  fair_counted : (telling : Announce) (u : Update) (found : Option HeldSuspicion) (o : Effect) → IsWellMade s k n o → IsWellMade s k n (accusation_counted s telling k u (option_map (answer_to k.at) found) o)
   fair_counted telling u None o fair = fair
   fair_counted telling u (Some suspicion) o fair = fair_passed_on telling u _ (fair_own _ _ _ (omega arith) (fair_told telling _ _ _ o fair))
 
-  fair_accusation : (telling : Telling) (u : Update) (o : Effect) → IsWellMade s k n o → IsWellMade s k n (accusation_heard s telling k u o)
+  fair_accusation : (telling : Announce) (u : Update) (o : Effect) → IsWellMade s k n o → IsWellMade s k n (accusation_heard s telling k u o)
   unfolding accusation_heard
   fair_accusation telling u o fair =
       fair_counted telling u (accused_of o.state.suspicions u.subject u.accuser o.state.next_number) _ (fair_state _ o refl fair)
 
-  fair_other : (telling : Telling) (u : Update) (held : Option (Claim × ℕ)) (o : Effect) → IsWellMade s k n o → IsWellMade s k n (other_applied s telling k u held o)
+  fair_other : (telling : Announce) (u : Update) (held : Option (Claim × ℕ)) (o : Effect) → IsWellMade s k n o → IsWellMade s k n (other_applied s telling k u held o)
   fair_other telling u None o fair = fair_choice (is_heeded (profile_of s) telling u.claim) _ _ (fair_news telling u o fair) fair
   fair_other telling u (Some held) o fair =
       fair_choice (does_override (profile_of s) (u.claim, u.inc) held) _ _ (fair_news telling u o fair) (fair_choice (is_repeated (profile_of s) u held) _ _ (fair_accusation telling u o fair) fair)
 
-  fair_applied : (telling : Telling) (u : Update) (o : Effect) → IsWellMade s k n o → IsWellMade s k n (applied s telling k u o)
+  fair_applied : (telling : Announce) (u : Update) (o : Effect) → IsWellMade s k n o → IsWellMade s k n (applied s telling k u o)
   unfolding applied
   fair_applied telling u o fair =
       fair_choice (nat_eq u.subject k.to) _ _ (fair_own_applied u.claim u.inc o fair) (fair_other telling u (get o.state.table u.subject) o fair)
 
-  fair_all : (telling : Telling) (us : List Update) (o : Effect) → IsWellMade s k n o → IsWellMade s k n (all_applied s telling k us o)
+  fair_all : (telling : Announce) (us : List Update) (o : Effect) → IsWellMade s k n o → IsWellMade s k n (all_applied s telling k us o)
   unfolding all_applied
   fair_all telling [] o fair = fair
   fair_all telling (u ∷ us) o fair = fair_all telling us _ (fair_applied telling u o fair)
@@ -642,7 +642,7 @@ module _ (s : Setup) (sound : IsSound s) (k : Key) (n : ℕ) where
 
   -- ---- the step
 
-  fair_plain : (content : Content) (phase : Phase) (o : Effect) → IsWellMade s k n o → IsWellMade s k n (plain_handled s k content phase o)
+  fair_plain : (content : EventKind) (phase : Phase) (o : Effect) → IsWellMade s k n o → IsWellMade s k n (plain_handled s k content phase o)
   unfolding plain_handled
   fair_plain Start Waiting o fair = fair_started o fair
   fair_plain Crash Joining o fair = fair_crashed o fair
@@ -660,14 +660,14 @@ module _ (s : Setup) (sound : IsSound s) (k : Key) (n : ℕ) where
   fair_plain (SuspicionTimer subject) Running o fair = fair_over subject o fair
   fair_plain _ _ o fair = fair
 
-  fair_handled : (content : Content) (phase : Phase) (o : Effect) → IsWellMade s k n o → IsWellMade s k n (handled s k content phase o)
+  fair_handled : (content : EventKind) (phase : Phase) (o : Effect) → IsWellMade s k n o → IsWellMade s k n (handled s k content phase o)
   unfolding handled
   fair_handled Leave Joining o fair = fair_withdrawn o fair
   fair_handled Leave Running o fair = fair_departed o fair
   fair_handled Bye Running o fair = fair_confirmed k.from (get o.state.table k.from) o fair
   fair_handled content phase o fair = fair_plain content phase o fair
 
-  fair_timed_handled : (content : Content) (o : Effect) → IsWellMade s k n o → IsWellMade s k n (timed_handled s k content o)
+  fair_timed_handled : (content : EventKind) (o : Effect) → IsWellMade s k n o → IsWellMade s k n (timed_handled s k content o)
   unfolding timed_handled
   fair_timed_handled PeriodTimer o fair = fair_beaten o fair
   fair_timed_handled (TimeoutTimer seq) o fair = fair_timed_out_timed seq o.state.probe o fair
@@ -682,11 +682,11 @@ module _ (s : Setup) (sound : IsSound s) (k : Key) (n : ℕ) where
   fair_timed_handled (Pull us) o fair = fair_merged us o fair
   fair_timed_handled content o fair = fair_handled content Running o fair
 
-  fair_by : (phase : Phase) (profile : Profile) (content : Content) (o : Effect) → IsWellMade s k n o → IsWellMade s k n (handled_by phase profile s k content o)
+  fair_by : (phase : Phase) (profile : Profile) (content : EventKind) (o : Effect) → IsWellMade s k n o → IsWellMade s k n (handled_by phase profile s k content o)
   fair_by Running Memberlist content o fair = fair_timed_handled content o fair
   fair_by phase profile content o fair = fair_handled content phase o fair
 
-pub fair_step : (s : Setup) → IsSound s → (k : Key) (c : Content) (t : State) → IsWellMade s k t.next_number (step s k c t)
+pub fair_step : (s : Setup) → IsSound s → (k : Key) (c : EventKind) (t : State) → IsWellMade s k t.next_number (step s k c t)
 unfolding step
 fair_step s sound k c t = fair_by s sound k t.next_number t.phase (profile_of s) c (unchanged t) (fair_begin s sound k t.next_number t refl)
 
@@ -703,6 +703,6 @@ steps_numbered s sound = record {
 pub steps_counted : (s : Setup) → IsSound s → CountsRows place_of (step s)
 steps_counted s sound k c t = (fair_step s sound k c t).counts
 
-pub steps_linked : (s : Setup) → IsSound s → (k : Key) (c : Content) (t : State)
+pub steps_linked : (s : Setup) → IsSound s → (k : Key) (c : EventKind) (t : State)
     → AllByRecursion (λ e. e.0.to ≢ k.to → k.at + (link_between s k.to e.0.to).delay ≤ e.0.at) (step s k c t).events
 steps_linked s sound k c t = (fair_step s sound k c t).linked

@@ -1,5 +1,5 @@
 pub mod Members
-pub mod Worn
+pub mod CounterOverflow
 pub mod Holds
 pub mod Lists
 pub mod Helpers

@@ -16,9 +16,9 @@ use Rattle.suspicion.specs.Settings.{terms_of}
 use Rattle.suspicion.specs.Suspicions.{HeldSuspicion, started_of, accused_of, after_accusation, answer_of}
 use Rattle.suspicion.specs.declared.suspicions.Accused.{Accused}
 use Rattle.suspicion.specs.Times.{timeout}
-use Rattle.member.specs.declared.content.Content.TheVariants.{SuspicionTimer, GossipTimer}
-use Rattle.member.specs.declared.telling.Telling.{Telling}
-use Rattle.member.specs.Telling.{is_aloud}
+use Rattle.member.specs.declared.event_kind.EventKind.TheVariants.{SuspicionTimer, GossipTimer}
+use Rattle.member.specs.declared.announce.Announce.{Announce}
+use Rattle.member.specs.Announce.{is_aloud}
 use Rattle.member.specs.State.{State, is_probed}
 use Rattle.base.specs.declared.profile.Profile.{Profile}
 use Rattle.base.specs.declared.profile.Profile.TheVariants.{Papers, Memberlist}
@@ -48,11 +48,11 @@ with_health k h o =
     if nat_eq h.counter o.state.health.counter then after else with_row k what.Health None h.counter false after
 
 -- a row about another member, unless the application is quiet
-abbrev pub with_told : Telling → Key → What → ℕ → ℕ → Effect → Effect
+abbrev pub with_told : Announce → Key → What → ℕ → ℕ → Effect → Effect
 with_told telling k tells subject value o = if is_aloud telling then with_row k tells (Some subject) value false o else o
 
 -- the update is passed on, unless the application is quiet
-unfoldable pub passed_on : Setup → Key → Telling → Update → Effect → Effect
+unfoldable pub passed_on : Setup → Key → Announce → Update → Effect → Effect
 passed_on s k telling u o = if is_aloud telling then with_put s k u o else o
 
 -- ---- an update about oneself
@@ -117,7 +117,7 @@ abbrev pub without_suspicion : ℕ → State → State
 without_suspicion subject t = record t { suspicions = remove t.suspicions subject }
 
 -- Alive ends a suspicion.
-unfoldable pub alive_heard : Telling → Key → Update → Effect → Effect
+unfoldable pub alive_heard : Announce → Key → Update → Effect → Effect
 alive_heard telling k u o = with_told telling k what.Alive u.subject u.inc (on_state (without_suspicion u.subject) o)
 
 -- a suspicion that starts now, with this accuser alone, among those whom the table does not hold as confirmed
@@ -125,7 +125,7 @@ abbrev pub suspicion_begun : Setup → Key → Update → State → HeldSuspicio
 suspicion_begun s k u t = started_of (terms_of s) u.accuser (live_count t.table) k.at t.next_number
 
 -- Suspect starts a suspicion anew, and sets its timer. The timer's number tells it from older ones.
-unfoldable pub suspect_heard : Setup → Telling → Key → Update → Effect → Effect
+unfoldable pub suspect_heard : Setup → Announce → Key → Update → Effect → Effect
 suspect_heard s telling k u o =
     let due = k.at + timeout (terms_of s) (live_count o.state.table) 0 in
     with_event s k due k.to (SuspicionTimer u.subject) (with_told telling k what.Suspect u.subject u.inc
@@ -137,30 +137,30 @@ death_kept Papers subject now t = t
 death_kept Memberlist subject now t = record t { since = confirmed_at subject now t.since }
 
 -- Confirm ends a suspicion too.
-unfoldable pub confirm_heard : Profile → Telling → Key → Update → Effect → Effect
+unfoldable pub confirm_heard : Profile → Announce → Key → Update → Effect → Effect
 confirm_heard profile telling k u o =
     with_told telling k what.Confirm u.subject u.inc
     (on_state (λ t. death_kept profile u.subject k.at (without_suspicion u.subject t)) o)
 
-abbrev pub claim_heard : Setup → Telling → Key → Update → Claim → Effect → Effect
+abbrev pub claim_heard : Setup → Announce → Key → Update → Claim → Effect → Effect
 claim_heard s telling k u Alive o = alive_heard telling k u o
 claim_heard s telling k u Suspect o = suspect_heard s telling k u o
 claim_heard s telling k u Confirm o = confirm_heard (profile_of s) telling k u o
 
 -- A claim that is news: it is kept, acted upon and passed on.
-unfoldable pub news_heard : Setup → Telling → Key → Update → Effect → Effect
+unfoldable pub news_heard : Setup → Announce → Key → Update → Effect → Effect
 news_heard s telling k u o =
     passed_on s k telling u (claim_heard s telling k u u.claim (on_state (claim_kept u) o))
 
 -- the accusation, where it counts, is passed on, and the suspicion's timer is set again
-abbrev pub accusation_counted : Setup → Telling → Key → Update → Option Accused → Effect → Effect
+abbrev pub accusation_counted : Setup → Announce → Key → Update → Option Accused → Effect → Effect
 accusation_counted s telling k u None o = o
 accusation_counted s telling k u (Some accused) o =
     passed_on s k telling u (with_event s k accused.due k.to (SuspicionTimer u.subject) (with_told telling k what.Accuse u.subject accused.count o))
 
 -- A further accuser of a suspect, where it counts, shortens the suspicion (LHA-Suspicion). The new timer takes
 -- the place of the old one. Where it does not count, nothing changes.
-unfoldable pub accusation_heard : Setup → Telling → Key → Update → Effect → Effect
+unfoldable pub accusation_heard : Setup → Announce → Key → Update → Effect → Effect
 accusation_heard s telling k u o =
     let accused = accused_of o.state.suspicions u.subject u.accuser o.state.next_number in
     accusation_counted s telling k u (option_map (answer_of k.at) accused)
@@ -176,13 +176,13 @@ abbrev pub is_repeated : Profile → Update → Claim × ℕ → Bool
 is_repeated profile u held = is_suspect u.claim && is_suspect held.0 && is_of_number profile u.inc held.1
 
 -- whether a claim about somebody who isn't known is heeded: by memberlist's rules Alive alone, but for what a welcome brings
-abbrev pub is_heeded : Profile → Telling → Claim → Bool
+abbrev pub is_heeded : Profile → Announce → Claim → Bool
 is_heeded Papers telling claim = true
 is_heeded Memberlist telling claim = not (is_aloud telling) || is_alive claim
 
 -- A claim about another is news where nothing is known of it or where it overrides what is held. Suspect as it is
 -- held may be a further accusation. All else says nothing new.
-abbrev pub other_applied : Setup → Telling → Key → Update → Option (Claim × ℕ) → Effect → Effect
+abbrev pub other_applied : Setup → Announce → Key → Update → Option (Claim × ℕ) → Effect → Effect
 other_applied s telling k u None o = if is_heeded (profile_of s) telling u.claim then news_heard s telling k u o else o
 other_applied s telling k u (Some held) o =
     if does_override (profile_of s) (u.claim, u.inc) held then news_heard s telling k u o
@@ -190,12 +190,12 @@ other_applied s telling k u (Some held) o =
     else o
 
 -- An update is applied.
-unfoldable pub applied : Setup → Telling → Key → Update → Effect → Effect
+unfoldable pub applied : Setup → Announce → Key → Update → Effect → Effect
 applied s telling k u o =
     if nat_eq u.subject k.to then own_applied s k u.claim u.inc o
     else other_applied s telling k u (get o.state.table u.subject) o
 
 -- Updates are applied in their order.
-unfoldable pub all_applied : Setup → Telling → Key → List Update → Effect → Effect
+unfoldable pub all_applied : Setup → Announce → Key → List Update → Effect → Effect
 all_applied s telling k [] o = o
 all_applied s telling k (u ∷ us) o = all_applied s telling k us (applied s telling k u o)

@@ -5,12 +5,12 @@ use Rattle.base.specs.World.{Outcome}
 use Rattle.scenario.specs.Setup.{Setup, awake}
 use Rattle.trace.specs.declared.row.Row.{Row}
 use Rattle.trace.specs.declared.row.What.{What}
-use Rattle.member.specs.declared.content.Content.{Content}
+use Rattle.member.specs.declared.event_kind.EventKind.{EventKind}
 use Rattle.member.specs.State.{State}
 
 -- the state, and the events and the rows that the handling of an event has made so far
 abbrev pub Effect : Type 0
-Effect = Outcome State Content Row
+Effect = Outcome State EventKind Row
 
 -- at first nothing
 abbrev pub unchanged : State → Effect
@@ -33,7 +33,7 @@ unfoldable pub with_number : State → State
 with_number t = record t { next_number = t.next_number + 1 }
 
 -- An event of the member's making takes the next number. What is due while its receiver is paused waits for the end of the pause.
-unfoldable pub with_event : Setup → Key → ℕ → ℕ → Content → Effect → Effect
+unfoldable pub with_event : Setup → Key → ℕ → ℕ → EventKind → Effect → Effect
 with_event s k at to content o = record {
   state = record o.state { next_number = o.state.next_number + 1 };
   events = o.events ++ ((record { at = awake s to at; to = to; from = k.to; number = o.state.next_number }), content) ∷ [];
@@ -41,5 +41,5 @@ with_event s k at to content o = record {
 }
 
 -- a timer of one's own, so many ticks from now
-unfoldable pub with_timer : Setup → Key → ℕ → Content → Effect → Effect
+unfoldable pub with_timer : Setup → Key → ℕ → EventKind → Effect → Effect
 with_timer s k ticks content o = with_event s k (k.at + ticks) k.to content o

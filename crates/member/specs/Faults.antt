@@ -6,4 +6,4 @@ use Rattle.member.specs.declared.step_error.StepError.TheVariants as step_error
 
 abbrev pub fault_of : StepError → Fault
 fault_of step_error.Memory = fault.Memory
-fault_of step_error.Worn = fault.Worn
+fault_of step_error.CounterOverflow = fault.CounterOverflow

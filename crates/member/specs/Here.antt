@@ -8,8 +8,8 @@ use Rattle.scenario.specs.Setup.{Setup, IsSound, member_count, contact_of, start
 use Rattle.links.specs.declared.table.Links.{Links}
 use Rattle.links.specs.Arrival.{AreLinksOf}
 use Rattle.probing.specs.ProbeOrder.{ProbeOrder, times_in, IsSoundOrder as IsSoundRota}
-use Rattle.member.specs.declared.content.Content.{Content}
-use Rattle.member.specs.declared.content.Content.TheVariants.{NackTimer, Welcome, Ping, PingReq, Ack, Gossip, Push, Pull}
+use Rattle.member.specs.declared.event_kind.EventKind.{EventKind}
+use Rattle.member.specs.declared.event_kind.EventKind.TheVariants.{NackTimer, Welcome, Ping, PingReq, Ack, Gossip, Push, Pull}
 use Rattle.membership.specs.Table.{Known}
 use Rattle.lifeguard.specs.declared.probe.Probe.{Probe}
 use Rattle.member.specs.State.{State, is_probed}
@@ -47,7 +47,7 @@ abbrev pub HoldsMembers : Setup → ℕ → State → Type 0
 HoldsMembers s m t = HoldsOthers s m t.table t.rota t.probe
 
 -- the members that a content names are among the first n
-abbrev pub MentionsMembers : ℕ → Content → Type 0
+abbrev pub MentionsMembers : ℕ → EventKind → Type 0
 MentionsMembers n (Welcome entries) = All (λ u. u.subject < n) entries
 MentionsMembers n (Ping initiator seq updates) = (initiator < n) × All (λ u. u.subject < n) updates
 MentionsMembers n (PingReq target seq updates) = (target < n) × All (λ u. u.subject < n) updates

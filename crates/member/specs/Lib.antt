@@ -1,13 +1,13 @@
 pub mod State
 pub mod Effects
 pub mod Send
-pub mod Telling
+pub mod Announce
 pub mod Apply
 pub mod Step
 pub mod Opening
 pub mod StateOf
 pub mod Faults
-pub mod Worn
+pub mod CounterOverflow
 pub mod Here
 pub mod Makes
 pub mod Steps

@@ -7,11 +7,11 @@ use Rattle.member.specs.declared.event.Effects.{Effects}
 use Rattle.member.specs.declared.here.Here.{Here}
 use Rattle.member.specs.declared.member.Member.{Member}
 use Rattle.member.specs.declared.step_error.StepError.{StepError}
-use Rattle.member.specs.declared.step_error.StepError.TheVariants.{Memory, Worn}
+use Rattle.member.specs.declared.step_error.StepError.TheVariants.{Memory, CounterOverflow}
 use Rattle.member.specs.Here.{HoldsMembers}
 use Rattle.member.specs.Effects.{Effect}
 use Rattle.member.specs.StateOf.{state_of, effect_of}
-use Rattle.member.specs.Worn.{IsWorn}
+use Rattle.member.specs.CounterOverflow.{IsOverflowed}
 
 -- a member of the scenario
 abbrev pub IsMember : Here → ℕ → Type 0
@@ -39,5 +39,5 @@ pub record IsMade {T A : Type 0} (result : Result T StepError) (made wanted : A)
 -- worn: then the change would bring a counter past its limit.
 pub record Makes (here : Here) (result : Result (Unit {0}) StepError) (old : Member) (before : Effects) (new : Member) (after : Effects) (change : Effect → Effect) : Type 0 where
   pub ok : OnOk result (effect_of new after ≡ change (effect_of old before))
-  pub worn : IsErrOf result Worn → IsWorn (change (effect_of old before)).state
+  pub overflow : IsErrOf result CounterOverflow → IsOverflowed (change (effect_of old before)).state
   pub kept : OnOk result (KnowsMembers here new)

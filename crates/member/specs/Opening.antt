@@ -12,8 +12,8 @@ use Rattle.membership.specs.Deaths.{never}
 use Rattle.probing.specs.ProbeOrder.{round_over}
 use Rattle.streams.specs.Draw.{member_words}
 use Rattle.member.specs.declared.member.Phase.TheVariants.{Waiting}
-use Rattle.member.specs.declared.content.Content.{Content}
-use Rattle.member.specs.declared.content.Content.TheVariants.{Start, Crash, Leave}
+use Rattle.member.specs.declared.event_kind.EventKind.{EventKind}
+use Rattle.member.specs.declared.event_kind.EventKind.TheVariants.{Start, Crash, Leave}
 use Rattle.member.specs.State.{State}
 
 -- LHA-Probe off: the health stays full
@@ -52,12 +52,12 @@ abbrev pub script_key : ℕ → ℕ → ℕ → Key
 script_key m at number = record { at = at; to = m; from = m; number = number }
 
 -- the event with which a member's part ends, if the script has one
-abbrev pub ending_event : Content → ℕ → Option ℕ → List (Key × Content)
+abbrev pub ending_event : EventKind → ℕ → Option ℕ → List (Key × EventKind)
 ending_event content m None = []
 ending_event content m (Some at) = (script_key m at 1, content) ∷ []
 
 -- what the script has for a member, which crashes or leaves but once
-abbrev pub script_of : Setup → ℕ → List (Key × Content)
+abbrev pub script_of : Setup → ℕ → List (Key × EventKind)
 script_of s m = (script_key m (start_of s m) 0, Start) ∷ (ending_event Crash m (crash_of s m) ++ ending_event Leave m (leave_of s m))
 
 -- members are numbered from 0
@@ -65,7 +65,7 @@ abbrev pub numbers : Setup → List ℕ
 numbers s = range_with_len 0 (member_count s)
 
 -- All members wait, and all events of the script pend, also those past the end.
-abbrev pub opening : Setup → World State Content
+abbrev pub opening : Setup → World State EventKind
 opening s = record {
   members = from_entries (map (λ m. (m, opening_state s m)) (numbers s));
   pending = with_events empty (flat_map (script_of s) (numbers s));

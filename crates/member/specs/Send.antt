@@ -15,27 +15,27 @@ use Rattle.suspicion.specs.Suspicions.{first_accuser_of}
 use Rattle.links.specs.Arrival.{arrival_of}
 use Rattle.links.specs.Trips.{call_of, answer_of, kept_arrival_of}
 use Rattle.streams.specs.Draw.{Words}
-use Rattle.member.specs.declared.content.Content.{Content}
-use Rattle.member.specs.declared.content.Content.TheVariants.{Join, Welcome, Ping, PingReq, Ack, Nack, Bye, Gossip, Call, Answer, Push, Pull}
+use Rattle.member.specs.declared.event_kind.EventKind.{EventKind}
+use Rattle.member.specs.declared.event_kind.EventKind.TheVariants.{Join, Welcome, Ping, PingReq, Ack, Nack, Bye, Gossip, Call, Answer, Push, Pull}
 use Rattle.member.specs.State.{State}
 use Rattle.membership.specs.Table.{Known, is_suspect, live_count, updates_by}
 use Rattle.member.specs.Effects.{Effect, on_state, with_row, with_number, with_event}
 
 -- a message arrives, or is lost: it takes a number all the same
-abbrev pub sent_off : Setup → Key → ℕ → Content → Option ℕ → Effect → Effect
+abbrev pub sent_off : Setup → Key → ℕ → EventKind → Option ℕ → Effect → Effect
 sent_off s k to content None o = on_state with_number o
 sent_off s k to content (Some at) o = with_event s k at to content o
 
 -- a message whose arrival is decided: a row tells of it
-abbrev pub told_of : Setup → Key → What → ℕ → ℕ → Content → Option ℕ → Effect → Effect
+abbrev pub told_of : Setup → Key → What → ℕ → ℕ → EventKind → Option ℕ → Effect → Effect
 told_of s k tells to value content arrival o = sent_off s k to content arrival (with_row k tells (Some to) value (is_none arrival) o)
 
 -- A message whose arrival is decided, and the words that this leaves.
-unfoldable pub posted : Setup → Key → What → ℕ → ℕ → Content → Option ℕ × Words → Effect → Effect
+unfoldable pub posted : Setup → Key → What → ℕ → ℕ → EventKind → Option ℕ × Words → Effect → Effect
 posted s k tells to value content arrival o = told_of s k tells to value content arrival.0 (on_state (λ t. record t { words = arrival.1 }) o)
 
 -- A message over a link: by the member's words is decided whether and when it arrives.
-abbrev pub sent : Setup → Key → What → ℕ → ℕ → Content → Effect → Effect
+abbrev pub sent : Setup → Key → What → ℕ → ℕ → EventKind → Effect → Effect
 sent s k tells to value content o = posted s k tells to value content (arrival_of s k.to to k.at o.state.words) o
 
 -- An update rides on lambda messages for each digit of n, the members that are not confirmed (SWIM, section 4.1).

@@ -3,7 +3,7 @@ use Rattle.std.specs.Prelude.{map}
 use Rattle.base.specs.declared.key.Key.{Key}
 use Rattle.membership.specs.Deaths.{since_of}
 use Rattle.streams.specs.Draw.{words_of}
-use Rattle.member.specs.declared.content.Content.{Content}
+use Rattle.member.specs.declared.event_kind.EventKind.{EventKind}
 use Rattle.member.specs.declared.event.Effects.{Effects}
 use Rattle.member.specs.declared.event.Event.{Event}
 use Rattle.member.specs.declared.member.Member.{Member}
@@ -33,7 +33,7 @@ state_of m = record {
 }
 
 -- an event as the pair of its key and its content
-abbrev pub pair_of : Event → Key × Content
+abbrev pub pair_of : Event → Key × EventKind
 pair_of e = (e.key, e.content)
 
 -- what a member and the effects of its step have made so far

@@ -27,9 +27,9 @@ use Rattle.streams.specs.Draw.{below_of}
 use Rattle.suspicion.specs.Suspicions.{is_due}
 use Rattle.member.specs.declared.member.Phase.{Phase}
 use Rattle.member.specs.declared.member.Phase.TheVariants.{Waiting, Joining, Running, Down}
-use Rattle.member.specs.declared.content.Content.{Content}
-use Rattle.member.specs.declared.content.Content.TheVariants.{Start, Crash, Leave, JoinTimer, PeriodTimer, TimeoutTimer, NackTimer, SuspicionTimer, Join, Welcome, Ping, PingReq, Ack, Nack, Bye, DeadlineTimer, GossipTimer, PushTimer, Call, Answer, Gossip, Push, Pull}
-use Rattle.member.specs.declared.telling.Telling.TheVariants.{Aloud, Quietly}
+use Rattle.member.specs.declared.event_kind.EventKind.{EventKind}
+use Rattle.member.specs.declared.event_kind.EventKind.TheVariants.{Start, Crash, Leave, JoinTimer, PeriodTimer, TimeoutTimer, NackTimer, SuspicionTimer, Join, Welcome, Ping, PingReq, Ack, Nack, Bye, DeadlineTimer, GossipTimer, PushTimer, Call, Answer, Gossip, Push, Pull}
+use Rattle.member.specs.declared.announce.Announce.TheVariants.{Aloud, Quietly}
 use Rattle.membership.specs.declared.candidates.Candidate.{Candidate}
 use Rattle.membership.specs.declared.candidates.Fitting.{Fitting}
 use Rattle.membership.specs.declared.candidates.Fitting.TheVariants.{AliveBut, Reachable}
@@ -464,7 +464,7 @@ push_heard s k entries o = merged s k entries (pull_sent s k k.from o)
 -- ---- the step
 
 -- the messages of a probe, at a member that runs
-abbrev pub probing_handled : Setup → Key → Content → Effect → Effect
+abbrev pub probing_handled : Setup → Key → EventKind → Effect → Effect
 probing_handled s k (Ping initiator seq updates) o = ping_heard s k initiator seq updates o
 probing_handled s k (PingReq target seq updates) o = ping_req_heard s k seq target updates o
 probing_handled s k (Ack initiator seq updates) o = ack_heard s k initiator seq updates o
@@ -472,7 +472,7 @@ probing_handled s k _ o = o
 
 -- Where nobody leaves, as in the format's first version: by cases on the event and the phase of its receiver. An event
 -- in another phase has no effect.
-unfoldable pub plain_handled : Setup → Key → Content → Phase → Effect → Effect
+unfoldable pub plain_handled : Setup → Key → EventKind → Phase → Effect → Effect
 plain_handled s k Start Waiting o = started s k o
 plain_handled s k Crash Joining o = crashed k o
 plain_handled s k Crash Running o = crashed k o
@@ -489,18 +489,18 @@ plain_handled s k (Nack seq) Running o = nack_heard seq o
 plain_handled s k (SuspicionTimer subject) Running o = suspicion_over s k subject o
 plain_handled s k _ _ o = o
 
-unfoldable pub plain_step : Setup → Machine State Content Row
+unfoldable pub plain_step : Setup → Machine State EventKind Row
 plain_step s k content t = plain_handled s k content t.phase (unchanged t)
 
 -- What the format's second version adds: leaves and byes.
-unfoldable pub handled : Setup → Key → Content → Phase → Effect → Effect
+unfoldable pub handled : Setup → Key → EventKind → Phase → Effect → Effect
 handled s k Leave Joining o = withdrawn k o
 handled s k Leave Running o = departed s k o
 handled s k Bye Running o = bye_heard s k o
 handled s k content phase o = plain_handled s k content phase o
 
 -- What memberlist's rules add for a member that runs, and what they change of its own probe.
-unfoldable pub timed_handled : Setup → Key → Content → Effect → Effect
+unfoldable pub timed_handled : Setup → Key → EventKind → Effect → Effect
 timed_handled s k PeriodTimer o = period_beaten s k o
 timed_handled s k (TimeoutTimer seq) o = timed_out_timed s k seq o.state.probe o
 timed_handled s k (DeadlineTimer seq) o = deadline_over s k seq o
@@ -515,9 +515,9 @@ timed_handled s k (Pull entries) o = merged s k entries o
 timed_handled s k content o = handled s k content Running o
 
 -- by whose rules the members go
-abbrev pub handled_by : Phase → Profile → Setup → Key → Content → Effect → Effect
+abbrev pub handled_by : Phase → Profile → Setup → Key → EventKind → Effect → Effect
 handled_by Running Memberlist s k content o = timed_handled s k content o
 handled_by phase profile s k content o = handled s k content phase o
 
-unfoldable pub step : Setup → Machine State Content Row
+unfoldable pub step : Setup → Machine State EventKind Row
 step s k content t = handled_by t.phase (profile_of s) s k content (unchanged t)

@@ -1,13 +1,15 @@
+//! How a member takes acks and nacks: it marks its own probe as answered, or passes a helper's ack on
+//! to the initiator (SWIM, section 3.1; LHA-Probe).
 ghost use Rattle.std.specs.Prelude.{◌≡◌, ◌<◌};
 ghost use Rattle.member.specs.Makes.{AreAboutMembers, IsMember, KnowsMembers, Makes};
 ghost use Rattle.member.specs.Step.{answered, ack_taken, ack_heard, nacked, nack_heard};
 ghost use Rattle.member.specs.StateOf.{effect_of, state_of};
 
+use crate::announce::Announce;
 use crate::event::Effects;
 use crate::here::Here;
 use crate::member::Member;
 use crate::step_error::StepError;
-use crate::telling::Telling;
 use base::MemberId;
 use incarnation::Update;
 
@@ -68,7 +70,7 @@ impl Member {
         requires updates { AreAboutMembers here.now updates.now }
         ensures { Makes here.now result self.old effects.old self.new effects.new (ack_heard here.now.scenario.now here.now.key initiator seq updates.now) }
     {
-        self.apply_all(effects, here, Telling::Aloud, updates)?;
+        self.apply_all(effects, here, Announce::Aloud, updates)?;
         self.take_ack(effects, here, initiator, seq)
     }
 

@@ -1,14 +1,16 @@
+//! How a member applies an update: it overrides its table, counts a confirmation, or refutes a claim about itself
+//! by a higher incarnation number (SWIM, section 4.2).
 ghost use Rattle.std.specs.Prelude.{◌≡◌, ◌≢◌, ◌+◌, ◌<◌, None, OnOk};
 ghost use Rattle.member.specs.Makes.{AreAboutMembers, IsMade, IsMember, KnowsMembers, Makes};
 ghost use Rattle.member.specs.Apply.{with_health, refuted, heard_dead, own_applied, is_own_death, other_applied, applied, all_applied, is_repeated, is_of_number, is_heeded};
 ghost use Rattle.member.specs.StateOf.{effect_of};
 
+use crate::announce::{Announce, is_aloud};
 use crate::event::Effects;
 use crate::here::Here;
 use crate::member::Member;
 use crate::news::is_alive;
 use crate::step_error::StepError;
-use crate::telling::{Telling, is_aloud};
 use base::Profile;
 use base::limits::COUNTER_LIMIT;
 use incarnation::{Claim, Update, refutes};
@@ -39,7 +41,7 @@ impl Member {
         }
     }
 
-    /// Refutes a claim about oneself by the incarnation number after the claim's (SWIM, section 4.2). Worn
+    /// Refutes a claim about oneself by the incarnation number after the claim's (SWIM, section 4.2). CounterOverflow
     /// where that number stands at its limit.
     #[tactic(auto, unfolding(crate::specs::Apply::refuted))]
     fn refute(&mut self, effects: &mut Effects, here: &Here, claimed: u64) -> Result<(), StepError>
@@ -47,7 +49,7 @@ impl Member {
         ensures { Makes here.now result self.old effects.old self.new effects.new (refuted here.now.scenario.now here.now.key (claimed + 1)) }
     {
         if claimed >= COUNTER_LIMIT {
-            return Err(StepError::Worn);
+            return Err(StepError::CounterOverflow);
         }
         let number = claimed + 1;
         self.incarnation = number;
@@ -112,7 +114,7 @@ impl Member {
         &mut self,
         effects: &mut Effects,
         here: &Here,
-        telling: Telling,
+        telling: Announce,
         update: &Update,
     ) -> Result<(), StepError>
         requires known { KnowsMembers here.now self.old }
@@ -132,7 +134,7 @@ impl Member {
         &mut self,
         effects: &mut Effects,
         here: &Here,
-        telling: Telling,
+        telling: Announce,
         update: &Update,
         held: Option<(Claim, u64)>,
     ) -> Result<(), StepError>
@@ -160,7 +162,7 @@ impl Member {
         &mut self,
         effects: &mut Effects,
         here: &Here,
-        telling: Telling,
+        telling: Announce,
         update: &Update,
     ) -> Result<(), StepError>
         requires known { KnowsMembers here.now self.old }
@@ -179,7 +181,7 @@ impl Member {
         &mut self,
         effects: &mut Effects,
         here: &Here,
-        telling: Telling,
+        telling: Announce,
         updates: &[Update],
     ) -> Result<(), StepError>
         requires known { KnowsMembers here.now self.old }
@@ -213,7 +215,7 @@ fn is_of_number(profile: Profile, number: u64, held: u64) -> bool
 
 // Whether a claim about a member that isn't known is heeded: by memberlist's rules Alive alone, but for
 // what a welcome brings.
-fn is_heeded(profile: Profile, telling: Telling, claim: Claim) -> bool
+fn is_heeded(profile: Profile, telling: Announce, claim: Claim) -> bool
     ensures { result ≡ is_heeded profile telling claim }
 {
     match profile {

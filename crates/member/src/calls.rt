@@ -1,3 +1,5 @@
+//! Calls over streams (memberlist's rules): when a ping gets no ack in time, a member asks helpers
+//! and calls the target.
 ghost use Rattle.std.specs.Prelude.{◌≡◌, ◌<◌};
 ghost use Rattle.links.specs.Trips.{call_of, answer_of};
 ghost use Rattle.member.specs.Makes.{Draws, IsMember, KnowsMembers, Makes};
@@ -5,8 +7,8 @@ ghost use Rattle.member.specs.Send.{call_sent, answer_sent};
 ghost use Rattle.member.specs.Step.{called, sampled_help, helped, timed_out_timed, reached, answer_heard};
 ghost use Rattle.member.specs.StateOf.{effect_of, state_of};
 
-use crate::content::Content;
 use crate::event::Effects;
+use crate::event_kind::EventKind;
 use crate::here::Here;
 use crate::member::Member;
 use crate::step_error::StepError;
@@ -59,7 +61,7 @@ impl Member {
             What::Call,
             to,
             seq,
-            Content::Call { seq },
+            EventKind::Call { seq },
             arrival,
         )
     }
@@ -78,7 +80,7 @@ impl Member {
         ensures { Makes here.now result self.old effects.old self.new effects.new (answer_sent here.now.scenario.now here.now.key to seq) }
     {
         let arrival = self.answer_arrival(here, to);
-        let answer = Content::Answer { seq };
+        let answer = EventKind::Answer { seq };
         self.post(effects, here, What::Answer, to, seq, answer, arrival)
     }
 

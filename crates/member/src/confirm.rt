@@ -1,13 +1,14 @@
+//! How a suspicion ends in a death: its time is over, and the member confirms the suspected one (SWIM, section 4.2).
 ghost use Rattle.std.specs.FinMap.{get};
 ghost use Rattle.member.specs.Makes.{KnowsMembers, Makes};
 ghost use Rattle.member.specs.Step.{confirmed, suspicion_over};
 ghost use Rattle.member.specs.StateOf.{state_of};
 
+use crate::announce::Announce;
 use crate::event::Effects;
 use crate::here::Here;
 use crate::member::Member;
 use crate::step_error::StepError;
-use crate::telling::Telling;
 use base::MemberId;
 use incarnation::{Claim, Update};
 
@@ -31,7 +32,7 @@ impl Member {
             inc: held.1,
             accuser: here.key.to,
         };
-        self.apply(effects, here, Telling::Aloud, &claim)
+        self.apply(effects, here, Announce::Aloud, &claim)
     }
 
     /// The time of a suspicion is over, unless the timer is an older one (SWIM, section 4.2).

@@ -1,11 +1,13 @@
+//! How a step writes rows, makes events and sets timers; an event takes the next of its member's numbers,
+//! or ends the step by a counter overflow.
 ghost use Rattle.std.specs.Prelude.{◌≡◌, ◌≤◌, ◌^◌, OnOk, IsErrOf};
 ghost use Rattle.member.specs.Makes.{IsMade, IsMember, KnowsMembers, Makes};
 ghost use Rattle.member.specs.Effects.{with_row, with_event, with_number, with_timer};
 ghost use Rattle.member.specs.StateOf.{effect_of, state_of};
-ghost use Rattle.member.specs.Worn.{IsWorn};
+ghost use Rattle.member.specs.CounterOverflow.{IsOverflowed};
 
-use crate::content::Content;
 use crate::event::{Effects, Event};
+use crate::event_kind::EventKind;
 use crate::here::Here;
 use crate::member::Member;
 use crate::step_error::StepError;
@@ -46,31 +48,31 @@ impl Member {
         Ok(())
     }
 
-    /// Uses the next number for a message that is lost. Worn where the number stands at its limit.
-    #[tactic(auto, using(crate::proofs::Worn::worn_number), unfolding(crate::specs::Effects::with_number))]
+    /// Uses the next number for a message that is lost. CounterOverflow where the number stands at its limit.
+    #[tactic(auto, using(crate::proofs::CounterOverflow::overflow_number), unfolding(crate::specs::Effects::with_number))]
     pub(crate) fn use_number(&mut self, here: &Here) -> Result<(), StepError>
         requires { KnowsMembers here.now self.old }
         ensures ok { OnOk result (state_of self.new ≡ with_number (state_of self.old)) }
-        ensures worn { IsErrOf result StepError.Worn → IsWorn (with_number (state_of self.old)) }
+        ensures overflow { IsErrOf result StepError.CounterOverflow → IsOverflowed (with_number (state_of self.old)) }
         ensures kept { OnOk result (KnowsMembers here.now self.new) }
     {
         if self.next_number >= COUNTER_LIMIT {
-            return Err(StepError::Worn);
+            return Err(StepError::CounterOverflow);
         }
         self.next_number += 1;
         Ok(())
     }
 
-    /// Makes an event, for a moment or for the end of a pause of its receiver that covers it. Worn where the
+    /// Makes an event, for a moment or for the end of a pause of its receiver that covers it. CounterOverflow where the
     /// member's number stands at its limit.
-    #[tactic(auto, using(crate::proofs::Worn::worn_event), unfolding(crate::specs::Effects::with_event))]
+    #[tactic(auto, using(crate::proofs::CounterOverflow::overflow_event), unfolding(crate::specs::Effects::with_event))]
     pub(crate) fn make_event(
         &mut self,
         effects: &mut Effects,
         here: &Here,
         at: Moment,
         to: MemberId,
-        content: Content,
+        content: EventKind,
     ) -> Result<(), StepError>
         requires to { IsMember here.now to }
         requires known { KnowsMembers here.now self.old }
@@ -78,7 +80,7 @@ impl Member {
     {
         let number = self.next_number;
         if number >= COUNTER_LIMIT {
-            return Err(StepError::Worn);
+            return Err(StepError::CounterOverflow);
         }
         let key = Key {
             at: here.scenario.awake(to, at),
@@ -98,7 +100,7 @@ impl Member {
         effects: &mut Effects,
         here: &Here,
         ticks: u64,
-        content: Content,
+        content: EventKind,
     ) -> Result<(), StepError>
         requires ticks_within { ticks ≤ 2 ^ 41 }
         requires known { KnowsMembers here.now self.old }

@@ -1,6 +1,7 @@
+//! An event with the key that orders it, and the effects of steps: new events and rows of the trace.
 ghost use Rattle.std.specs.Prelude.{◌≡◌};
 
-use crate::content::Content;
+use crate::event_kind::EventKind;
 use base::{Key, Keyed};
 use trace::Row;
 
@@ -8,7 +9,7 @@ use trace::Row;
 #[derive(Clone, Debug, Drop)]
 pub struct Event {
     pub key: Key,
-    pub content: Content,
+    pub content: EventKind,
 }
 
 impl Keyed for Event {

@@ -1,3 +1,5 @@
+//! Gossip (memberlist's rules): as long as a member has updates to send, it sends them to a drawn few at each
+//! timer of its own.
 ghost use Rattle.std.specs.Prelude.{◌≡◌, ◌≤◌, ◌<◌, Some, All, length, IfOk, IfErr, OnOk};
 ghost use Rattle.scenario.specs.Setup.{IsSoundGossip};
 ghost use Rattle.probing.specs.Samples.{sample_of};
@@ -7,8 +9,8 @@ ghost use Rattle.member.specs.Apply.{gossip_set};
 ghost use Rattle.member.specs.Step.{candidates_for, is_told_out, gossip_spread, gossip_set_again, gossip_round, gossip_due};
 ghost use Rattle.member.specs.StateOf.{state_of};
 
-use crate::content::Content;
 use crate::event::Effects;
+use crate::event_kind::EventKind;
 use crate::here::Here;
 use crate::member::Member;
 use crate::step_error::StepError;
@@ -75,7 +77,7 @@ impl Member {
         let phase = self.beat.ticks().saturating_sub(1);
         let next = next_in_step(phase, gossip.interval, here.key.at);
         self.gossips = true;
-        self.make_event(effects, here, next, here.key.to, Content::GossipTimer)
+        self.make_event(effects, here, next, here.key.to, EventKind::GossipTimer)
     }
 
     /// Sends updates by themselves to a member, if any are left to send.
@@ -100,7 +102,7 @@ impl Member {
             What::Gossip,
             to,
             0,
-            Content::Gossip { updates },
+            EventKind::Gossip { updates },
         )
     }
 

@@ -1,3 +1,5 @@
+//! Indirect probes: a member draws helpers and asks them to ping the target (SWIM, section 3.1),
+//! and expects an answer of each with LHA-Probe.
 ghost use Rattle.std.specs.Prelude.{◌≡◌, ◌<◌, ◌≤◌, All, length, OnOk, IfOk, IfErr};
 ghost use Rattle.member.specs.Makes.{Draws, IsMember, KnowsMembers, Makes};
 ghost use Rattle.probing.specs.ProbeOrder.{helpers_of};

@@ -1,3 +1,4 @@
+//! What a step reads and never changes: the event's key, the scenario, its links, and where memory comes from.
 ghost use Rattle.std.proofs.Props.{props};
 ghost use Rattle.member.specs.Here.{IsSoundSetting, contact-prop};
 

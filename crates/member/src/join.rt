@@ -1,15 +1,16 @@
+//! How a member starts, joins the cluster and crashes: it knows all others at moment 0, or asks a contact.
 ghost use Rattle.std.specs.Prelude.{ℕ, ◌≡◌, ◌^◌, ◌<◌, ◌≤◌, ◌&&◌, not, nat_eq, ◌∷◌, ◌++◌, [], if◌then◌else◌, length, OnOk, IfOk, IfErr};
 ghost use Rattle.scenario.specs.Setup.{member_count, start_of};
 ghost use Rattle.member.specs.Makes.{AreAboutMembers, KnowsMembers, Makes};
 ghost use Rattle.member.specs.Step.{periods_set, first_period_set, first_others, began, join_asked, joining_begun, started, crashed, join_handled, about_others, joined};
 
-use crate::content::Content;
+use crate::announce::Announce;
 use crate::event::Effects;
+use crate::event_kind::EventKind;
 use crate::here::Here;
 use crate::member::{Member, Phase};
 use crate::opening::empty_rota;
 use crate::step_error::StepError;
-use crate::telling::Telling;
 use base::{MemberId, Moment};
 use incarnation::{Claim, Update};
 use membership::Table;
@@ -47,7 +48,7 @@ impl Member {
         ensures { Makes here.now result self.old effects.old self.new effects.new (periods_set here.now.scenario.now here.now.key ticks beat) }
     {
         self.beat = beat;
-        self.set_timer(effects, here, ticks, Content::PeriodTimer)?;
+        self.set_timer(effects, here, ticks, EventKind::PeriodTimer)?;
         self.set_first_push(effects, here, beat)
     }
 
@@ -74,7 +75,7 @@ impl Member {
         ensures { Makes here.now result self.old effects.old self.new effects.new (join_asked here.now.scenario.now here.now.key) }
     {
         self.send_join(effects, here)?;
-        self.set_timer(effects, here, here.scenario.period(), Content::JoinTimer)
+        self.set_timer(effects, here, here.scenario.period(), EventKind::JoinTimer)
     }
 
     /// A member that starts later knows nobody, and joins.
@@ -126,7 +127,7 @@ impl Member {
             inc: 0,
             accuser: here.key.to,
         };
-        self.apply(effects, here, Telling::Aloud, &claim)?;
+        self.apply(effects, here, Announce::Aloud, &claim)?;
         self.send_welcome(effects, here, here.key.from)
     }
 
@@ -152,7 +153,7 @@ impl Member {
             others,
             false,
         )?;
-        self.apply_all(effects, here, Telling::Quietly, entries)?;
+        self.apply_all(effects, here, Announce::Quietly, entries)?;
         self.set_first_period(effects, here)
     }
 }

@@ -6,7 +6,7 @@ ghost use Rattle.base.specs.declared.key.Key.{Key};
 ghost use Rattle.base.specs.Run.{MakesLater};
 ghost use Rattle.base.specs.Rising.{CountsRows, UsesNumbers};
 ghost use Rattle.scenario.specs.Setup.{Setup, IsSound, link_between};
-ghost use Rattle.member.specs.declared.content.Content.{Content as AnyContent};
+ghost use Rattle.member.specs.declared.event_kind.EventKind.{EventKind as AnyContent};
 ghost use Rattle.member.specs.State.{State};
 ghost use Rattle.member.specs.Step.{step};
 ghost use Rattle.member.specs.Places.{place_of};

@@ -2,12 +2,13 @@
 #![tactic(auto)]
 
 mod acks;
+mod announce;
 mod apply;
 mod calls;
 mod confirm;
-mod content;
 mod effects;
 mod event;
+mod event_kind;
 mod gossip;
 mod help;
 mod here;
@@ -23,13 +24,12 @@ mod pushes;
 mod send;
 mod step;
 mod step_error;
-mod telling;
 mod timed;
 mod updates;
 
-pub use content::Content;
+pub use announce::Announce;
 pub use event::{Effects, Event};
+pub use event_kind::EventKind;
 pub use member::{Member, Phase};
 pub use step_error::StepError;
-pub use telling::Telling;
 pub use updates::Updates;

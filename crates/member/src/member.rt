@@ -1,3 +1,4 @@
+//! The state that a member keeps from one event to the next: its phase, counters, probe, table, updates and suspicions.
 ghost use Rattle.std.specs.Prelude.{◌≤◌, ◌^◌};
 
 use base::Moment;

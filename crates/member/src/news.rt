@@ -1,3 +1,5 @@
+//! A member acts on a claim that is news: it keeps the claim, starts, shortens or ends a suspicion (SWIM, section 4.2;
+//! LHA-Suspicion), and passes the update on.
 ghost use Rattle.std.specs.Prelude.{◌≡◌, ◌≢◌, ◌<◌, false, OnOk};
 ghost use Rattle.std.specs.FinMap.{get};
 ghost use Rattle.probing.specs.ProbeOrder.{remove_of};
@@ -8,12 +10,12 @@ ghost use Rattle.membership.specs.Table.{is_alive, is_confirm};
 ghost use Rattle.member.specs.State.{is_probed};
 ghost use Rattle.member.specs.StateOf.{effect_of, state_of};
 
-use crate::content::Content;
+use crate::announce::{Announce, is_aloud};
 use crate::event::Effects;
+use crate::event_kind::EventKind;
 use crate::here::Here;
 use crate::member::Member;
 use crate::step_error::StepError;
-use crate::telling::{Telling, is_aloud};
 use base::{MemberId, Profile};
 use incarnation::{Claim, Update};
 use membership::is_confirm;
@@ -42,7 +44,7 @@ impl Member {
         &mut self,
         effects: &mut Effects,
         here: &Here,
-        telling: Telling,
+        telling: Announce,
         update: &Update,
     ) -> Result<(), StepError>
         requires { KnowsMembers here.now self.old }
@@ -60,7 +62,7 @@ impl Member {
         &self,
         effects: &mut Effects,
         here: &Here,
-        telling: Telling,
+        telling: Announce,
         what: What,
         subject: MemberId,
         value: u64,
@@ -140,7 +142,7 @@ impl Member {
         &mut self,
         effects: &mut Effects,
         here: &Here,
-        telling: Telling,
+        telling: Announce,
         update: &Update,
     ) -> Result<(), StepError>
         requires { KnowsMembers here.now self.old }
@@ -163,7 +165,7 @@ impl Member {
         &mut self,
         effects: &mut Effects,
         here: &Here,
-        telling: Telling,
+        telling: Announce,
         update: &Update,
     ) -> Result<(), StepError>
         requires { KnowsMembers here.now self.old }
@@ -187,7 +189,7 @@ impl Member {
             update.subject,
             update.inc,
         )?;
-        let timer = Content::SuspicionTimer {
+        let timer = EventKind::SuspicionTimer {
             subject: update.subject,
         };
         self.make_event(effects, here, due, here.key.to, timer)
@@ -214,7 +216,7 @@ impl Member {
         &mut self,
         effects: &mut Effects,
         here: &Here,
-        telling: Telling,
+        telling: Announce,
         update: &Update,
     ) -> Result<(), StepError>
         requires { KnowsMembers here.now self.old }
@@ -237,7 +239,7 @@ impl Member {
         &mut self,
         effects: &mut Effects,
         here: &Here,
-        telling: Telling,
+        telling: Announce,
         update: &Update,
     ) -> Result<(), StepError>
         requires { KnowsMembers here.now self.old }
@@ -256,7 +258,7 @@ impl Member {
         &mut self,
         effects: &mut Effects,
         here: &Here,
-        telling: Telling,
+        telling: Announce,
         update: &Update,
     ) -> Result<(), StepError>
         requires known { KnowsMembers here.now self.old }
@@ -274,7 +276,7 @@ impl Member {
         &mut self,
         effects: &mut Effects,
         here: &Here,
-        telling: Telling,
+        telling: Announce,
         update: &Update,
         accused: Option<Accused>,
     ) -> Result<(), StepError>
@@ -292,7 +294,7 @@ impl Member {
             update.subject,
             accused.count,
         )?;
-        let timer = Content::SuspicionTimer {
+        let timer = EventKind::SuspicionTimer {
             subject: update.subject,
         };
         self.make_event(effects, here, accused.due, here.key.to, timer)?;
@@ -305,7 +307,7 @@ impl Member {
         &mut self,
         effects: &mut Effects,
         here: &Here,
-        telling: Telling,
+        telling: Announce,
         update: &Update,
     ) -> Result<(), StepError>
         requires { KnowsMembers here.now self.old }

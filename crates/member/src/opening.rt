@@ -1,10 +1,11 @@
+//! The state of a member before its start: it knows nobody, and its counters, draws and health score are set up.
 ghost use Rattle.std.specs.Prelude.{◌≡◌, ◌<◌, [], IfOk};
 ghost use Rattle.scenario.specs.Setup.{member_count};
 ghost use Rattle.probing.specs.ProbeOrder.{round_over, IsSoundOrder};
 ghost use Rattle.member.specs.Here.{HoldsMembers};
 ghost use Rattle.member.specs.Opening.{opening_state, opening_health, first_number};
 ghost use Rattle.member.specs.StateOf.{state_of};
-ghost use Rattle.member.specs.Worn.{IsWorn};
+ghost use Rattle.member.specs.CounterOverflow.{IsOverflowed};
 
 use crate::member::{Member, Phase};
 use base::{MemberId, Memory, Moment};
@@ -56,7 +57,7 @@ impl Member {
         requires { member < member_count scenario.now }
         ensures state { IfOk result (λ it. state_of it ≡ opening_state scenario.now member) }
         ensures known { IfOk result (λ it. HoldsMembers scenario.now member (state_of it)) }
-        ensures within { IfOk result (λ it. ¬ (IsWorn (state_of it))) }
+        ensures within { IfOk result (λ it. ¬ (IsOverflowed (state_of it))) }
     {
         Ok(Member {
             phase: Phase::Waiting,

@@ -1,3 +1,5 @@
+//! A protocol period by the papers' rules: the last probe ends, a failed one raises a suspicion (SWIM, section 4.2),
+//! and the next member is probed; LHA-Probe scales period and timeout.
 ghost use Rattle.std.specs.Prelude.{◌≡◌, ◌<◌, IfSome};
 ghost use Rattle.member.specs.Makes.{IsMember, KnowsMembers, Makes};
 ghost use Rattle.std.specs.FinMap.{get};
@@ -5,12 +7,12 @@ ghost use Rattle.probing.specs.ProbeOrder.{next_of};
 ghost use Rattle.member.specs.Step.{probe_ended, probe_failed, suspected, probe_begun, next_probed, period_begun};
 ghost use Rattle.member.specs.StateOf.{state_of};
 
-use crate::content::Content;
+use crate::announce::Announce;
 use crate::event::Effects;
+use crate::event_kind::EventKind;
 use crate::here::Here;
 use crate::member::Member;
 use crate::step_error::StepError;
-use crate::telling::Telling;
 use base::MemberId;
 use base::limits::COUNTER_LIMIT;
 use incarnation::{Claim, Update};
@@ -83,7 +85,7 @@ impl Member {
             inc: held.1,
             accuser: here.key.to,
         };
-        self.apply(effects, here, Telling::Aloud, &claim)
+        self.apply(effects, here, Announce::Aloud, &claim)
     }
 
     /// The next member to probe, in the turn of the rota.
@@ -99,7 +101,7 @@ impl Member {
     }
 
     /// Probes a target: a ping, which has until the timeout to be answered. LHA-Probe scales the timeout.
-    /// Worn where the sequence number stands at its limit.
+    /// CounterOverflow where the sequence number stands at its limit.
     #[tactic(auto, unfolding(crate::specs::Step::probe_begun))]
     fn begin_probe(
         &mut self,
@@ -112,14 +114,14 @@ impl Member {
         ensures { Makes here.now result self.old effects.old self.new effects.new (probe_begun here.now.scenario.now here.now.key target) }
     {
         if self.sequence >= COUNTER_LIMIT {
-            return Err(StepError::Worn);
+            return Err(StepError::CounterOverflow);
         }
         let seq = self.sequence + 1;
         self.sequence = seq;
         self.probe = Some(Probe::new(seq, target));
         self.send_ping(effects, here, target, here.key.to, seq)?;
         let ticks = self.health.scaled(here.scenario.swim().timeout);
-        self.set_timer(effects, here, ticks, Content::TimeoutTimer { seq })
+        self.set_timer(effects, here, ticks, EventKind::TimeoutTimer { seq })
     }
 
     /// Probes the next member, where there is one.
@@ -151,6 +153,6 @@ impl Member {
         self.end_probe(effects, here)?;
         self.probe_next(effects, here)?;
         let ticks = self.health.scaled(here.scenario.period());
-        self.set_timer(effects, here, ticks, Content::PeriodTimer)
+        self.set_timer(effects, here, ticks, EventKind::PeriodTimer)
     }
 }

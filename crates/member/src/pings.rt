@@ -1,13 +1,15 @@
+//! A member answers a ping by an ack, and as a helper pings a target for another member (SWIM, section 3.1), with a
+//! nack where no ack comes in time (LHA-Probe).
 ghost use Rattle.std.specs.Prelude.{◌<◌};
 ghost use Rattle.member.specs.Makes.{AreAboutMembers, IsMember, KnowsMembers, Makes};
 ghost use Rattle.member.specs.Step.{ping_heard, with_relay, ping_req_heard, nack_due};
 
-use crate::content::Content;
+use crate::announce::Announce;
 use crate::event::Effects;
+use crate::event_kind::EventKind;
 use crate::here::Here;
 use crate::member::Member;
 use crate::step_error::StepError;
-use crate::telling::Telling;
 use base::MemberId;
 use incarnation::Update;
 use lifeguard::nack_delay;
@@ -27,7 +29,7 @@ impl Member {
         requires updates { AreAboutMembers here.now updates.now }
         ensures { Makes here.now result self.old effects.old self.new effects.new (ping_heard here.now.scenario.now here.now.key initiator seq updates.now) }
     {
-        self.apply_all(effects, here, Telling::Aloud, updates)?;
+        self.apply_all(effects, here, Announce::Aloud, updates)?;
         self.send_ack(effects, here, here.key.from, initiator, seq)
     }
 
@@ -39,7 +41,7 @@ impl Member {
         self.relays.add(here.key.from, seq)?;
         let percent = here.scenario.lifeguard().nack_percent as u32;
         let ticks = nack_delay(percent, here.scenario.swim().timeout);
-        let timer = Content::NackTimer {
+        let timer = EventKind::NackTimer {
             initiator: here.key.from,
             seq,
         };
@@ -61,7 +63,7 @@ impl Member {
         requires updates { AreAboutMembers here.now updates.now }
         ensures { Makes here.now result self.old effects.old self.new effects.new (ping_req_heard here.now.scenario.now here.now.key seq target updates.now) }
     {
-        self.apply_all(effects, here, Telling::Aloud, updates)?;
+        self.apply_all(effects, here, Announce::Aloud, updates)?;
         self.send_ping(effects, here, target, here.key.from, seq)?;
         if here.scenario.lifeguard().probe {
             self.add_relay(effects, here, seq)

@@ -1,7 +1,9 @@
+//! Push and pull by memberlist's rules: two members exchange whole tables, and a death in the other's table is only
+//! suspected; a push comes more seldom for each doubling of more than 32 members.
 ghost use Rattle.std.specs.Prelude.{◌≡◌, ◌≤◌, ◌<◌, ◌^◌, All};
 ghost use Rattle.links.specs.Trips.{kept_arrival_of};
 ghost use Rattle.membership.specs.Table.{live_count};
-ghost use Rattle.member.specs.declared.telling.Telling.TheVariants.{Aloud};
+ghost use Rattle.member.specs.declared.announce.Announce.TheVariants.{Aloud};
 ghost use Rattle.member.specs.Makes.{AreAboutMembers, Draws, IsMember, KnowsMembers, Makes};
 ghost use Rattle.member.specs.Effects.{with_timer};
 ghost use Rattle.member.specs.Send.{sent_to_each, push_sent, pull_sent};
@@ -9,13 +11,13 @@ ghost use Rattle.member.specs.Apply.{applied};
 ghost use Rattle.member.specs.Step.{doublings_to, push_period, push_begun, first_push_set, merged_claim, merged, pushed, push_due, push_heard};
 ghost use Rattle.member.specs.StateOf.{state_of};
 
-use crate::content::Content;
+use crate::announce::Announce;
 use crate::event::Effects;
+use crate::event_kind::EventKind;
 use crate::here::Here;
 use crate::member::Member;
 use crate::news::is_alive;
 use crate::step_error::StepError;
-use crate::telling::Telling;
 use base::{MemberId, Moment};
 use incarnation::{Claim, Update};
 use membership::Fitting;
@@ -54,7 +56,7 @@ impl Member {
             What::Push,
             to,
             0,
-            Content::Push { entries },
+            EventKind::Push { entries },
             arrival,
         )
     }
@@ -79,7 +81,7 @@ impl Member {
             What::Pull,
             to,
             0,
-            Content::Pull { entries },
+            EventKind::Pull { entries },
             arrival,
         )
     }
@@ -130,7 +132,7 @@ impl Member {
     {
         let wait = u64::from(self.stream.below(push as u32));
         let at = Moment(beat.ticks() + wait + self.push_period(here, push));
-        self.make_event(effects, here, at, here.key.to, Content::PushTimer)
+        self.make_event(effects, here, at, here.key.to, EventKind::PushTimer)
     }
 
     /// Sets the first push timer after the beat of the periods, where members push.
@@ -177,9 +179,9 @@ impl Member {
         requires ticks_within { period ≤ 2 ^ 41 }
         requires known { KnowsMembers here.now self.old }
         requires members { All (IsMember here.now) them.now }
-        ensures { Makes here.now result self.old effects.old self.new effects.new (λ o. sent_to_each (push_sent here.now.scenario.now here.now.key) them.now (with_timer here.now.scenario.now here.now.key period Content.PushTimer o)) }
+        ensures { Makes here.now result self.old effects.old self.new effects.new (λ o. sent_to_each (push_sent here.now.scenario.now here.now.key) them.now (with_timer here.now.scenario.now here.now.key period EventKind.PushTimer o)) }
     {
-        self.set_timer(effects, here, period, Content::PushTimer)?;
+        self.set_timer(effects, here, period, EventKind::PushTimer)?;
         self.push_to(effects, here, them)
     }
 
@@ -228,7 +230,7 @@ impl Member {
         ensures { Makes here.now result self.old effects.old self.new effects.new (applied here.now.scenario.now Aloud here.now.key (merged_claim here.now.key.to entry.now)) }
     {
         let claim = merged_claim(here.key.to, entry);
-        self.apply(effects, here, Telling::Aloud, &claim)
+        self.apply(effects, here, Announce::Aloud, &claim)
     }
 
     /// A push is answered by all that one knows, and then heeded.

@@ -1,3 +1,5 @@
+//! A member sends the messages of SWIM and Lifeguard: it writes a row, draws loss and delay, and lets updates ride on
+//! the messages of a probe (piggyback).
 ghost use Rattle.std.specs.Prelude.{◌≡◌, ◌<◌, ◌≤◌, OnOk, IfOk};
 ghost use Rattle.links.specs.Arrival.{arrival_of};
 ghost use Rattle.member.specs.Makes.{Draws, IsMade, IsMember, KnowsMembers, Makes};
@@ -5,8 +7,8 @@ ghost use Rattle.membership.specs.Table.{live_count};
 ghost use Rattle.member.specs.Send.{whole_table, sent, sent_off, told_of, carried, with_picks, buddy_of, ping_sent, ping_req_sent, ack_sent, nack_sent, join_sent, welcome_sent, bye_sent};
 ghost use Rattle.member.specs.StateOf.{state_of};
 
-use crate::content::Content;
 use crate::event::Effects;
+use crate::event_kind::EventKind;
 use crate::here::Here;
 use crate::member::Member;
 use crate::step_error::StepError;
@@ -34,7 +36,7 @@ impl Member {
         effects: &mut Effects,
         here: &Here,
         to: MemberId,
-        content: Content,
+        content: EventKind,
         arrival: Option<Moment>,
     ) -> Result<(), StepError>
         requires to { IsMember here.now to }
@@ -55,7 +57,7 @@ impl Member {
         what: What,
         to: MemberId,
         value: u64,
-        content: Content,
+        content: EventKind,
         arrival: Option<Moment>,
     ) -> Result<(), StepError>
         requires to { IsMember here.now to }
@@ -75,7 +77,7 @@ impl Member {
         what: What,
         to: MemberId,
         value: u64,
-        content: Content,
+        content: EventKind,
     ) -> Result<(), StepError>
         requires to { IsMember here.now to }
         requires known { KnowsMembers here.now self.old }
@@ -149,7 +151,7 @@ impl Member {
     {
         let buddy = self.buddy(here, to);
         let updates = self.pick(here, buddy)?;
-        let ping = Content::Ping {
+        let ping = EventKind::Ping {
             initiator,
             seq,
             updates,
@@ -172,7 +174,7 @@ impl Member {
         ensures { Makes here.now result self.old effects.old self.new effects.new (ping_req_sent here.now.scenario.now here.now.key target seq to) }
     {
         let updates = self.pick(here, None)?;
-        let request = Content::PingReq {
+        let request = EventKind::PingReq {
             target,
             seq,
             updates,
@@ -195,7 +197,7 @@ impl Member {
         ensures { Makes here.now result self.old effects.old self.new effects.new (ack_sent here.now.scenario.now here.now.key to initiator seq) }
     {
         let updates = self.pick(here, None)?;
-        let ack = Content::Ack {
+        let ack = EventKind::Ack {
             initiator,
             seq,
             updates,
@@ -216,7 +218,7 @@ impl Member {
         requires known { KnowsMembers here.now self.old }
         ensures { Makes here.now result self.old effects.old self.new effects.new (nack_sent here.now.scenario.now here.now.key to seq) }
     {
-        self.send(effects, here, What::Nack, to, seq, Content::Nack { seq })
+        self.send(effects, here, What::Nack, to, seq, EventKind::Nack { seq })
     }
 
     /// Asks the contact, where there is one, to let the member join.
@@ -227,7 +229,7 @@ impl Member {
     {
         match here.scenario.contact(here.key.to) {
             None => Ok(()),
-            Some(contact) => self.send(effects, here, What::Join, contact, 0, Content::Join),
+            Some(contact) => self.send(effects, here, What::Join, contact, 0, EventKind::Join),
         }
     }
 
@@ -264,7 +266,7 @@ impl Member {
             What::Welcome,
             to,
             0,
-            Content::Welcome { entries },
+            EventKind::Welcome { entries },
         )
     }
 
@@ -280,6 +282,6 @@ impl Member {
         requires known { KnowsMembers here.now self.old }
         ensures { Makes here.now result self.old effects.old self.new effects.new (bye_sent here.now.scenario.now here.now.key to) }
     {
-        self.send(effects, here, What::Bye, to, 0, Content::Bye)
+        self.send(effects, here, What::Bye, to, 0, EventKind::Bye)
     }
 }

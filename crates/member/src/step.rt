@@ -1,3 +1,4 @@
+//! The step that a member makes of one event: its phase and the rules of its profile decide which events it heeds.
 ghost use Rattle.std.specs.Prelude.{◌≡◌, ◌++◌, [], OnOk, IfErr, IsErrOf};
 ghost use Rattle.std.specs.Option.{option_map_or};
 ghost use Rattle.member.specs.declared.event.Effects.{Effects as Made};
@@ -9,14 +10,14 @@ ghost use Rattle.scenario.specs.Profile.{profile_of};
 ghost use Rattle.member.specs.Step.{step, handled_by, timed_handled, handled, plain_handled, probing_handled};
 ghost use Rattle.member.specs.Steps.{Steps};
 ghost use Rattle.member.specs.StateOf.{state_of};
-ghost use Rattle.member.specs.Worn.{IsWorn};
+ghost use Rattle.member.specs.CounterOverflow.{IsOverflowed};
 
-use crate::content::Content;
+use crate::announce::Announce;
 use crate::event::{Effects, Event};
+use crate::event_kind::EventKind;
 use crate::here::Here;
 use crate::member::{Member, Phase};
 use crate::step_error::StepError;
-use crate::telling::Telling;
 use base::Profile;
 use links::Links;
 use scenario::Scenario;
@@ -30,13 +31,13 @@ impl Member {
         &mut self,
         effects: &mut Effects,
         here: &Here,
-        content: &Content,
+        content: &EventKind,
     ) -> Result<(), StepError>
         requires { KnowsMembers here.now self.old }
         ensures { Makes here.now result self.old effects.old self.new effects.new (handled here.now.scenario.now here.now.key content.now Phase.Waiting) }
     {
         match content {
-            Content::Start => self.start(effects, here),
+            EventKind::Start => self.start(effects, here),
             _ => Ok(()),
         }
     }
@@ -47,17 +48,17 @@ impl Member {
         &mut self,
         effects: &mut Effects,
         here: &Here,
-        content: &Content,
+        content: &EventKind,
     ) -> Result<(), StepError>
         requires known { KnowsMembers here.now self.old }
         requires names { MentionsMembers (member_count here.now.scenario.now) content.now }
         ensures { Makes here.now result self.old effects.old self.new effects.new (handled here.now.scenario.now here.now.key content.now Phase.Joining) }
     {
         match content {
-            Content::Crash => self.crash(effects, here),
-            Content::Leave => self.withdraw(effects, here),
-            Content::JoinTimer => self.ask_join(effects, here),
-            Content::Welcome { entries } => self.join(effects, here, entries.as_slice()),
+            EventKind::Crash => self.crash(effects, here),
+            EventKind::Leave => self.withdraw(effects, here),
+            EventKind::JoinTimer => self.ask_join(effects, here),
+            EventKind::Welcome { entries } => self.join(effects, here, entries.as_slice()),
             _ => Ok(()),
         }
     }
@@ -68,27 +69,27 @@ impl Member {
         &mut self,
         effects: &mut Effects,
         here: &Here,
-        content: &Content,
+        content: &EventKind,
     ) -> Result<(), StepError>
         requires known { KnowsMembers here.now self.old }
         requires names { MentionsMembers (member_count here.now.scenario.now) content.now }
         ensures { Makes here.now result self.old effects.old self.new effects.new (handled here.now.scenario.now here.now.key content.now Phase.Running) }
     {
         match content {
-            Content::Crash => self.crash(effects, here),
-            Content::Leave => self.depart(effects, here),
-            Content::PeriodTimer => self.begin_period(effects, here),
-            Content::TimeoutTimer { seq } => self.time_out(effects, here, *seq),
-            Content::NackTimer { initiator, seq } => self.end_relay(
+            EventKind::Crash => self.crash(effects, here),
+            EventKind::Leave => self.depart(effects, here),
+            EventKind::PeriodTimer => self.begin_period(effects, here),
+            EventKind::TimeoutTimer { seq } => self.time_out(effects, here, *seq),
+            EventKind::NackTimer { initiator, seq } => self.end_relay(
                 effects, here, *initiator, *seq,
             ),
-            Content::SuspicionTimer { subject } => self.end_suspicion(effects, here, *subject),
-            Content::Join => self.hear_join(effects, here),
-            Content::Nack { seq } => {
+            EventKind::SuspicionTimer { subject } => self.end_suspicion(effects, here, *subject),
+            EventKind::Join => self.hear_join(effects, here),
+            EventKind::Nack { seq } => {
                 self.hear_nack(effects, here, *seq);
                 Ok(())
             }
-            Content::Bye => self.confirm(effects, here, here.key.from),
+            EventKind::Bye => self.confirm(effects, here, here.key.from),
             _ => self.handle_probing(effects, here, content),
         }
     }
@@ -98,24 +99,24 @@ impl Member {
         &mut self,
         effects: &mut Effects,
         here: &Here,
-        content: &Content,
+        content: &EventKind,
     ) -> Result<(), StepError>
         requires known { KnowsMembers here.now self.old }
         requires names { MentionsMembers (member_count here.now.scenario.now) content.now }
         ensures { Makes here.now result self.old effects.old self.new effects.new (probing_handled here.now.scenario.now here.now.key content.now) }
     {
         match content {
-            Content::Ping {
+            EventKind::Ping {
                 initiator,
                 seq,
                 updates,
             } => self.hear_ping(effects, here, *initiator, *seq, updates.as_slice()),
-            Content::PingReq {
+            EventKind::PingReq {
                 target,
                 seq,
                 updates,
             } => self.hear_ping_req(effects, here, *seq, *target, updates.as_slice()),
-            Content::Ack {
+            EventKind::Ack {
                 initiator,
                 seq,
                 updates,
@@ -130,36 +131,36 @@ impl Member {
         &mut self,
         effects: &mut Effects,
         here: &Here,
-        content: &Content,
+        content: &EventKind,
     ) -> Result<(), StepError>
         requires known { KnowsMembers here.now self.old }
         requires names { MentionsMembers (member_count here.now.scenario.now) content.now }
         ensures { Makes here.now result self.old effects.old self.new effects.new (timed_handled here.now.scenario.now here.now.key content.now) }
     {
         match content {
-            Content::PeriodTimer => self.beat_period(effects, here),
-            Content::TimeoutTimer { seq } => self.time_out_timed(effects, here, *seq),
-            Content::DeadlineTimer { seq } => self.end_deadline(effects, here, *seq),
-            Content::Ack {
+            EventKind::PeriodTimer => self.beat_period(effects, here),
+            EventKind::TimeoutTimer { seq } => self.time_out_timed(effects, here, *seq),
+            EventKind::DeadlineTimer { seq } => self.end_deadline(effects, here, *seq),
+            EventKind::Ack {
                 initiator,
                 seq,
                 updates,
             } => self.hear_timed_ack(effects, here, *initiator, *seq, updates.as_slice()),
-            Content::Call { seq } => self.send_answer(effects, here, here.key.from, *seq),
-            Content::Answer { seq } => {
+            EventKind::Call { seq } => self.send_answer(effects, here, here.key.from, *seq),
+            EventKind::Answer { seq } => {
                 self.hear_answer(effects, here, *seq);
                 Ok(())
             }
-            Content::GossipTimer => self.gossip(effects, here),
-            Content::Gossip { updates } => self.apply_all(
+            EventKind::GossipTimer => self.gossip(effects, here),
+            EventKind::Gossip { updates } => self.apply_all(
                 effects,
                 here,
-                Telling::Aloud,
+                Announce::Aloud,
                 updates.as_slice(),
             ),
-            Content::PushTimer => self.end_push(effects, here),
-            Content::Push { entries } => self.hear_push(effects, here, entries.as_slice()),
-            Content::Pull { entries } => self.merge(effects, here, entries.as_slice()),
+            EventKind::PushTimer => self.end_push(effects, here),
+            EventKind::Push { entries } => self.hear_push(effects, here, entries.as_slice()),
+            EventKind::Pull { entries } => self.merge(effects, here, entries.as_slice()),
             _ => self.handle_running(effects, here, content),
         }
     }
@@ -169,7 +170,7 @@ impl Member {
         &mut self,
         effects: &mut Effects,
         here: &Here,
-        content: &Content,
+        content: &EventKind,
     ) -> Result<(), StepError>
         requires known { KnowsMembers here.now self.old }
         requires names { MentionsMembers (member_count here.now.scenario.now) content.now }
@@ -187,7 +188,7 @@ impl Member {
         &mut self,
         effects: &mut Effects,
         here: &Here,
-        content: &Content,
+        content: &EventKind,
     ) -> Result<(), StepError>
         requires known { KnowsMembers here.now self.old }
         requires names { MentionsMembers (member_count here.now.scenario.now) content.now }
@@ -204,7 +205,7 @@ impl Member {
     /// Handles an event of the member's own: its state is that of the step after it, and the events and
     /// the rows that the step makes are appended to `out`.
     ///
-    /// Refusals: `Memory`; `Worn` where a counter stands at 2^63 and would have to rise. Then the member
+    /// Refusals: `Memory`; `CounterOverflow` where a counter stands at 2^63 and would have to rise. Then the member
     /// and `out` are spent, and the run ends.
     #[tactic(auto, unfolding(crate::specs::Step::step))]
     pub fn step(
@@ -219,8 +220,8 @@ impl Member {
         requires known { HoldsMembers scenario.now event.key.to (state_of self.old) }
         requires names { MentionsMembers (member_count scenario.now) event.content }
         ensures ok { OnOk result (Steps scenario.now event self.old self.new out.old out.new) }
-        ensures worn { IsErrOf result StepError.Worn → IsWorn (step scenario.now event.key event.content (state_of self.old)).state }
-        ensures within { OnOk result (¬ (IsWorn (state_of self.new))) }
+        ensures overflow { IsErrOf result StepError.CounterOverflow → IsOverflowed (step scenario.now event.key event.content (state_of self.old)).state }
+        ensures within { OnOk result (¬ (IsOverflowed (state_of self.new))) }
         ensures kept { OnOk result (HoldsMembers scenario.now event.key.to (state_of self.new)) }
     {
         let Event { key, content } = event;

@@ -1,3 +1,4 @@
+//! The reasons for which a step is refused, and the fault by which each of them ends the run.
 ghost use Rattle.std.specs.Prelude.{◌≡◌};
 ghost use Rattle.member.specs.declared.step_error.StepError.TheVariants as step_error;
 ghost use Rattle.member.specs.Faults.{fault_of};
@@ -11,7 +12,7 @@ pub enum StepError {
     /// Memory was refused.
     Memory,
     /// A counter stands at its limit, 2^63, and would have to rise.
-    Worn,
+    CounterOverflow,
 }
 
 impl From<Memory> for StepError {
@@ -44,7 +45,7 @@ impl From<StepError> for Fault {
     fn from(error: StepError) -> Self {
         match error {
             StepError::Memory => Fault::Memory,
-            StepError::Worn => Fault::Worn,
+            StepError::CounterOverflow => Fault::CounterOverflow,
         }
     }
 }

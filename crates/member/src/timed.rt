@@ -1,3 +1,5 @@
+//! A member's own probe by memberlist's rules: a probe has a deadline, periods keep a beat, and the next probe waits
+//! for one that is still under way.
 ghost use Rattle.std.specs.Prelude.{◌≡◌, ◌+◌, ◌^◌, ◌≤◌, ◌<◌};
 ghost use Rattle.lifeguard.specs.Health.{scaled};
 ghost use Rattle.member.specs.Effects.{with_event};
@@ -6,12 +8,12 @@ ghost use Rattle.member.specs.Makes.{AreAboutMembers, IsMember, KnowsMembers, Ma
 ghost use Rattle.member.specs.Step.{suspected_at, timed_probe_failed, probe_settled, needs_timer, deadline_set, probe_timers_set, timed_probe_begun, next_timed_probed, waiting_probed, has_time, is_under_way, next_after_settled, probed_in_turn, period_beaten, waiting_after_settled, deadline_over, timed_answered, timed_ack_taken, timed_ack_heard};
 ghost use Rattle.member.specs.StateOf.{state_of};
 
-use crate::content::Content;
+use crate::announce::Announce;
 use crate::event::Effects;
+use crate::event_kind::EventKind;
 use crate::here::Here;
 use crate::member::Member;
 use crate::step_error::StepError;
-use crate::telling::Telling;
 use base::limits::COUNTER_LIMIT;
 use base::{MemberId, Moment, next_in_step};
 use incarnation::{Claim, Update};
@@ -44,7 +46,7 @@ impl Member {
             inc: probe.number,
             accuser: here.key.to,
         };
-        self.apply(effects, here, Telling::Aloud, &claim)
+        self.apply(effects, here, Announce::Aloud, &claim)
     }
 
     /// A probe that nothing reached has failed.
@@ -91,7 +93,7 @@ impl Member {
     }
 
     /// Probes a target: a ping, the timer for a direct answer, and the deadline. The next beat is told
-    /// where its timer is set already. Worn where the sequence number stands at its limit.
+    /// where its timer is set already. CounterOverflow where the sequence number stands at its limit.
     #[tactic(auto, unfolding(crate::specs::Step::timed_probe_begun))]
     fn begin_timed_probe(
         &mut self,
@@ -105,7 +107,7 @@ impl Member {
         ensures { Makes here.now result self.old effects.old self.new effects.new (timed_probe_begun here.now.scenario.now here.now.key next_beat target) }
     {
         if self.sequence >= COUNTER_LIMIT {
-            return Err(StepError::Worn);
+            return Err(StepError::CounterOverflow);
         }
         let seq = self.sequence + 1;
         let deadline = self.next_deadline(here);
@@ -139,7 +141,7 @@ impl Member {
         requires known { KnowsMembers here.now self.old }
         ensures { Makes here.now result self.old effects.old self.new effects.new (probe_timers_set here.now.scenario.now here.now.key next_beat seq timeout deadline) }
     {
-        self.set_timer(effects, here, timeout, Content::TimeoutTimer { seq })?;
+        self.set_timer(effects, here, timeout, EventKind::TimeoutTimer { seq })?;
         self.set_deadline(effects, here, next_beat, seq, deadline)
     }
 
@@ -159,7 +161,7 @@ impl Member {
         if !needs_timer(next_beat, deadline) {
             return self.use_number(here);
         }
-        let timer = Content::DeadlineTimer { seq };
+        let timer = EventKind::DeadlineTimer { seq };
         self.make_event(effects, here, deadline, here.key.to, timer)
     }
 
@@ -213,9 +215,9 @@ impl Member {
     /// Sets the timer of the next period for a moment, and probes in turn.
     fn go_on(&mut self, effects: &mut Effects, here: &Here, next: Moment) -> Result<(), StepError>
         requires { KnowsMembers here.now self.old }
-        ensures { Makes here.now result self.old effects.old self.new effects.new (λ o. probed_in_turn here.now.scenario.now here.now.key next (with_event here.now.scenario.now here.now.key next here.now.key.to Content.PeriodTimer o)) }
+        ensures { Makes here.now result self.old effects.old self.new effects.new (λ o. probed_in_turn here.now.scenario.now here.now.key next (with_event here.now.scenario.now here.now.key next here.now.key.to EventKind.PeriodTimer o)) }
     {
-        self.make_event(effects, here, next, here.key.to, Content::PeriodTimer)?;
+        self.make_event(effects, here, next, here.key.to, EventKind::PeriodTimer)?;
         self.probe_in_turn(effects, here, next)
     }
 
@@ -313,7 +315,7 @@ impl Member {
         requires updates { AreAboutMembers here.now updates.now }
         ensures { Makes here.now result self.old effects.old self.new effects.new (timed_ack_heard here.now.scenario.now here.now.key initiator seq updates.now) }
     {
-        self.apply_all(effects, here, Telling::Aloud, updates)?;
+        self.apply_all(effects, here, Announce::Aloud, updates)?;
         self.take_timed_ack(effects, here, initiator, seq)
     }
 

@@ -1,3 +1,4 @@
+//! The updates of one message, which contracts see as a list: those that ride on it (piggyback), or a whole table.
 ghost use Rattle.std.specs.Prelude.{◌≡◌};
 
 use incarnation::Update;

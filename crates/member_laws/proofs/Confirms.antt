@@ -12,7 +12,7 @@ use Rattle.base.specs.declared.profile.Profile.TheVariants.{Papers}
 use Rattle.incarnation.specs.declared.Claim.{Claim}
 use Rattle.incarnation.specs.declared.Claim.TheVariants.{Confirm}
 use Rattle.incarnation.specs.declared.Update.{Update}
-use Rattle.member.specs.declared.content.Content.{Content}
+use Rattle.member.specs.declared.event_kind.EventKind.{EventKind}
 use Rattle.lifeguard.specs.Health.{LocalHealth}
 use Rattle.member.specs.declared.member.Phase.{Phase}
 use Rattle.member.specs.declared.member.Phase.TheVariants.{Waiting}
@@ -64,7 +64,7 @@ unfolding opening_state
 opened s m q = get-empty nat_cmp q
 
 -- by the papers' rules
-pub stays_confirmed : (s : Setup) → profile_of s ≡ Papers → (k : Key) (c : Content) (t : State) (q i : ℕ) → WaitsAsOpened s k.to t → get t.table q ≡ Some (Confirm, i)
+pub stays_confirmed : (s : Setup) → profile_of s ≡ Papers → (k : Key) (c : EventKind) (t : State) (q i : ℕ) → WaitsAsOpened s k.to t → get t.table q ≡ Some (Confirm, i)
     → get (step s k c t).state.table q ≡ Some (Confirm, i)
 stays_confirmed s papers k c t q i waits here =
     (on_step s k Anyone (FactOf (Holds q i)) (keeps_news s k (Holds q i) (λ v u says h. claimed k.to q i v u (subst (λ profile. IsNews profile k.to v u) papers says) h)) (keeps_moves s k (Holds q i) (moves s k q i)) c t tt (anyone_named c)

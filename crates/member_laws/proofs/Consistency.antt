@@ -1,5 +1,5 @@
 -- What every state keeps.
-use Rattle.member.specs.declared.content.Content.TheVariants.{Start, Crash, Leave, JoinTimer, PeriodTimer, TimeoutTimer, NackTimer, SuspicionTimer, Join, Welcome, Ping, PingReq, Ack, Nack, Bye, DeadlineTimer, GossipTimer, PushTimer, Call, Answer, Gossip, Push, Pull}
+use Rattle.member.specs.declared.event_kind.EventKind.TheVariants.{Start, Crash, Leave, JoinTimer, PeriodTimer, TimeoutTimer, NackTimer, SuspicionTimer, Join, Welcome, Ping, PingReq, Ack, Nack, Bye, DeadlineTimer, GossipTimer, PushTimer, Call, Answer, Gossip, Push, Pull}
 use Rattle.std.proofs.lemmas.List.Elements.{All-from_recursion, recursion_from_All}
 use Rattle.std.specs.List.{AllByRecursion}
 use Rattle.member.specs.Here.{MentionsMembers}
@@ -25,7 +25,7 @@ use Rattle.probing.specs.ProbeOrder.{ProbeOrder, insert_of, next_of, remove_of, 
 use Rattle.probing.proofs.RoundLemmas.{is_probe}
 use Rattle.suspicion.specs.Settings.{terms_of}
 use Rattle.suspicion.specs.Suspicions.{HeldSuspicion}
-use Rattle.member.specs.declared.content.Content.{Content}
+use Rattle.member.specs.declared.event_kind.EventKind.{EventKind}
 use Rattle.member.specs.declared.member.Phase.TheVariants.{Waiting}
 use Rattle.member.specs.State.{State, is_probed}
 use Rattle.base.specs.declared.profile.Profile.{Profile}
@@ -352,7 +352,7 @@ consistent s m t h = record {
 all_named : (n : ℕ) (us : List Update) → All (λ (u : Update). u.subject < n) us → AllByRecursion (λ (u : Update). u.subject < n) us
 all_named n us h = recursion_from_All (λ (u : Update). u.subject < n) us h
 
-pub names_only : (n : ℕ) (c : Content) → MentionsMembers n c → NamesOnly (λ q. q < n) (Unit {0}) c
+pub names_only : (n : ℕ) (c : EventKind) → MentionsMembers n c → NamesOnly (λ q. q < n) (Unit {0}) c
 names_only n Start h = tt
 names_only n Crash h = tt
 names_only n JoinTimer h = tt
@@ -377,7 +377,7 @@ names_only n (Gossip updates) h = all_named n updates h
 names_only n (Push entries) h = all_named n entries h
 names_only n (Pull entries) h = all_named n entries h
 
-pub names_members : (n : ℕ) (c : Content) → NamesOnly (λ q. q < n) (Unit {0}) c → MentionsMembers n c
+pub names_members : (n : ℕ) (c : EventKind) → NamesOnly (λ q. q < n) (Unit {0}) c → MentionsMembers n c
 names_members n Start h = tt
 names_members n Crash h = tt
 names_members n JoinTimer h = tt
@@ -402,7 +402,7 @@ names_members n (Gossip updates) h = All-from_recursion (λ (u : Update). u.subj
 names_members n (Push entries) h = All-from_recursion (λ (u : Update). u.subject < n) entries h
 names_members n (Pull entries) h = All-from_recursion (λ (u : Update). u.subject < n) entries h
 
-pub step_consistent : (s : Setup) (k : Key) (c : Content) (t : State) → IsSound s → IsAmongMembers s k c → IsConsistent s k.to t → IsConsistent s k.to (step s k c t).state
+pub step_consistent : (s : Setup) (k : Key) (c : EventKind) (t : State) → IsSound s → IsAmongMembers s k c → IsConsistent s k.to t → IsConsistent s k.to (step s k c t).state
 step_consistent s k c t sound among h =
     on_any_step s k (λ q. q < member_count s) (Keeps s k.to) (news s sound k) (moves s sound k among.receiver)
     (IsConsistent s k.to) c t (consistent s k.to) h (keeps s sound k t h) (started_at_once s sound k t h) (started_late s sound k t h) among.sender (names_only (member_count s) c among.names)

@@ -13,8 +13,8 @@ use Rattle.lifeguard.specs.Health.{LocalHealth, scaled}
 use Rattle.probing.specs.ProbeOrder.{next_of}
 use Rattle.member.specs.declared.member.Phase.{Phase}
 use Rattle.member.specs.declared.member.Phase.TheVariants.{Waiting, Joining, Running, Down}
-use Rattle.member.specs.declared.content.Content.{Content}
-use Rattle.member.specs.declared.content.Content.TheVariants.{PeriodTimer, DeadlineTimer}
+use Rattle.member.specs.declared.event_kind.EventKind.{EventKind}
+use Rattle.member.specs.declared.event_kind.EventKind.TheVariants.{PeriodTimer, DeadlineTimer}
 use Rattle.member.specs.State.{State}
 use Rattle.member.specs.Effects.{Effect, unchanged, with_row, with_number, with_event, with_timer}
 use Rattle.member.specs.Send.{sent_off, posted, ping_sent}
@@ -77,11 +77,11 @@ either_probe true o p probe a b = a
 either_probe false o p probe a b = b
 
 module _ (s : Setup) (k : Key) where
-  event_probe : (at to : ℕ) (content : Content) (o : Effect) → (with_event s k at to content o).state.probe ≡ o.state.probe
+  event_probe : (at to : ℕ) (content : EventKind) (o : Effect) → (with_event s k at to content o).state.probe ≡ o.state.probe
   unfolding with_event
   event_probe at to content o = refl
 
-  off_probe : (to : ℕ) (content : Content) (arrival : Option ℕ) (o : Effect) → (sent_off s k to content arrival o).state.probe ≡ o.state.probe
+  off_probe : (to : ℕ) (content : EventKind) (arrival : Option ℕ) (o : Effect) → (sent_off s k to content arrival o).state.probe ≡ o.state.probe
   unfolding with_number
   off_probe to content None o = refl
   off_probe to content (Some at) o = event_probe at to content o

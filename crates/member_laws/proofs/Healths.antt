@@ -3,7 +3,7 @@ use Rattle.std.proofs.Common.{◌≡◌, ℕ, refl, arith}
 use Rattle.base.specs.declared.key.Key.{Key}
 use Rattle.scenario.specs.Setup.{Setup}
 use Rattle.lifeguard.specs.Health.{LocalHealth, lowered, raised}
-use Rattle.member.specs.declared.content.Content.{Content}
+use Rattle.member.specs.declared.event_kind.EventKind.{EventKind}
 use Rattle.membership.specs.Table.{Known}
 use Rattle.member.specs.declared.member.Phase.{Phase}
 use Rattle.member.specs.declared.member.Phase.TheVariants.{Waiting}
@@ -20,7 +20,7 @@ module _ (s : Setup) (k : Key) (P : LocalHealth → Type 0) (weakens : (h : Loca
   abbrev Healthy : Phase → ℕ → LocalHealth → Known → Type 0
   Healthy phase number health table = P health
 
-  health_step : (c : Content) (t : State) → P t.health → P (step s k c t).state.health
+  health_step : (c : EventKind) (t : State) → P t.health → P (step s k c t).state.health
   health_step c t h =
       on_step s k Anyone (FactOf Healthy) (keeps_news s k Healthy (λ t u says h. h)) (keeps_moves s k Healthy changes) c t tt (anyone_named c) h
     where
@@ -35,10 +35,10 @@ module _ (s : Setup) (k : Key) (P : LocalHealth → Type 0) (weakens : (h : Loca
         late = λ t waits h. h;
       }
 
-pub within_step : (s : Setup) (k : Key) (c : Content) (t : State) → IsWithinCeiling t.health → IsWithinCeiling (step s k c t).state.health
+pub within_step : (s : Setup) (k : Key) (c : EventKind) (t : State) → IsWithinCeiling t.health → IsWithinCeiling (step s k c t).state.health
 within_step s k = health_step s k IsWithinCeiling (λ h n is. omega arith) (λ h is. omega arith)
 
-pub ceiling_step : (s : Setup) (k : Key) (c : Content) (t : State) → (step s k c t).state.health.ceiling ≡ t.health.ceiling
+pub ceiling_step : (s : Setup) (k : Key) (c : EventKind) (t : State) → (step s k c t).state.health.ceiling ≡ t.health.ceiling
 ceiling_step s k c t =
     health_step s k (λ h. h.ceiling ≡ t.health.ceiling) (λ h n is. is) (λ h is. is) c t refl
 
@@ -62,7 +62,7 @@ up_moves s k = record {
   late = λ t waits h. absurd (h waits);
 }
 
-pub waits_step : (s : Setup) (k : Key) (c : Content) (t : State) → WaitsAsOpened s k.to t → WaitsAsOpened s k.to (step s k c t).state
+pub waits_step : (s : Setup) (k : Key) (c : EventKind) (t : State) → WaitsAsOpened s k.to t → WaitsAsOpened s k.to (step s k c t).state
 waits_step s k c t before =
     on_any_step s k Anyone (FactOf Up) (keeps_news s k Up (λ t u says h. h)) (keeps_moves s k Up (up_moves s k)) (WaitsAsOpened s k.to) c t (λ v up is. absurd (up is)) before (λ up. up)
     (λ waits is. absurd (let e = is in cc)) (λ waits is. absurd (let e = is in cc)) tt (anyone_named c)

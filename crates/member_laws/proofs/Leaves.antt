@@ -17,8 +17,8 @@ use Rattle.base.specs.declared.profile.Profile.TheVariants.{Papers}
 use Rattle.scenario.specs.Profile.{profile_of}
 use Rattle.member.specs.declared.member.Phase.{Phase}
 use Rattle.member.specs.declared.member.Phase.TheVariants.{Waiting, Joining, Running, Down}
-use Rattle.member.specs.declared.content.Content.{Content}
-use Rattle.member.specs.declared.content.Content.TheVariants.{Crash, Leave, Bye}
+use Rattle.member.specs.declared.event_kind.EventKind.{EventKind}
+use Rattle.member.specs.declared.event_kind.EventKind.TheVariants.{Crash, Leave, Bye}
 use Rattle.membership.specs.Table.{Known}
 use Rattle.member.specs.State.{State}
 use Rattle.member.specs.Effects.{Effect, unchanged, with_row, with_event}
@@ -35,28 +35,28 @@ use Rattle.member_laws.proofs.Runs.{IsKept, kept_after, run_kept, run_rows}
 -- ---- a step
 
 -- neither a leave nor a bye
-abbrev Stays : Content → Type 0
+abbrev Stays : EventKind → Type 0
 Stays c = NamesOnly Anyone ⊥ c
 
-stays_no_leave : (c : Content) → Stays c → c ≢ Leave
+stays_no_leave : (c : EventKind) → Stays c → c ≢ Leave
 stays_no_leave c stays is = subst Stays is stays
 
-stays_no_bye : (c : Content) → Stays c → c ≢ Bye
+stays_no_bye : (c : EventKind) → Stays c → c ≢ Bye
 stays_no_bye c stays is = subst Stays is stays
 
-same_handled : (s : Setup) (k : Key) (c : Content) (phase : Phase) (o : Effect) → c ≢ Leave → c ≢ Bye → handled s k c phase o ≡ plain_handled s k c phase o
+same_handled : (s : Setup) (k : Key) (c : EventKind) (phase : Phase) (o : Effect) → c ≢ Leave → c ≢ Bye → handled s k c phase o ≡ plain_handled s k c phase o
 unfolding handled
 same_handled s k Leave phase o no_leave no_bye = absurd (no_leave refl)
 same_handled s k Bye phase o no_leave no_bye = absurd (no_bye refl)
 same_handled s k c phase o no_leave no_bye = refl
 
-by_papers : (phase : Phase) (s : Setup) (k : Key) (c : Content) (o : Effect) → handled_by phase Papers s k c o ≡ handled s k c phase o
+by_papers : (phase : Phase) (s : Setup) (k : Key) (c : EventKind) (o : Effect) → handled_by phase Papers s k c o ≡ handled s k c phase o
 by_papers Waiting s k c o = refl
 by_papers Joining s k c o = refl
 by_papers Running s k c o = refl
 by_papers Down s k c o = refl
 
-pub same_step : (s : Setup) → profile_of s ≡ Papers → (k : Key) (c : Content) (t : State) → c ≢ Leave → c ≢ Bye → step s k c t ≡ plain_step s k c t
+pub same_step : (s : Setup) → profile_of s ≡ Papers → (k : Key) (c : EventKind) (t : State) → c ≢ Leave → c ≢ Bye → step s k c t ≡ plain_step s k c t
 unfolding step plain_step
 same_step s papers k c t no_leave no_bye =
     ap (λ profile. handled_by t.phase profile s k c (unchanged t)) papers ∙ by_papers t.phase s k c (unchanged t) ∙ same_handled s k c t.phase (unchanged t) no_leave no_bye
@@ -116,7 +116,7 @@ module _ (s : Setup) (k : Key) where
   }
 
   -- what is made of an event that is neither leave nor bye is neither too
-  stays_step : (c : Content) (t : State) → Stays c → AllByRecursion (λ e. Stays e.1) (step s k c t).events
+  stays_step : (c : EventKind) (t : State) → Stays c → AllByRecursion (λ e. Stays e.1) (step s k c t).events
   stays_step c t stays =
       by_step s k Anyone (FactOf Whatever) news (keeps_moves s k Whatever own_moves) ⊥ AnyRow (any_row (FactOf Whatever) ⊥) (carries_anyone s k (FactOf Whatever))
       AnyTime (any_time s k (FactOf Whatever)) AllStay makes c t tt stays (λ _. tt) (λ _. tt) (λ _. tt) tt
@@ -131,7 +131,7 @@ module _ (s : Setup) (k : Key) where
   }
 
   -- and no row tells of one
-  tells_step : (c : Content) (t : State) → Stays c → AllByRecursion (λ row. TellsOfNone row.what) (step s k c t).rows
+  tells_step : (c : EventKind) (t : State) → Stays c → AllByRecursion (λ row. TellsOfNone row.what) (step s k c t).rows
   tells_step c t stays =
       by_step s k Anyone (FactOf Whatever) news (keeps_moves s k Whatever own_moves) ⊥ TellsOfNone may_tell (carries_anyone s k (FactOf Whatever))
       AnyTime (any_time s k (FactOf Whatever)) AllTellOfNone tells c t tt stays (λ _. tt) (λ _. tt) (λ _. tt) tt
@@ -141,33 +141,33 @@ module _ (s : Setup) (k : Key) where
 nobody_leaves : (s : Setup) (m : ℕ) → s.leaves ≡ [] → leave_of s m ≡ None
 nobody_leaves s m none = ap (λ (ls : List Departure). option_map (λ (l : Departure). l.at) (find (λ (l : Departure). nat_eq l.member m) ls)) none
 
-crash_stays : (m : ℕ) (crash : Option ℕ) → AllByRecursion {X = Key × Content} (λ e. Stays e.1) (ending_event Crash m crash)
+crash_stays : (m : ℕ) (crash : Option ℕ) → AllByRecursion {X = Key × EventKind} (λ e. Stays e.1) (ending_event Crash m crash)
 crash_stays m None = tt
 crash_stays m (Some at) = (tt, tt)
 
-script_stays : (s : Setup) (m : ℕ) → s.leaves ≡ [] → AllByRecursion {X = Key × Content} (λ e. Stays e.1) (script_of s m)
+script_stays : (s : Setup) (m : ℕ) → s.leaves ≡ [] → AllByRecursion {X = Key × EventKind} (λ e. Stays e.1) (script_of s m)
 script_stays s m none = (
   tt,
   all_append (λ e. Stays e.1) (ending_event Crash m (crash_of s m)) (ending_event Leave m (leave_of s m)) (crash_stays m (crash_of s m))
-      (subst (λ (o : Option ℕ). AllByRecursion {X = Key × Content} (λ e. Stays e.1) (ending_event Leave m o)) (sym (nobody_leaves s m none)) tt),
+      (subst (λ (o : Option ℕ). AllByRecursion {X = Key × EventKind} (λ e. Stays e.1) (ending_event Leave m o)) (sym (nobody_leaves s m none)) tt),
 )
 
-scripts_stay : (s : Setup) → s.leaves ≡ [] → (ms : List ℕ) → AllByRecursion {X = Key × Content} (λ e. Stays e.1) (flat_map (script_of s) ms)
+scripts_stay : (s : Setup) → s.leaves ≡ [] → (ms : List ℕ) → AllByRecursion {X = Key × EventKind} (λ e. Stays e.1) (flat_map (script_of s) ms)
 scripts_stay s none [] = tt
 scripts_stay s none (m ∷ ms) = all_append (λ e. Stays e.1) (script_of s m) (flat_map (script_of s) ms) (script_stays s m none) (scripts_stay s none ms)
 
 -- ---- runs
 
-abbrev StaysAt : Key → Content → Type 0
+abbrev StaysAt : Key → EventKind → Type 0
 StaysAt k c = Stays c
 
 abbrev AnyState : ℕ → State → Type 0
 AnyState m t = Unit {0}
 
 -- Machines that make the same of all events that stay run alike.
-module _ (one two : Machine State Content Row) (end : ℕ) (alike : (k : Key) (c : Content) (t : State) → Stays c → one k c t ≡ two k c t)
-    (keeps : (k : Key) (c : Content) (t : State) → k.at ≤ end → StaysAt k c → AnyState k.to t → AnyState k.to (one k c t).state × AllByRecursion (λ e. StaysAt e.0 e.1) (one k c t).events) where
-  outcome_alike : (k : Key) (c : Content) (held : Option State) → Stays c → option_map (one k c) held ≡ option_map (two k c) held
+module _ (one two : Machine State EventKind Row) (end : ℕ) (alike : (k : Key) (c : EventKind) (t : State) → Stays c → one k c t ≡ two k c t)
+    (keeps : (k : Key) (c : EventKind) (t : State) → k.at ≤ end → StaysAt k c → AnyState k.to t → AnyState k.to (one k c t).state × AllByRecursion (λ e. StaysAt e.0 e.1) (one k c t).events) where
+  outcome_alike : (k : Key) (c : EventKind) (held : Option State) → Stays c → option_map (one k c) held ≡ option_map (two k c) held
   outcome_alike k c None stays = refl
   outcome_alike k c (Some t) stays = ap Some (alike k c t stays)
 
@@ -192,13 +192,13 @@ all_rows [] h = tt
 all_rows (row ∷ rows) h = ((no_leave row.what h.0, no_bye row.what h.0), all_rows rows h.1)
 
 module _ (s : Setup) (none : s.leaves ≡ []) where
-  alike : profile_of s ≡ Papers → (k : Key) (c : Content) (t : State) → Stays c → step s k c t ≡ plain_step s k c t
+  alike : profile_of s ≡ Papers → (k : Key) (c : EventKind) (t : State) → Stays c → step s k c t ≡ plain_step s k c t
   alike papers k c t stays = same_step s papers k c t (stays_no_leave c stays) (stays_no_bye c stays)
 
-  keeps : (k : Key) (c : Content) (t : State) → k.at ≤ s.end → StaysAt k c → AnyState k.to t → AnyState k.to (step s k c t).state × AllByRecursion (λ e. StaysAt e.0 e.1) (step s k c t).events
+  keeps : (k : Key) (c : EventKind) (t : State) → k.at ≤ s.end → StaysAt k c → AnyState k.to t → AnyState k.to (step s k c t).state × AllByRecursion (λ e. StaysAt e.0 e.1) (step s k c t).events
   keeps k c t in_time stays any = (tt, stays_step s k c t stays)
 
-  plain_keeps : profile_of s ≡ Papers → (k : Key) (c : Content) (t : State) → k.at ≤ s.end → StaysAt k c → AnyState k.to t → AnyState k.to (plain_step s k c t).state × AllByRecursion (λ e. StaysAt e.0 e.1) (plain_step s k c t).events
+  plain_keeps : profile_of s ≡ Papers → (k : Key) (c : EventKind) (t : State) → k.at ≤ s.end → StaysAt k c → AnyState k.to t → AnyState k.to (plain_step s k c t).state × AllByRecursion (λ e. StaysAt e.0 e.1) (plain_step s k c t).events
   plain_keeps papers k c t in_time stays any = (tt, subst (λ (o : Effect). AllByRecursion (λ e. StaysAt e.0 e.1) o.events) (alike papers k c t stays) (stays_step s k c t stays))
 
   opened : IsKept (step s) AnyState StaysAt s.end keeps (opening s)
@@ -207,7 +207,7 @@ module _ (s : Setup) (none : s.leaves ≡ []) where
   plain_opened : (papers : profile_of s ≡ Papers) → IsKept (plain_step s) AnyState StaysAt s.end (plain_keeps papers) (opening s)
   plain_opened papers = record { members = λ m t here. tt; events = opened.events }
 
-  pub no_leaves : (w : Cluster) (k : Key) (c : Content) → IsReached s w → get w.pending k ≡ Some c → (c ≢ Leave) × (c ≢ Bye)
+  pub no_leaves : (w : Cluster) (k : Key) (c : EventKind) → IsReached s w → get w.pending k ≡ Some c → (c ≢ Leave) × (c ≢ Bye)
   no_leaves w k c reached here =
       let stays = (run_kept (step s) AnyState StaysAt s.end keeps reached.0 (opening s) w reached.1 reached.2 opened).events k c here in
       (stays_no_leave c stays, stays_no_bye c stays)

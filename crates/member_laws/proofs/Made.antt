@@ -26,11 +26,11 @@ use Rattle.suspicion.specs.Suspicions.{HeldSuspicion, accused_of, answer_of as a
 use Rattle.suspicion.specs.Times.{timeout}
 use Rattle.member.specs.declared.member.Phase.{Phase}
 use Rattle.member.specs.declared.member.Phase.TheVariants.{Waiting, Joining, Running, Down}
-use Rattle.member.specs.declared.content.Content.{Content}
-use Rattle.member.specs.declared.content.Content.TheVariants.{Start, Crash, Leave, JoinTimer, PeriodTimer, TimeoutTimer, NackTimer, SuspicionTimer, Join, Welcome, Ping, PingReq, Ack, Nack, Bye, DeadlineTimer, GossipTimer, PushTimer, Call, Answer, Gossip, Push, Pull}
-use Rattle.member.specs.declared.telling.Telling.{Telling}
-use Rattle.member.specs.declared.telling.Telling.TheVariants.{Aloud, Quietly}
-use Rattle.member.specs.Telling.{is_aloud}
+use Rattle.member.specs.declared.event_kind.EventKind.{EventKind}
+use Rattle.member.specs.declared.event_kind.EventKind.TheVariants.{Start, Crash, Leave, JoinTimer, PeriodTimer, TimeoutTimer, NackTimer, SuspicionTimer, Join, Welcome, Ping, PingReq, Ack, Nack, Bye, DeadlineTimer, GossipTimer, PushTimer, Call, Answer, Gossip, Push, Pull}
+use Rattle.member.specs.declared.announce.Announce.{Announce}
+use Rattle.member.specs.declared.announce.Announce.TheVariants.{Aloud, Quietly}
+use Rattle.member.specs.Announce.{is_aloud}
 use Rattle.member.specs.State.{State}
 use Rattle.base.specs.Beats.{next_in_step}
 use Rattle.base.specs.declared.profile.Profile.{Profile}
@@ -123,7 +123,7 @@ any_time s k R = record {
 -- what each part keeps
 pub record Makes (s : Setup) (k : Key) (Named : ℕ → Type 0) (SomeLeave : Type 0) (Tells : What → Type 0) (Timed : ℕ → Type 0) (P : Effect → Type 0) : Type 0 where
   pub row : (tells : What) (about : Option ℕ) (value : ℕ) (lost : Bool) (o : Effect) → Tells tells → IfSome about Named → P o → P (with_row k tells about value lost o)
-  pub event : (at to : ℕ) (content : Content) (o : Effect) → Timed at → Named to → NamesOnly Named SomeLeave content → P o → P (with_event s k at to content o)
+  pub event : (at to : ℕ) (content : EventKind) (o : Effect) → Timed at → Named to → NamesOnly Named SomeLeave content → P o → P (with_event s k at to content o)
   pub lost : (o : Effect) → P o → P (on_state with_number o)
   pub state : (t : State) (o : Effect) → t.next_number ≡ o.state.next_number → P o → P (record o { state = t })
 
@@ -150,24 +150,24 @@ module _ (s : Setup) (k : Key) (Named : ℕ → Type 0) (R : State → Type 0) (
   by_either true o p a b = a refl
   by_either false o p a b = b refl
 
-  by_timer : (ticks : ℕ) (content : Content) (o : Effect) → Timed (k.at + ticks) → NamesOnly Named SomeLeave content → P o → P (with_timer s k ticks content o)
+  by_timer : (ticks : ℕ) (content : EventKind) (o : Effect) → Timed (k.at + ticks) → NamesOnly Named SomeLeave content → P o → P (with_timer s k ticks content o)
   unfolding with_timer
   by_timer ticks content o timed named h = makes.event (k.at + ticks) k.to content o timed moves.own named h
 
   -- ---- messages
 
-  by_sent_off : (to : ℕ) (content : Content) (arrival : Option ℕ) (o : Effect) → ((at : ℕ) → arrival ≡ Some at → Timed at) → Named to → NamesOnly Named SomeLeave content → P o → P (sent_off s k to content arrival o)
+  by_sent_off : (to : ℕ) (content : EventKind) (arrival : Option ℕ) (o : Effect) → ((at : ℕ) → arrival ≡ Some at → Timed at) → Named to → NamesOnly Named SomeLeave content → P o → P (sent_off s k to content arrival o)
   by_sent_off to content None o timed there named h = makes.lost o h
   by_sent_off to content (Some at) o timed there named h = makes.event at to content o (timed at refl) there named h
 
-  by_posted : (tells : What) (to value : ℕ) (content : Content) (arrival : Option ℕ × Words) (o : Effect) → ((at : ℕ) → arrival.0 ≡ Some at → Timed at) → Tells tells → Named to
+  by_posted : (tells : What) (to value : ℕ) (content : EventKind) (arrival : Option ℕ × Words) (o : Effect) → ((at : ℕ) → arrival.0 ≡ Some at → Timed at) → Tells tells → Named to
       → NamesOnly Named SomeLeave content → P o → P (posted s k tells to value content arrival o)
   unfolding posted
   by_posted tells to value content arrival o timed told there named h =
       by_sent_off to content arrival.0 _ timed there named
       (makes.row tells (Some to) value (is_none arrival.0) (on_state (λ t. record t { words = arrival.1 }) o) told there (makes.state _ o refl h))
 
-  by_sent : (tells : What) (to value : ℕ) (content : Content) (o : Effect) → Tells tells → Named to → NamesOnly Named SomeLeave content → R o.state → P o → P (sent s k tells to value content o)
+  by_sent : (tells : What) (to value : ℕ) (content : EventKind) (o : Effect) → Tells tells → Named to → NamesOnly Named SomeLeave content → R o.state → P o → P (sent s k tells to value content o)
   by_sent tells to value content o told there named r h = by_posted tells to value content _ o (λ at is. times.arrival o.state to at r is) told there named h
 
   by_ping : (to initiator seq : ℕ) (o : Effect) → Named to → Named initiator → R o.state → P o → P (ping_sent s k to initiator seq o)
@@ -244,7 +244,7 @@ module _ (s : Setup) (k : Key) (Named : ℕ → Type 0) (R : State → Type 0) (
       by_either (nat_eq h.counter o.state.health.counter) (on_state (λ t. record t { health = h }) o) _ (λ _. after)
       (λ differs. makes.row _ None h.counter false (on_state (λ t. record t { health = h }) o) (may.healths o.state h r r' differs) tt after)
 
-  by_told : (telling : Telling) (tells : What) (subject value : ℕ) (o : Effect) → Tells tells → Named subject → P o → P (with_told telling k tells subject value o)
+  by_told : (telling : Announce) (tells : What) (subject value : ℕ) (o : Effect) → Tells tells → Named subject → P o → P (with_told telling k tells subject value o)
   by_told Aloud tells subject value o told named h = makes.row tells (Some subject) value false o told named h
   by_told Quietly tells subject value o told named h = h
 
@@ -258,7 +258,7 @@ module _ (s : Setup) (k : Key) (Named : ℕ → Type 0) (R : State → Type 0) (
   unfolding with_put
   by_put u o h = by_gossip_set s.gossip _ refl (makes.state _ o refl h)
 
-  by_passed : (telling : Telling) (u : Update) (o : Effect) → P o → P (passed_on s k telling u o)
+  by_passed : (telling : Announce) (u : Update) (o : Effect) → P o → P (passed_on s k telling u o)
   unfolding passed_on
   by_passed telling u o h = by_either (is_aloud telling) (with_put s k u o) o (λ _. by_put u o h) (λ _. h)
 
@@ -279,7 +279,7 @@ module _ (s : Setup) (k : Key) (Named : ℕ → Type 0) (R : State → Type 0) (
       (λ _. by_either (is_own_death (profile_of s) claim o.state.heard_dead) (heard_dead k number o) o
       (λ _. makes.row _ (Some k.to) number false _ (may.plain _ tt) moves.own (makes.state _ o refl h)) (λ _. h))
 
-  by_claim : (telling : Telling) (u : Update) (claim : Claim) (o : Effect) → Named u.subject → IsNews (profile_of s) k.to o.state u → u.claim ≡ claim → R o.state → P o
+  by_claim : (telling : Announce) (u : Update) (claim : Claim) (o : Effect) → Named u.subject → IsNews (profile_of s) k.to o.state u → u.claim ≡ claim → R o.state → P o
       → P (claim_heard s telling k u claim (on_state (claim_kept u) o))
   unfolding alive_heard suspect_heard confirm_heard
   by_claim telling u Alive o named says e r h = by_told telling _ u.subject u.inc _ (may.plain _ tt) named (makes.state _ o (kept_number u o.state) h)
@@ -291,22 +291,22 @@ module _ (s : Setup) (k : Key) (Named : ℕ → Type 0) (R : State → Type 0) (
   by_claim telling u Confirm o named says e r h =
       by_told telling _ u.subject u.inc _ (may.plain _ tt) named (makes.state _ o (death_number (profile_of s) u.subject k.at (without_suspicion u.subject (claim_kept u o.state)) ∙ kept_number u o.state) h)
 
-  by_news : (telling : Telling) (u : Update) (o : Effect) → Named u.subject → IsNews (profile_of s) k.to o.state u → R o.state → P o → P (news_heard s telling k u o)
+  by_news : (telling : Announce) (u : Update) (o : Effect) → Named u.subject → IsNews (profile_of s) k.to o.state u → R o.state → P o → P (news_heard s telling k u o)
   unfolding news_heard
   by_news telling u o named says r h = by_passed telling u _ (by_claim telling u u.claim o named says refl r h)
 
-  by_counted : (telling : Telling) (u : Update) (accused : Option HeldSuspicion) (o : Effect) → ((x : HeldSuspicion) → accused ≡ Some x → Tells what.Accuse) → ((x : HeldSuspicion) → accused ≡ Some x → Timed (due_of x k.at)) → Named u.subject → P o
+  by_counted : (telling : Announce) (u : Update) (accused : Option HeldSuspicion) (o : Effect) → ((x : HeldSuspicion) → accused ≡ Some x → Tells what.Accuse) → ((x : HeldSuspicion) → accused ≡ Some x → Timed (due_of x k.at)) → Named u.subject → P o
       → P (accusation_counted s telling k u (option_map (answer_to k.at) accused) o)
   by_counted telling u None o told timed named h = h
   by_counted telling u (Some x) o told timed named h = by_passed telling u _ (makes.event _ k.to (SuspicionTimer u.subject) _ (timed x refl) moves.own tt (by_told telling _ u.subject _ o (told x refl) named h))
 
-  by_accusation : (telling : Telling) (u : Update) (o : Effect) → Named u.subject → R o.state → P o → P (accusation_heard s telling k u o)
+  by_accusation : (telling : Announce) (u : Update) (o : Effect) → Named u.subject → R o.state → P o → P (accusation_heard s telling k u o)
   unfolding accusation_heard
   by_accusation telling u o named r h =
       by_counted telling u (accused_of o.state.suspicions u.subject u.accuser o.state.next_number) _
       (λ x is. may.accuses o.state u x r is) (λ x is. times.accusation_timer o.state u x r is) named (makes.state _ o refl h)
 
-  by_other : (telling : Telling) (u : Update) (held : Option (Claim × ℕ)) (o : Effect) → Named u.subject → ¬ (u.subject ≡ k.to) → get o.state.table u.subject ≡ held → R o.state → P o → P (other_applied s telling k u held o)
+  by_other : (telling : Announce) (u : Update) (held : Option (Claim × ℕ)) (o : Effect) → Named u.subject → ¬ (u.subject ≡ k.to) → get o.state.table u.subject ≡ held → R o.state → P o → P (other_applied s telling k u held o)
   by_other telling u None o named other none r h =
       by_either (is_heeded (profile_of s) telling u.claim) (news_heard s telling k u o) o (λ _. by_news telling u o named (record { other = other; news = rw none refl }) r h) (λ _. h)
   by_other telling u (Some held) o named other here r h =
@@ -314,13 +314,13 @@ module _ (s : Setup) (k : Key) (Named : ℕ → Type 0) (R : State → Type 0) (
       (λ e. by_news telling u o named (record { other = other; news = rw here e }) r h)
       (λ _. by_either (is_repeated (profile_of s) u held) (accusation_heard s telling k u o) o (λ _. by_accusation telling u o named r h) (λ _. h))
 
-  by_applied : (telling : Telling) (u : Update) (o : Effect) → Named u.subject → R o.state → P o → P (applied s telling k u o)
+  by_applied : (telling : Announce) (u : Update) (o : Effect) → Named u.subject → R o.state → P o → P (applied s telling k u o)
   unfolding applied
   by_applied telling u o named r h =
       by_either (nat_eq u.subject k.to) (own_applied s k u.claim u.inc o) (other_applied s telling k u (get o.state.table u.subject) o)
       (λ _. by_own u.claim u.inc o r h) (λ e. by_other telling u (get o.state.table u.subject) o named (eqb-false u.subject k.to e) refl r h)
 
-  by_all : (telling : Telling) (us : List Update) (o : Effect) → AllNamed Named us → R o.state → P o → P (all_applied s telling k us o)
+  by_all : (telling : Announce) (us : List Update) (o : Effect) → AllNamed Named us → R o.state → P o → P (all_applied s telling k us o)
   unfolding all_applied
   by_all telling [] o named r h = h
   by_all telling (u ∷ us) o named r h = by_all telling us (applied s telling k u o) named.1 (on_applied s k Named R news moves telling u o named.0 r) (by_applied telling u o named.0 r h)
@@ -643,7 +643,7 @@ module _ (s : Setup) (k : Key) (Named : ℕ → Type 0) (R : State → Type 0) (
 
   -- ---- the step
 
-  by_plain : (content : Content) (phase : Phase) (o : Effect) → Named k.from → NamesOnly Named SomeLeave content → (¬ (phase ≡ Waiting) → R o.state)
+  by_plain : (content : EventKind) (phase : Phase) (o : Effect) → Named k.from → NamesOnly Named SomeLeave content → (¬ (phase ≡ Waiting) → R o.state)
       → (phase ≡ Waiting → R (at_once s k o.state)) → (phase ≡ Waiting → R (at_late o.state)) → P o → P (plain_handled s k content phase o)
   unfolding plain_handled
   by_plain Start Waiting o sender named r once late h = by_started o (once refl) (late refl) h
@@ -709,7 +709,7 @@ module _ (s : Setup) (k : Key) (Named : ℕ → Type 0) (R : State → Type 0) (
   by_plain (Push entries) phase o sender named r once late h = h
   by_plain (Pull entries) phase o sender named r once late h = h
 
-  by_handled : (content : Content) (phase : Phase) (o : Effect) → Named k.from → NamesOnly Named SomeLeave content → (¬ (phase ≡ Waiting) → R o.state)
+  by_handled : (content : EventKind) (phase : Phase) (o : Effect) → Named k.from → NamesOnly Named SomeLeave content → (¬ (phase ≡ Waiting) → R o.state)
       → (phase ≡ Waiting → R (at_once s k o.state)) → (phase ≡ Waiting → R (at_late o.state)) → P o → P (handled s k content phase o)
   unfolding handled
   by_handled Leave Joining o sender named r once late h = by_withdrawn named o h
@@ -717,7 +717,7 @@ module _ (s : Setup) (k : Key) (Named : ℕ → Type 0) (R : State → Type 0) (
   by_handled Bye Running o sender named r once late h = by_confirmed k.from (get o.state.table k.from) o refl (r runs) h
   by_handled content phase o sender named r once late h = by_plain content phase o sender named r once late h
 
-  by_timed : (content : Content) (o : Effect) → Named k.from → NamesOnly Named SomeLeave content → R o.state → P o → P (timed_handled s k content o)
+  by_timed : (content : EventKind) (o : Effect) → Named k.from → NamesOnly Named SomeLeave content → R o.state → P o → P (timed_handled s k content o)
   unfolding timed_handled
   by_timed PeriodTimer o sender named r h = by_beaten o r h
   by_timed (TimeoutTimer seq) o sender named r h = by_timed_out_timed seq o.state.probe o refl r h
@@ -732,7 +732,7 @@ module _ (s : Setup) (k : Key) (Named : ℕ → Type 0) (R : State → Type 0) (
   by_timed (Pull entries) o sender named r h = by_merged entries o named r h
   by_timed content o sender named r h = by_handled content Running o sender named (λ _. r) (λ waits. absurd (runs waits)) (λ waits. absurd (runs waits)) h
 
-  by_by : (content : Content) (phase : Phase) (profile : Profile) (o : Effect) → Named k.from → NamesOnly Named SomeLeave content → (¬ (phase ≡ Waiting) → R o.state)
+  by_by : (content : EventKind) (phase : Phase) (profile : Profile) (o : Effect) → Named k.from → NamesOnly Named SomeLeave content → (¬ (phase ≡ Waiting) → R o.state)
       → (phase ≡ Waiting → R (at_once s k o.state)) → (phase ≡ Waiting → R (at_late o.state)) → P o → P (handled_by phase profile s k content o)
   by_by content Running Memberlist o sender named r once late h = by_timed content o sender named (r runs) h
   by_by content Running Papers o sender named r once late h = by_handled content Running o sender named r once late h
@@ -741,7 +741,7 @@ module _ (s : Setup) (k : Key) (Named : ℕ → Type 0) (R : State → Type 0) (
   by_by content Down profile o sender named r once late h = by_handled content Down o sender named r once late h
 
   -- Of a member that waits the fact is needed where it starts alone.
-  pub by_step : (content : Content) (t : State) → Named k.from → NamesOnly Named SomeLeave content → (¬ (t.phase ≡ Waiting) → R t)
+  pub by_step : (content : EventKind) (t : State) → Named k.from → NamesOnly Named SomeLeave content → (¬ (t.phase ≡ Waiting) → R t)
       → (t.phase ≡ Waiting → R (at_once s k t)) → (t.phase ≡ Waiting → R (at_late t)) → P (unchanged t) → P (step s k content t)
   unfolding step
   by_step content t sender named r once late h = by_by content t.phase (profile_of s) (unchanged t) sender named r once late h

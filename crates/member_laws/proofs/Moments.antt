@@ -34,8 +34,8 @@ use Rattle.suspicion.specs.Suspicions.{HeldSuspicion, accusers_counted, accused_
 use Rattle.suspicion.specs.Times.{size_log, min_timeout, timeout}
 use Rattle.suspicion.proofs.Tables.{size_log-le}
 use Rattle.suspicion.proofs.Timeouts.{min_timeout-lt, max_timeout-le, timeout-le-max}
-use Rattle.member.specs.declared.content.Content.{Content}
-use Rattle.member.specs.declared.content.Content.TheVariants.{Crash, Leave}
+use Rattle.member.specs.declared.event_kind.EventKind.{EventKind}
+use Rattle.member.specs.declared.event_kind.EventKind.TheVariants.{Crash, Leave}
 use Rattle.member.specs.State.{State}
 use Rattle.membership.specs.Table.{live_count}
 use Rattle.membership.proofs.Few.{live_count-le, live_count-positive}
@@ -263,7 +263,7 @@ module _ (s : Setup) (sound : IsSound s) (k : Key) (here : k.to < member_count s
     state = λ t o same h. h;
   }
 
-  module _ (c : Content) (t : State) (ours : IsAmongMembers s k c) (h : IsConsistent s k.to t) (timely : IsTimely s t) where
+  module _ (c : EventKind) (t : State) (ours : IsAmongMembers s k c) (h : IsConsistent s k.to t) (timely : IsTimely s t) where
     pub step_soon : AllSoon (step s k c t)
     step_soon =
         by_step s k (Below s) (InTime s k.to) timely_news timely_moves (Unit {0}) AnyRow (any_row (InTime s k.to) (Unit {0})) timely_carries Soon times AllSoon makes c t ours.sender (names_only (member_count s) c ours.names)
@@ -275,10 +275,10 @@ module _ (s : Setup) (sound : IsSound s) (k : Key) (here : k.to < member_count s
         (λ up. (keeps s sound k t h up, timely)) (λ waits. (started_at_once s sound k t h waits, timely)) (λ waits. (started_late s sound k t h waits, timely))
         ours.sender (names_only (member_count s) c ours.names)
 
-pub all_soon : (s : Setup) (k : Key) (c : Content) (t : State) → IsSound s → IsAmongMembers s k c → k.at ≤ s.end → IsConsistent s k.to t → IsTimely s t
-    → All (λ (e : Key × Content). Soon e.0.at) (step s k c t).events
+pub all_soon : (s : Setup) (k : Key) (c : EventKind) (t : State) → IsSound s → IsAmongMembers s k c → k.at ≤ s.end → IsConsistent s k.to t → IsTimely s t
+    → All (λ (e : Key × EventKind). Soon e.0.at) (step s k c t).events
 all_soon s k c t sound ours in_time h timely =
-    All-from_recursion (λ (e : Key × Content). Soon e.0.at) (step s k c t).events (step_soon s sound k ours.receiver in_time c t ours h timely)
+    All-from_recursion (λ (e : Key × EventKind). Soon e.0.at) (step s k c t).events (step_soon s sound k ours.receiver in_time c t ours h timely)
 
 -- ---- runs
 
@@ -290,7 +290,7 @@ opening_timely : (s : Setup) (m : ℕ) → IsTimely s (opening_state s m)
 unfolding opening_state
 opening_timely s m q x at = absurd (false≢true (sym (ap is_some (get-empty nat_cmp q)) ∙ ap is_some at))
 
-ending_soon : (s : Setup) (m : ℕ) (content : Content) (at : Option ℕ) → IfSome at (λ t. (start_of s m < t) × (t ≤ 2 ^ 40)) → AllByRecursion (λ e. Soon e.0.at) (ending_event content m at)
+ending_soon : (s : Setup) (m : ℕ) (content : EventKind) (at : Option ℕ) → IfSome at (λ t. (start_of s m < t) × (t ≤ 2 ^ 40)) → AllByRecursion (λ e. Soon e.0.at) (ending_event content m at)
 ending_soon s m content None h = tt
 ending_soon s m content (Some at) h = (omega (arith, h.1), tt)
 
@@ -307,11 +307,11 @@ script_soon s sound (x ∷ xs) =
 abbrev IsInTime : Setup → ℕ → State → Type 0
 IsInTime s m t = IsMember s m t × IsTimely s t
 
-abbrev ComesSoon : Setup → Key → Content → Type 0
+abbrev ComesSoon : Setup → Key → EventKind → Type 0
 ComesSoon s k c = IsAmongMembers s k c × Soon k.at
 
 module _ (s : Setup) (sound : IsSound s) where
-  soon_step : (k : Key) (c : Content) (t : State) → k.at ≤ s.end → ComesSoon s k c → IsInTime s k.to t
+  soon_step : (k : Key) (c : EventKind) (t : State) → k.at ≤ s.end → ComesSoon s k c → IsInTime s k.to t
       → IsInTime s k.to (step s k c t).state × AllByRecursion (λ e. ComesSoon s e.0 e.1) (step s k c t).events
   soon_step k c t in_time ours h =
       let made = kept_step s sound k c t in_time ours.0 h.0 in (
@@ -331,7 +331,7 @@ module _ (s : Setup) (sound : IsSound s) where
   soon_reached : (w : Cluster) → IsReached s w → IsKept (step s) (IsInTime s) (ComesSoon s) s.end soon_step w
   soon_reached w reached = run_kept (step s) (IsInTime s) (ComesSoon s) s.end soon_step reached.0 (opening s) w reached.1 reached.2 soon_opening
 
-  pub pending_soon : (w : Cluster) (k : Key) (c : Content) → IsReached s w → get w.pending k ≡ Some c → Soon k.at
+  pub pending_soon : (w : Cluster) (k : Key) (c : EventKind) → IsReached s w → get w.pending k ≡ Some c → Soon k.at
   pending_soon w k c reached at = ((soon_reached w reached).events k c at).1
 
   pub timely_reached : (w : Cluster) (m : ℕ) (t : State) → IsReached s w → get w.members m ≡ Some t → IsTimely s t

@@ -14,18 +14,18 @@ use Rattle.incarnation.specs.declared.Claim.{Claim}
 use Rattle.incarnation.specs.declared.Claim.TheVariants.{Alive, Suspect, Confirm}
 use Rattle.incarnation.specs.declared.Update.{Update}
 use Rattle.lifeguard.specs.Health.{LocalHealth}
-use Rattle.member.specs.declared.content.Content.{Content}
+use Rattle.member.specs.declared.event_kind.EventKind.{EventKind}
 use Rattle.membership.specs.Table.{Known}
 use Rattle.member.specs.declared.member.Phase.{Phase}
 use Rattle.member.specs.declared.member.Phase.TheVariants.{Waiting}
 use Rattle.member.specs.State.{State}
-use Rattle.member.specs.declared.content.Content.TheVariants.{GossipTimer}
-use Rattle.member.specs.declared.telling.Telling.{Telling}
+use Rattle.member.specs.declared.event_kind.EventKind.TheVariants.{GossipTimer}
+use Rattle.member.specs.declared.announce.Announce.{Announce}
 use Rattle.member.specs.Effects.{Effect, on_state, with_row, with_event}
 use Rattle.member.specs.Opening.{opening_state}
 use Rattle.member.specs.Apply.{gossip_set, with_put, with_health, refuted, heard_dead, is_own_death, own_applied, other_applied, applied}
 use Rattle.member.specs.Step.{step}
-use Rattle.member.proofs.Worn.{refutes_over}
+use Rattle.member.proofs.CounterOverflow.{refutes_over}
 use Rattle.member_laws.specs.Words.{AccusesOneself, IsRefuted, WaitsAsOpened}
 use Rattle.member_laws.proofs.Moves.{NewsMoves, FactOf, OwnMoves, keeps_news, keeps_moves, Anyone}
 use Rattle.member_laws.proofs.Walk.{on_other, on_step, anyone_named}
@@ -50,7 +50,7 @@ after_health k h o = either (nat_eq h.counter o.state.health.counter)
     either true = refl
     either false = ap (λ (t : State). t.incarnation) (after_row k _ _ h.counter false (on_state (λ t. record t { health = h }) o))
 
-after_event : (s : Setup) (k : Key) (at to : ℕ) (content : Content) (o : Effect) → (with_event s k at to content o).state.incarnation ≡ o.state.incarnation
+after_event : (s : Setup) (k : Key) (at to : ℕ) (content : EventKind) (o : Effect) → (with_event s k at to content o).state.incarnation ≡ o.state.incarnation
 unfolding with_event
 after_event s k at to content o = refl
 
@@ -83,12 +83,12 @@ not_true : (b : Bool) → ¬ (b ≡ true) → b ≡ false
 not_true true never = absurd (never refl)
 not_true false never = refl
 
-pub refutes : (s : Setup) (telling : Telling) (k : Key) (u : Update) (o : Effect) → IsRefuted (profile_of s) k.to o.state u
+pub refutes : (s : Setup) (telling : Announce) (k : Key) (u : Update) (o : Effect) → IsRefuted (profile_of s) k.to o.state u
     → (applied s telling k u o).state.incarnation ≡ u.inc + 1
 unfolding applied
 refutes s telling k u o is = rw (eq-eqb u.subject k.to is.own, is.refutes) (one_more s k (u.inc + 1) o)
 
-pub else_same : (s : Setup) (telling : Telling) (k : Key) (u : Update) (o : Effect) → ¬ (IsRefuted (profile_of s) k.to o.state u)
+pub else_same : (s : Setup) (telling : Announce) (k : Key) (u : Update) (o : Effect) → ¬ (IsRefuted (profile_of s) k.to o.state u)
     → (applied s telling k u o).state.incarnation ≡ o.state.incarnation
 unfolding applied
 else_same s telling k u o other = either (nat_eq u.subject k.to) refl
@@ -134,7 +134,7 @@ opened : (s : Setup) (m : ℕ) → (opening_state s m).incarnation ≡ 0
 unfolding opening_state
 opened s m = refl
 
-pub never_falls : (s : Setup) (k : Key) (c : Content) (t : State) → WaitsAsOpened s k.to t → t.incarnation ≤ (step s k c t).state.incarnation
+pub never_falls : (s : Setup) (k : Key) (c : EventKind) (t : State) → WaitsAsOpened s k.to t → t.incarnation ≤ (step s k c t).state.incarnation
 never_falls s k c t waits =
     (on_step s k Anyone (FactOf (NoLess t.incarnation)) (keeps_news s k (NoLess t.incarnation) (λ t u says h. h)) (keeps_moves s k (NoLess t.incarnation) (moves s k t.incarnation)) c t tt (anyone_named c)
     (omega arith, λ is. ap (λ (t : State). t.incarnation) (waits is) ∙ opened s k.to)).0

@@ -12,8 +12,8 @@ use Rattle.base.specs.Run.{holds-with_events}
 use Rattle.base.specs.Rising.{IsNumbered}
 use Rattle.base.proofs.Rising.{all_append}
 use Rattle.scenario.specs.Setup.{Setup, member_count, start_of, crash_of, leave_of}
-use Rattle.member.specs.declared.content.Content.{Content}
-use Rattle.member.specs.declared.content.Content.TheVariants.{Crash, Leave}
+use Rattle.member.specs.declared.event_kind.EventKind.{EventKind}
+use Rattle.member.specs.declared.event_kind.EventKind.TheVariants.{Crash, Leave}
 use Rattle.member.specs.State.{State}
 use Rattle.member.specs.Opening.{opening, opening_state, first_number, numbers, script_key, ending_event, script_of}
 
@@ -54,21 +54,21 @@ module _ (s : Setup) where
   two_after None None at (inl is) = absurd (false≢true (ap is_some is))
   two_after None None at (inr is) = absurd (false≢true (ap is_some is))
 
-  ending_numbered : (m : ℕ) (content : Content) (ending : Option ℕ) → ((at : ℕ) → ending ≡ Some at → first_number s m ≡ 2) → m < member_count s
-      → AllByRecursion {X = Key × Content} (λ e. Numbered e.0) (ending_event content m ending)
+  ending_numbered : (m : ℕ) (content : EventKind) (ending : Option ℕ) → ((at : ℕ) → ending ≡ Some at → first_number s m ≡ 2) → m < member_count s
+      → AllByRecursion {X = Key × EventKind} (λ e. Numbered e.0) (ending_event content m ending)
   ending_numbered m content None two there = tt
   ending_numbered m content (Some at) two there = (number_used m at 1 there (let is = two at refl in omega arith), tt)
 
-  endings_numbered : (m : ℕ) → m < member_count s → AllByRecursion {X = Key × Content} (λ e. Numbered e.0) (ending_event Crash m (crash_of s m) ++ ending_event Leave m (leave_of s m))
+  endings_numbered : (m : ℕ) → m < member_count s → AllByRecursion {X = Key × EventKind} (λ e. Numbered e.0) (ending_event Crash m (crash_of s m) ++ ending_event Leave m (leave_of s m))
   endings_numbered m there =
       all_append (λ e. Numbered e.0) (ending_event Crash m (crash_of s m)) (ending_event Leave m (leave_of s m))
       (ending_numbered m Crash (crash_of s m) (λ at is. two_after (crash_of s m) (leave_of s m) at (inl is)) there)
       (ending_numbered m Leave (leave_of s m) (λ at is. two_after (crash_of s m) (leave_of s m) at (inr is)) there)
 
-  script_numbered : (m : ℕ) → m < member_count s → AllByRecursion {X = Key × Content} (λ e. Numbered e.0) (script_of s m)
+  script_numbered : (m : ℕ) → m < member_count s → AllByRecursion {X = Key × EventKind} (λ e. Numbered e.0) (script_of s m)
   script_numbered m there = (number_used m (start_of s m) 0 there (first_after (option_or (crash_of s m) (leave_of s m))), endings_numbered m there)
 
-  scripts_numbered : (a n : ℕ) → a + n ≤ member_count s → AllByRecursion {X = Key × Content} (λ e. Numbered e.0) (flat_map (script_of s) (range_with_len a n))
+  scripts_numbered : (a n : ℕ) → a + n ≤ member_count s → AllByRecursion {X = Key × EventKind} (λ e. Numbered e.0) (flat_map (script_of s) (range_with_len a n))
   scripts_numbered a zero h = tt
   scripts_numbered a (suc n) h =
       all_append (λ e. Numbered e.0) (script_of s a) (flat_map (script_of s) (range_with_len (a + 1) n)) (script_numbered a (omega arith)) (scripts_numbered (a + 1) n (omega arith))

@@ -27,8 +27,8 @@ use Rattle.incarnation.specs.declared.Claim.{Claim}
 use Rattle.incarnation.specs.declared.Claim.TheVariants.{Suspect}
 use Rattle.incarnation.specs.declared.Update.{Update}
 use Rattle.suspicion.specs.Suspicions.{first_accuser_of}
-use Rattle.member.specs.declared.content.Content.{Content}
-use Rattle.member.specs.declared.content.Content.TheVariants.{Crash, Leave}
+use Rattle.member.specs.declared.event_kind.EventKind.{EventKind}
+use Rattle.member.specs.declared.event_kind.EventKind.TheVariants.{Crash, Leave}
 use Rattle.member.specs.Here.{MentionsMembers}
 use Rattle.member.proofs.Members.{few_members}
 use Rattle.member.specs.State.{State}
@@ -134,7 +134,7 @@ module _ (s : Setup) (sound : IsSound s) (k : Key) (here : k.to < member_count s
   unfolding with_row
   ours_row tells about value lost o told named h = h
 
-  ours_event : (at to : ℕ) (content : Content) (o : Effect) → AnyTime at → Below s to → NamesOnly (Below s) (Unit {0}) content → AllOurs o → AllOurs (with_event s k at to content o)
+  ours_event : (at to : ℕ) (content : EventKind) (o : Effect) → AnyTime at → Below s to → NamesOnly (Below s) (Unit {0}) content → AllOurs o → AllOurs (with_event s k at to content o)
   unfolding with_event
   ours_event at to content o timed there named h =
       all_append (λ e. IsAmongMembers s e.0 e.1) o.events _ h (record { receiver = there; sender = here; names = names_members (member_count s) content named }, tt)
@@ -142,7 +142,7 @@ module _ (s : Setup) (sound : IsSound s) (k : Key) (here : k.to < member_count s
   makes : Makes s k (Below s) (Unit {0}) AnyRow AnyTime AllOurs
   makes = record { row = ours_row; event = ours_event; lost = λ o h. h; state = λ t o same h. h }
 
-  step_ours : (c : Content) (t : State) → IsAmongMembers s k c → IsConsistent s k.to t → AllByRecursion (λ e. IsAmongMembers s e.0 e.1) (step s k c t).events
+  step_ours : (c : EventKind) (t : State) → IsAmongMembers s k c → IsConsistent s k.to t → AllByRecursion (λ e. IsAmongMembers s e.0 e.1) (step s k c t).events
   step_ours c t ours h =
       by_step s k (Below s) (Keeps s k.to) (news s sound k) (moves s sound k here) (Unit {0}) AnyRow (any_row (Keeps s k.to) (Unit {0})) carries AnyTime (any_time s k (Keeps s k.to)) AllOurs makes c t ours.sender (names_only (member_count s) c ours.names)
       (keeps s sound k t h) (started_at_once s sound k t h) (started_late s sound k t h) tt
@@ -157,21 +157,21 @@ module _ (s : Setup) (sound : IsSound s) (k : Key) (here : k.to < member_count s
     unfolding with_row
     naming_row tells about value lost o told named h = all_append (NamesMembers s) o.rows _ h (record { member = here; from = maker; about = named }, tt)
 
-    naming_event : (at to : ℕ) (content : Content) (o : Effect) → AllNaming o → AllNaming (with_event s k at to content o)
+    naming_event : (at to : ℕ) (content : EventKind) (o : Effect) → AllNaming o → AllNaming (with_event s k at to content o)
     unfolding with_event
     naming_event at to content o h = h
 
     names : Makes s k (Below s) (Unit {0}) AnyRow AnyTime AllNaming
     names = record { row = naming_row; event = λ at to content o timed there named h. naming_event at to content o h; lost = λ o h. h; state = λ t o same h. h }
 
-    step_names : (c : Content) (t : State) → IsAmongMembers s k c → IsConsistent s k.to t → AllNaming (step s k c t)
+    step_names : (c : EventKind) (t : State) → IsAmongMembers s k c → IsConsistent s k.to t → AllNaming (step s k c t)
     step_names c t ours h =
         by_step s k (Below s) (Keeps s k.to) (news s sound k) (moves s sound k here) (Unit {0}) AnyRow (any_row (Keeps s k.to) (Unit {0})) carries AnyTime (any_time s k (Keeps s k.to)) AllNaming names c t maker (names_only (member_count s) c ours.names)
         (keeps s sound k t h) (started_at_once s sound k t h) (started_late s sound k t h) tt
 
-pub step_among : (s : Setup) (k : Key) (c : Content) (t : State) → IsSound s → IsAmongMembers s k c → IsConsistent s k.to t
-    → All (λ (e : Key × Content). IsAmongMembers s e.0 e.1) (step s k c t).events
-step_among s k c t sound among h = All-from_recursion (λ (e : Key × Content). IsAmongMembers s e.0 e.1) (step s k c t).events (step_ours s sound k among.receiver c t among h)
+pub step_among : (s : Setup) (k : Key) (c : EventKind) (t : State) → IsSound s → IsAmongMembers s k c → IsConsistent s k.to t
+    → All (λ (e : Key × EventKind). IsAmongMembers s e.0 e.1) (step s k c t).events
+step_among s k c t sound among h = All-from_recursion (λ (e : Key × EventKind). IsAmongMembers s e.0 e.1) (step s k c t).events (step_ours s sound k among.receiver c t among h)
 
 -- ---- the opening world
 
@@ -190,7 +190,7 @@ range_low : (s : Setup) (a n : ℕ) → a + n ≤ member_count s → AllByRecurs
 range_low s a zero h = tt
 range_low s a (suc n) h = (omega arith, range_low s (a + 1) n (omega arith))
 
-ending_ours : (s : Setup) (m : ℕ) (content : Content) (at : Option ℕ) → MentionsMembers (member_count s) content → m < member_count s → AllByRecursion (λ e. IsAmongMembers s e.0 e.1) (ending_event content m at)
+ending_ours : (s : Setup) (m : ℕ) (content : EventKind) (at : Option ℕ) → MentionsMembers (member_count s) content → m < member_count s → AllByRecursion (λ e. IsAmongMembers s e.0 e.1) (ending_event content m at)
 ending_ours s m content None _ low = tt
 ending_ours s m content (Some at) names low = (record { receiver = low; sender = low; names = names }, tt)
 
@@ -204,7 +204,7 @@ script_ours s [] low = tt
 script_ours s (x ∷ xs) low =
     all_append (λ e. IsAmongMembers s e.0 e.1) (script_of s x) (flat_map (script_of s) xs) (record { receiver = low.0; sender = low.0; names = tt }, endings_ours s x low.0) (script_ours s xs low.1)
 
-pub none_pending : (E : Key → Content → Type 0) → HoldsOfAll E empty
+pub none_pending : (E : Key → EventKind → Type 0) → HoldsOfAll E empty
 none_pending E k c here = absurd (false≢true (ap is_some (sym (get-empty key_cmp k) ∙ here)))
 
 -- ---- runs
@@ -213,7 +213,7 @@ abbrev pub IsMember : Setup → ℕ → State → Type 0
 IsMember s m t = (m < member_count s) × IsConsistent s m t
 
 module _ (s : Setup) (sound : IsSound s) where
-  pub kept_step : (k : Key) (c : Content) (t : State) → k.at ≤ s.end → IsAmongMembers s k c → IsMember s k.to t
+  pub kept_step : (k : Key) (c : EventKind) (t : State) → k.at ≤ s.end → IsAmongMembers s k c → IsMember s k.to t
       → IsMember s k.to (step s k c t).state × AllByRecursion (λ e. IsAmongMembers s e.0 e.1) (step s k c t).events
   kept_step k c t in_time ours h =
       ((h.0, step_consistent s k c t sound ours h.1), step_ours s sound k h.0 c t ours h.1)
@@ -233,7 +233,7 @@ module _ (s : Setup) (sound : IsSound s) where
   pub consistent_reached : (w : Cluster) (m : ℕ) (t : State) → IsReached s w → get w.members m ≡ Some t → IsConsistent s m t
   consistent_reached w m t reached here = ((kept_reached w reached).members m t here).1
 
-  pub pending_among : (w : Cluster) (k : Key) (c : Content) → IsReached s w → get w.pending k ≡ Some c → IsAmongMembers s k c
+  pub pending_among : (w : Cluster) (k : Key) (c : EventKind) → IsReached s w → get w.pending k ≡ Some c → IsAmongMembers s k c
   pending_among w k c reached here = (kept_reached w reached).events k c here
 
   pub rows_on : (keys : List Key) (rows : List Row) (w : Cluster) → Run (step s) s.end (opening s) keys rows w → All (λ (row : Row). IsOn s row.what) rows

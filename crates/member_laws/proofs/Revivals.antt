@@ -13,7 +13,7 @@ use Rattle.incarnation.specs.declared.Claim.TheVariants.{Alive, Suspect, Confirm
 use Rattle.incarnation.specs.declared.Update.{Update}
 use Rattle.lifeguard.specs.Health.{LocalHealth}
 use Rattle.membership.specs.Table.{Known, does_override}
-use Rattle.member.specs.declared.content.Content.{Content}
+use Rattle.member.specs.declared.event_kind.EventKind.{EventKind}
 use Rattle.member.specs.declared.member.Phase.{Phase}
 use Rattle.member.specs.declared.member.Phase.TheVariants.{Waiting}
 use Rattle.member.specs.State.{State}
@@ -77,7 +77,7 @@ moves s k q j = record {
 started : (s : Setup) (m : ℕ) (t : State) (q : ℕ) (held : Claim × ℕ) → WaitsAsOpened s m t → get t.table q ≡ Some held → ¬ (t.phase ≡ Waiting)
 started s m t q held waits here is = false≢true (ap is_some (sym (ap (λ (t : State). get t.table q) (waits is) ∙ opened s m q) ∙ here))
 
-pub stays_over : (s : Setup) → profile_of s ≡ Memberlist → (k : Key) (c : Content) (t : State) (q j : ℕ) → WaitsAsOpened s k.to t → HeldOver q j t.table → HeldOver q j (step s k c t).state.table
+pub stays_over : (s : Setup) → profile_of s ≡ Memberlist → (k : Key) (c : EventKind) (t : State) (q j : ℕ) → WaitsAsOpened s k.to t → HeldOver q j t.table → HeldOver q j (step s k c t).state.table
 stays_over s rules k c t q j waits (held, here, over) =
     (on_step s k Anyone (FactOf (Holds q j)) (keeps_news s k (Holds q j) (λ v u says h. claimed k.to q j v u (subst (λ profile. IsNews profile k.to v u) rules says) h))
     (keeps_moves s k (Holds q j) (moves s k q j)) c t tt (anyone_named c) ((held, here, over), started s k.to t q held waits here)).0
@@ -89,7 +89,7 @@ confirmed_over q j table here = ((Confirm, j), here, omega arith)
 pub alive_over : (q j i : ℕ) (table : Known) → HeldOver q j table → get table q ≡ Some (Alive, i) → j < i
 alive_over q j i table (held, here, over) alive = subst (Over j) (same_Some held (Alive, i) (sym here ∙ alive)) over
 
-pub revived_over : (s : Setup) → profile_of s ≡ Memberlist → (k : Key) (c : Content) (t : State) (q j i : ℕ) → WaitsAsOpened s k.to t → get t.table q ≡ Some (Confirm, j)
+pub revived_over : (s : Setup) → profile_of s ≡ Memberlist → (k : Key) (c : EventKind) (t : State) (q j i : ℕ) → WaitsAsOpened s k.to t → get t.table q ≡ Some (Confirm, j)
     → get (step s k c t).state.table q ≡ Some (Alive, i) → j < i
 revived_over s rules k c t q j i waits before after =
     alive_over q j i (step s k c t).state.table (stays_over s rules k c t q j waits (confirmed_over q j t.table before)) after

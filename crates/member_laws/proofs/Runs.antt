@@ -15,7 +15,7 @@ use Rattle.base.specs.declared.profile.Profile.TheVariants.{Papers, Memberlist}
 use Rattle.scenario.specs.Profile.{profile_of}
 use Rattle.scenario.specs.Setup.{Setup}
 use Rattle.incarnation.specs.declared.Claim.TheVariants.{Alive, Confirm}
-use Rattle.member.specs.declared.content.Content.{Content}
+use Rattle.member.specs.declared.event_kind.EventKind.{EventKind}
 use Rattle.member.specs.State.{State}
 use Rattle.member.specs.Opening.{opening_state, opening, numbers}
 use Rattle.member.specs.Step.{step}
@@ -94,10 +94,10 @@ opened s (x ∷ xs) m t here =
 
 -- ---- facts of states alone
 
-abbrev AnyEvent : Key → Content → Type 0
+abbrev AnyEvent : Key → EventKind → Type 0
 AnyEvent k c = Unit {0}
 
-all_any : (es : List (Key × Content)) → AllByRecursion (λ e. AnyEvent e.0 e.1) es
+all_any : (es : List (Key × EventKind)) → AllByRecursion (λ e. AnyEvent e.0 e.1) es
 all_any [] = tt
 all_any (e ∷ es) = (tt, all_any es)
 

@@ -3,14 +3,14 @@ use Rattle.std.proofs.Common.{◌≡◌, refl, ap, ◌∙◌}
 use Rattle.base.specs.declared.key.Key.{Key}
 use Rattle.scenario.specs.Setup.{Setup}
 use Rattle.member.specs.declared.member.Phase.TheVariants.{Waiting, Down}
-use Rattle.member.specs.declared.content.Content.{Content}
-use Rattle.member.specs.declared.content.Content.TheVariants.{Start, Crash, Leave, JoinTimer, PeriodTimer, TimeoutTimer, NackTimer, SuspicionTimer, Join, Welcome, Ping, PingReq, Ack, Nack, Bye, DeadlineTimer, GossipTimer, PushTimer, Call, Answer, Gossip, Push, Pull}
+use Rattle.member.specs.declared.event_kind.EventKind.{EventKind}
+use Rattle.member.specs.declared.event_kind.EventKind.TheVariants.{Start, Crash, Leave, JoinTimer, PeriodTimer, TimeoutTimer, NackTimer, SuspicionTimer, Join, Welcome, Ping, PingReq, Ack, Nack, Bye, DeadlineTimer, GossipTimer, PushTimer, Call, Answer, Gossip, Push, Pull}
 use Rattle.member.specs.State.{State}
 use Rattle.member.specs.Effects.{Effect, unchanged}
 use Rattle.scenario.specs.Profile.{profile_of}
 use Rattle.member.specs.Step.{plain_handled, handled, handled_by, step}
 
-down : (s : Setup) (k : Key) (c : Content) (o : Effect) → handled s k c Down o ≡ o
+down : (s : Setup) (k : Key) (c : EventKind) (o : Effect) → handled s k c Down o ≡ o
 unfolding handled plain_handled
 down s k Start o = refl
 down s k Crash o = refl
@@ -36,7 +36,7 @@ down s k (Gossip updates) o = refl
 down s k (Push entries) o = refl
 down s k (Pull entries) o = refl
 
-waiting : (s : Setup) (k : Key) (c : Content) (o : Effect) → ¬ (c ≡ Start) → handled s k c Waiting o ≡ o
+waiting : (s : Setup) (k : Key) (c : EventKind) (o : Effect) → ¬ (c ≡ Start) → handled s k c Waiting o ≡ o
 unfolding handled plain_handled
 waiting s k Start o other = absurd (other refl)
 waiting s k Crash o other = refl
@@ -62,10 +62,10 @@ waiting s k (Gossip updates) o other = refl
 waiting s k (Push entries) o other = refl
 waiting s k (Pull entries) o other = refl
 
-pub down_step : (s : Setup) (k : Key) (c : Content) (t : State) → t.phase ≡ Down → step s k c t ≡ unchanged t
+pub down_step : (s : Setup) (k : Key) (c : EventKind) (t : State) → t.phase ≡ Down → step s k c t ≡ unchanged t
 unfolding step
 down_step s k c t is = ap (λ phase. handled_by phase (profile_of s) s k c (unchanged t)) is ∙ down s k c (unchanged t)
 
-pub waiting_step : (s : Setup) (k : Key) (c : Content) (t : State) → t.phase ≡ Waiting → ¬ (c ≡ Start) → step s k c t ≡ unchanged t
+pub waiting_step : (s : Setup) (k : Key) (c : EventKind) (t : State) → t.phase ≡ Waiting → ¬ (c ≡ Start) → step s k c t ≡ unchanged t
 unfolding step
 waiting_step s k c t is other = ap (λ phase. handled_by phase (profile_of s) s k c (unchanged t)) is ∙ waiting s k c (unchanged t) other

@@ -19,7 +19,7 @@ use Rattle.lifeguard.proofs.RelaySets.{relays_total}
 use Rattle.suspicion.specs.declared.terms.Terms.{Terms}
 use Rattle.suspicion.specs.Settings.{terms_of}
 use Rattle.suspicion.specs.Suspicions.{HeldSuspicion, HeldSuspicions, counts, with_accuser, accused}
-use Rattle.member.specs.declared.content.Content.{Content}
+use Rattle.member.specs.declared.event_kind.EventKind.{EventKind}
 use Rattle.member.specs.State.{State}
 use Rattle.member.specs.Effects.{Effect, with_row, with_event}
 use Rattle.member.specs.Send.{suspicion_told, buddy_of}
@@ -177,7 +177,7 @@ one_row : (s : Setup) (k : Key) (tells : What) (about : Option ℕ) (value : ℕ
 unfolding with_row
 one_row s k tells about value lost o on named h = all_append (λ row. IsOn s row.what) o.rows _ h (on, tt)
 
-same_rows : (s : Setup) (k : Key) (at to : ℕ) (content : Content) (o : Effect) → AllOn s o → AllOn s (with_event s k at to content o)
+same_rows : (s : Setup) (k : Key) (at to : ℕ) (content : EventKind) (o : Effect) → AllOn s o → AllOn s (with_event s k at to content o)
 unfolding with_event
 same_rows s k at to content o h = h
 
@@ -189,13 +189,13 @@ makes s k = record {
   state = λ t o same h. h;
 }
 
-pub each_row_is_on : (s : Setup) (k : Key) (c : Content) (t : State) → IsConsistent s k.to t → AllByRecursion (λ (row : Row). IsOn s row.what) (step s k c t).rows
+pub each_row_is_on : (s : Setup) (k : Key) (c : EventKind) (t : State) → IsConsistent s k.to t → AllByRecursion (λ (row : Row). IsOn s row.what) (step s k c t).rows
 each_row_is_on s k c t h =
     let is : IsSet s t = record { terms = h.terms; relays = h.relays; health = record { within = h.health; same = h.ceiling } } in
     by_step s k Anyone (IsSet s) (news s k) (moves s k) (Unit {0}) (IsOn s) (may s) (carries_anyone s k (IsSet s)) AnyTime (any_time s k (IsSet s)) (AllOn s) (makes s k) c t tt (anyone_named c)
     (λ _. is) (λ waits. (moves s k).began t waits is) (λ waits. (moves s k).late t waits is) tt
 
-pub rows_are_on : (s : Setup) (k : Key) (c : Content) (t : State) → IsConsistent s k.to t → All (λ (row : Row). IsOn s row.what) (step s k c t).rows
+pub rows_are_on : (s : Setup) (k : Key) (c : EventKind) (t : State) → IsConsistent s k.to t → All (λ (row : Row). IsOn s row.what) (step s k c t).rows
 rows_are_on s k c t h = All-from_recursion (λ (row : Row). IsOn s row.what) (step s k c t).rows (each_row_is_on s k c t h)
 
 pub full_without : (s : Setup) (m : ℕ) (t : State) → s.lifeguard.probe ≡ false → IsConsistent s m t → t.health.counter ≡ 0

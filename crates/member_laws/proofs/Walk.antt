@@ -22,11 +22,11 @@ use Rattle.suspicion.specs.Suspicions.{accused_of, answer_of as answer_to, is_du
 use Rattle.suspicion.specs.declared.suspicions.Accused.{Accused}
 use Rattle.member.specs.declared.member.Phase.{Phase}
 use Rattle.member.specs.declared.member.Phase.TheVariants.{Waiting, Joining, Running, Down}
-use Rattle.member.specs.declared.content.Content.{Content}
-use Rattle.member.specs.declared.content.Content.TheVariants.{Start, Crash, Leave, JoinTimer, PeriodTimer, TimeoutTimer, NackTimer, SuspicionTimer, Join, Welcome, Ping, PingReq, Ack, Nack, Bye, DeadlineTimer, GossipTimer, PushTimer, Call, Answer, Gossip, Push, Pull}
-use Rattle.member.specs.declared.telling.Telling.{Telling}
-use Rattle.member.specs.declared.telling.Telling.TheVariants.{Aloud, Quietly}
-use Rattle.member.specs.Telling.{is_aloud}
+use Rattle.member.specs.declared.event_kind.EventKind.{EventKind}
+use Rattle.member.specs.declared.event_kind.EventKind.TheVariants.{Start, Crash, Leave, JoinTimer, PeriodTimer, TimeoutTimer, NackTimer, SuspicionTimer, Join, Welcome, Ping, PingReq, Ack, Nack, Bye, DeadlineTimer, GossipTimer, PushTimer, Call, Answer, Gossip, Push, Pull}
+use Rattle.member.specs.declared.announce.Announce.{Announce}
+use Rattle.member.specs.declared.announce.Announce.TheVariants.{Aloud, Quietly}
+use Rattle.member.specs.Announce.{is_aloud}
 use Rattle.member.specs.State.{State}
 use Rattle.base.specs.Beats.{next_in_step}
 use Rattle.base.specs.declared.profile.Profile.{Profile}
@@ -47,7 +47,7 @@ abbrev pub AllNamed : (ℕ → Type 0) → List Update → Type 0
 AllNamed Named us = AllByRecursion (λ u. Named u.subject) us
 
 -- whom an event names; and it is a leave or a bye only where some members leave
-abbrev pub NamesOnly : (ℕ → Type 0) → Type 0 → Content → Type 0
+abbrev pub NamesOnly : (ℕ → Type 0) → Type 0 → EventKind → Type 0
 NamesOnly Named SomeLeave (NackTimer initiator seq) = Named initiator
 NamesOnly Named SomeLeave (Welcome entries) = AllNamed Named entries
 NamesOnly Named SomeLeave (Ping initiator seq updates) = Named initiator × AllNamed Named updates
@@ -92,7 +92,7 @@ pub all_anyone : (us : List Update) → AllNamed Anyone us
 all_anyone [] = tt
 all_anyone (u ∷ us) = (tt, all_anyone us)
 
-pub anyone_named : (c : Content) → NamesOnly Anyone (Unit {0}) c
+pub anyone_named : (c : EventKind) → NamesOnly Anyone (Unit {0}) c
 anyone_named Start = tt
 anyone_named Crash = tt
 anyone_named JoinTimer = tt
@@ -126,11 +126,11 @@ module _ (s : Setup) (k : Key) (Named : ℕ → Type 0) (R : State → Type 0) (
   unfolding with_row
   on_row tells about value lost o h = h
 
-  pub on_event : (at to : ℕ) (content : Content) (o : Effect) → R o.state → R (with_event s k at to content o).state
+  pub on_event : (at to : ℕ) (content : EventKind) (o : Effect) → R o.state → R (with_event s k at to content o).state
   unfolding with_event
   on_event at to content o h = news.counted o.state h
 
-  pub on_told : (telling : Telling) (tells : What) (subject value : ℕ) (o : Effect) → R o.state → R (with_told telling k tells subject value o).state
+  pub on_told : (telling : Announce) (tells : What) (subject value : ℕ) (o : Effect) → R o.state → R (with_told telling k tells subject value o).state
   on_told telling tells subject value o h = on_either (is_aloud telling) (with_row k tells (Some subject) value false o) o (on_row tells (Some subject) value false o h) h
 
   pub on_gossip_set : (gossip : Option settings.Gossip) (o : Effect) → R o.state → R (gossip_set s k gossip o).state
@@ -143,11 +143,11 @@ module _ (s : Setup) (k : Key) (Named : ℕ → Type 0) (R : State → Type 0) (
   unfolding with_put
   on_put u o named h = on_gossip_set s.gossip _ (news.put o.state u named h)
 
-  pub on_passed : (telling : Telling) (u : Update) (o : Effect) → Named u.subject → R o.state → R (passed_on s k telling u o).state
+  pub on_passed : (telling : Announce) (u : Update) (o : Effect) → Named u.subject → R o.state → R (passed_on s k telling u o).state
   unfolding passed_on
   on_passed telling u o named h = on_either (is_aloud telling) (with_put s k u o) o (on_put u o named h) h
 
-  pub on_claim : (telling : Telling) (u : Update) (claim : Claim) (o : Effect) → Named u.subject → IsNews (profile_of s) k.to o.state u → u.claim ≡ claim → R o.state
+  pub on_claim : (telling : Announce) (u : Update) (claim : Claim) (o : Effect) → Named u.subject → IsNews (profile_of s) k.to o.state u → u.claim ≡ claim → R o.state
       → R (claim_heard s telling k u claim (on_state (claim_kept u) o)).state
   unfolding alive_heard suspect_heard confirm_heard
   on_claim telling u Alive o named says e h = on_told telling _ u.subject u.inc _ (news.alive o.state u named says e h)
@@ -155,34 +155,34 @@ module _ (s : Setup) (k : Key) (Named : ℕ → Type 0) (R : State → Type 0) (
       on_event _ k.to _ _ (on_told telling _ u.subject u.inc _ (news.suspect o.state u _ named says e (record { terms = refl; since = refl; members = refl }) h))
   on_claim telling u Confirm o named says e h = on_told telling _ u.subject u.inc _ (news.confirm o.state u named says e h)
 
-  pub on_news : (telling : Telling) (u : Update) (o : Effect) → Named u.subject → IsNews (profile_of s) k.to o.state u → R o.state → R (news_heard s telling k u o).state
+  pub on_news : (telling : Announce) (u : Update) (o : Effect) → Named u.subject → IsNews (profile_of s) k.to o.state u → R o.state → R (news_heard s telling k u o).state
   unfolding news_heard
   on_news telling u o named says h = on_passed telling u (claim_heard s telling k u u.claim (on_state (claim_kept u) o)) named (on_claim telling u u.claim o named says refl h)
 
-  pub on_accusation_counted : (telling : Telling) (u : Update) (accused : Option Accused) (o : Effect) → Named u.subject → R o.state → R (accusation_counted s telling k u accused o).state
+  pub on_accusation_counted : (telling : Announce) (u : Update) (accused : Option Accused) (o : Effect) → Named u.subject → R o.state → R (accusation_counted s telling k u accused o).state
   on_accusation_counted telling u None o named h = h
   on_accusation_counted telling u (Some accused) o named h =
       on_passed telling u (with_event s k accused.due k.to (SuspicionTimer u.subject) (with_told telling k _ u.subject accused.count o)) named (on_event _ k.to _ _ (on_told telling _ u.subject accused.count o h))
 
-  pub on_accusation : (telling : Telling) (u : Update) (o : Effect) → Named u.subject → R o.state → R (accusation_heard s telling k u o).state
+  pub on_accusation : (telling : Announce) (u : Update) (o : Effect) → Named u.subject → R o.state → R (accusation_heard s telling k u o).state
   unfolding accusation_heard
   on_accusation telling u o named h =
       on_accusation_counted telling u (option_map (answer_to k.at) (accused_of o.state.suspicions u.subject u.accuser o.state.next_number)) _ named (news.accused o.state u h)
 
-  pub on_known : (telling : Telling) (u : Update) (held : Claim × ℕ) (b : Bool) (o : Effect) → Named u.subject → ¬ (u.subject ≡ k.to) → get o.state.table u.subject ≡ Some held
+  pub on_known : (telling : Announce) (u : Update) (held : Claim × ℕ) (b : Bool) (o : Effect) → Named u.subject → ¬ (u.subject ≡ k.to) → get o.state.table u.subject ≡ Some held
       → does_override (profile_of s) (u.claim, u.inc) held ≡ b → R o.state
       → R (cond b (news_heard s telling k u o) (cond (is_repeated (profile_of s) u held) (accusation_heard s telling k u o) o)).state
   on_known telling u held true o named other here e h = on_news telling u o named (record { other = other; news = rw here e }) h
   on_known telling u held false o named other here e h = on_either (is_repeated (profile_of s) u held) (accusation_heard s telling k u o) o (on_accusation telling u o named h) h
 
-  pub on_other : (telling : Telling) (u : Update) (held : Option (Claim × ℕ)) (o : Effect) → Named u.subject → ¬ (u.subject ≡ k.to) → get o.state.table u.subject ≡ held → R o.state
+  pub on_other : (telling : Announce) (u : Update) (held : Option (Claim × ℕ)) (o : Effect) → Named u.subject → ¬ (u.subject ≡ k.to) → get o.state.table u.subject ≡ held → R o.state
       → R (other_applied s telling k u held o).state
   on_other telling u None o named other none h =
       on_either (is_heeded (profile_of s) telling u.claim) (news_heard s telling k u o) o (on_news telling u o named (record { other = other; news = rw none refl }) h) h
   on_other telling u (Some held) o named other here h = on_known telling u held (does_override (profile_of s) (u.claim, u.inc) held) o named other here refl h
 
   module _ (moves : Moves s k Named R) where
-    pub on_timer : (ticks : ℕ) (content : Content) (o : Effect) → R o.state → R (with_timer s k ticks content o).state
+    pub on_timer : (ticks : ℕ) (content : EventKind) (o : Effect) → R o.state → R (with_timer s k ticks content o).state
     unfolding with_timer
     on_timer ticks content o h = on_event (k.at + ticks) k.to content o h
 
@@ -192,16 +192,16 @@ module _ (s : Setup) (k : Key) (Named : ℕ → Type 0) (R : State → Type 0) (
     unfolding with_number
     on_number o h = news.counted o.state h
 
-    pub on_sent_off : (to : ℕ) (content : Content) (arrival : Option ℕ) (o : Effect) → R o.state → R (sent_off s k to content arrival o).state
+    pub on_sent_off : (to : ℕ) (content : EventKind) (arrival : Option ℕ) (o : Effect) → R o.state → R (sent_off s k to content arrival o).state
     on_sent_off to content None o h = on_number o h
     on_sent_off to content (Some at) o h = on_event at to content o h
 
-    pub on_posted : (tells : What) (to value : ℕ) (content : Content) (arrival : Option ℕ × Words) (o : Effect) → IsRestOf o.state.words arrival.1 → R o.state
+    pub on_posted : (tells : What) (to value : ℕ) (content : EventKind) (arrival : Option ℕ × Words) (o : Effect) → IsRestOf o.state.words arrival.1 → R o.state
         → R (posted s k tells to value content arrival o).state
     unfolding posted
     on_posted tells to value content arrival o rest h = on_sent_off to content arrival.0 _ (on_row tells (Some to) value _ _ (moves.drawn o.state arrival.1 rest h))
 
-    pub on_sent : (tells : What) (to value : ℕ) (content : Content) (o : Effect) → R o.state → R (sent s k tells to value content o).state
+    pub on_sent : (tells : What) (to value : ℕ) (content : EventKind) (o : Effect) → R o.state → R (sent s k tells to value content o).state
     on_sent tells to value content o h = on_posted tells to value content _ o (arrival_rest s k.to to k.at o.state.words) h
 
     pub on_ping : (to initiator seq : ℕ) (o : Effect) → R o.state → R (ping_sent s k to initiator seq o).state
@@ -288,16 +288,16 @@ module _ (s : Setup) (k : Key) (Named : ℕ → Type 0) (R : State → Type 0) (
     pub on_own : (claim : Claim) (number : ℕ) (o : Effect) → R o.state → R (own_applied s k claim number o).state
     on_own claim number o h = on_own_claim claim number (does_refute (profile_of s) o.state.incarnation claim number) o refl h
 
-    pub on_subject : (telling : Telling) (u : Update) (b : Bool) (o : Effect) → Named u.subject → nat_eq u.subject k.to ≡ b → R o.state
+    pub on_subject : (telling : Announce) (u : Update) (b : Bool) (o : Effect) → Named u.subject → nat_eq u.subject k.to ≡ b → R o.state
         → R (cond b (own_applied s k u.claim u.inc o) (other_applied s telling k u (get o.state.table u.subject) o)).state
     on_subject telling u true o named e h = on_own u.claim u.inc o h
     on_subject telling u false o named e h = on_other telling u (get o.state.table u.subject) o named (eqb-false u.subject k.to e) refl h
 
-    pub on_applied : (telling : Telling) (u : Update) (o : Effect) → Named u.subject → R o.state → R (applied s telling k u o).state
+    pub on_applied : (telling : Announce) (u : Update) (o : Effect) → Named u.subject → R o.state → R (applied s telling k u o).state
     unfolding applied
     on_applied telling u o named h = on_subject telling u (nat_eq u.subject k.to) o named refl h
 
-    pub on_all : (telling : Telling) (us : List Update) (o : Effect) → AllNamed Named us → R o.state → R (all_applied s telling k us o).state
+    pub on_all : (telling : Announce) (us : List Update) (o : Effect) → AllNamed Named us → R o.state → R (all_applied s telling k us o).state
     unfolding all_applied
     on_all telling [] o named h = h
     on_all telling (u ∷ us) o named h = on_all telling us (applied s telling k u o) named.1 (on_applied telling u o named.0 h)
@@ -604,7 +604,7 @@ module _ (s : Setup) (k : Key) (Named : ℕ → Type 0) (R : State → Type 0) (
 
     -- ---- the step
 
-    pub on_plain : (content : Content) (phase : Phase) (o : Effect) → o.state.phase ≡ phase → Named k.from → NamesOnly Named (Unit {0}) content → R o.state → R (plain_handled s k content phase o).state
+    pub on_plain : (content : EventKind) (phase : Phase) (o : Effect) → o.state.phase ≡ phase → Named k.from → NamesOnly Named (Unit {0}) content → R o.state → R (plain_handled s k content phase o).state
     unfolding plain_handled
     on_plain Start Waiting o is sender named h = on_started o (moves.began o.state is h) (moves.late o.state is h)
     on_plain Start Joining o is sender named h = h
@@ -669,14 +669,14 @@ module _ (s : Setup) (k : Key) (Named : ℕ → Type 0) (R : State → Type 0) (
     on_plain (Push entries) phase o is sender named h = h
     on_plain (Pull entries) phase o is sender named h = h
 
-    pub on_handled : (content : Content) (phase : Phase) (o : Effect) → o.state.phase ≡ phase → Named k.from → NamesOnly Named (Unit {0}) content → R o.state → R (handled s k content phase o).state
+    pub on_handled : (content : EventKind) (phase : Phase) (o : Effect) → o.state.phase ≡ phase → Named k.from → NamesOnly Named (Unit {0}) content → R o.state → R (handled s k content phase o).state
     unfolding handled
     on_handled Leave Joining o is sender named h = on_withdrawn o h
     on_handled Leave Running o is sender named h = on_departed o h
     on_handled Bye Running o is sender named h = on_confirmed k.from (get o.state.table k.from) o refl h
     on_handled content phase o is sender named h = on_plain content phase o is sender named h
 
-    pub on_timed : (content : Content) (o : Effect) → o.state.phase ≡ Running → Named k.from → NamesOnly Named (Unit {0}) content → R o.state → R (timed_handled s k content o).state
+    pub on_timed : (content : EventKind) (o : Effect) → o.state.phase ≡ Running → Named k.from → NamesOnly Named (Unit {0}) content → R o.state → R (timed_handled s k content o).state
     unfolding timed_handled
     on_timed PeriodTimer o is sender named h = on_beaten o h
     on_timed (TimeoutTimer seq) o is sender named h = on_timed_out_timed seq o.state.probe o refl h
@@ -691,7 +691,7 @@ module _ (s : Setup) (k : Key) (Named : ℕ → Type 0) (R : State → Type 0) (
     on_timed (Pull entries) o is sender named h = on_merged entries o named h
     on_timed content o is sender named h = on_handled content Running o is sender named h
 
-    pub on_by : (content : Content) (phase : Phase) (profile : Profile) (o : Effect) → o.state.phase ≡ phase → Named k.from → NamesOnly Named (Unit {0}) content → R o.state
+    pub on_by : (content : EventKind) (phase : Phase) (profile : Profile) (o : Effect) → o.state.phase ≡ phase → Named k.from → NamesOnly Named (Unit {0}) content → R o.state
         → R (handled_by phase profile s k content o).state
     on_by content Running Memberlist o is sender named h = on_timed content o is sender named h
     on_by content Running Papers o is sender named h = on_handled content Running o is sender named h
@@ -699,14 +699,14 @@ module _ (s : Setup) (k : Key) (Named : ℕ → Type 0) (R : State → Type 0) (
     on_by content Joining profile o is sender named h = on_handled content Joining o is sender named h
     on_by content Down profile o is sender named h = on_handled content Down o is sender named h
 
-    pub on_step : (content : Content) (t : State) → Named k.from → NamesOnly Named (Unit {0}) content → R t → R (step s k content t).state
+    pub on_step : (content : EventKind) (t : State) → Named k.from → NamesOnly Named (Unit {0}) content → R t → R (step s k content t).state
     unfolding step
     on_step content t sender named h = on_by content t.phase (profile_of s) (unchanged t) refl sender named h
 
     -- A fact of any state, where another holds once the member has started, and that one is kept.
-    module _ (Q : State → Type 0) (content : Content) (t : State) (to_Q : (v : State) → R v → Q v) (before : Q t) (up : ¬ (t.phase ≡ Waiting) → R t)
+    module _ (Q : State → Type 0) (content : EventKind) (t : State) (to_Q : (v : State) → R v → Q v) (before : Q t) (up : ¬ (t.phase ≡ Waiting) → R t)
         (once : t.phase ≡ Waiting → R (at_once s k t)) (late : t.phase ≡ Waiting → R (at_late t)) (sender : Named k.from) where
-      on_waiting : (c : Content) → t.phase ≡ Waiting → Q (handled s k c Waiting (unchanged t)).state
+      on_waiting : (c : EventKind) → t.phase ≡ Waiting → Q (handled s k c Waiting (unchanged t)).state
       unfolding handled plain_handled
       on_waiting Start is = to_Q _ (on_started (unchanged t) (once is) (late is))
       on_waiting Crash is = before

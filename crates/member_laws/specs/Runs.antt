@@ -5,16 +5,16 @@ use Rattle.base.specs.declared.key.Key.{Key}
 use Rattle.base.specs.World.{World, Run, SequentialRun}
 use Rattle.scenario.specs.Setup.{Setup}
 use Rattle.trace.specs.declared.row.Row.{Row}
-use Rattle.member.specs.declared.content.Content.{Content}
+use Rattle.member.specs.declared.event_kind.EventKind.{EventKind}
 use Rattle.member.specs.State.{State}
 use Rattle.member.specs.Opening.{opening}
 use Rattle.member.specs.Step.{step, plain_step}
-use Rattle.member.specs.Worn.{IsWorn}
+use Rattle.member.specs.CounterOverflow.{IsOverflowed}
 use Rattle.member_laws.specs.Words.{IsConsistent, IsAmongMembers}
 
 -- the members and the events that pend
 abbrev pub Cluster : Type 0
-Cluster = World State Content
+Cluster = World State EventKind
 
 -- these are the rows of the scenario's run, in the order made
 abbrev pub IsRunOf : Setup → List Row → Type 0
@@ -35,10 +35,10 @@ IsReached s w = LeadsTo s (opening s) w
 -- each member's state is consistent, and each event that pends is among members
 pub record IsSoundCluster (s : Setup) (w : Cluster) : Type 0 where
   pub states : (m : ℕ) (t : State) → get w.members m ≡ Some t → IsConsistent s m t
-  pub events : (k : Key) (c : Content) → get w.pending k ≡ Some c → IsAmongMembers s k c
+  pub events : (k : Key) (c : EventKind) → get w.pending k ≡ Some c → IsAmongMembers s k c
 
 -- the run reaches a world in which a member's counter is past its limit
-pub record WearsOut (s : Setup) : Type 0 where
+pub record CounterOverflows (s : Setup) : Type 0 where
   pub keys : List Key
   pub rows : List Row
   pub world : Cluster
@@ -46,4 +46,4 @@ pub record WearsOut (s : Setup) : Type 0 where
   pub number : ℕ
   pub member : State
   pub there : get world.members number ≡ Some member
-  pub worn : IsWorn member
+  pub overflow : IsOverflowed member

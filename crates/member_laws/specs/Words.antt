@@ -18,7 +18,7 @@ use Rattle.probing.specs.ProbeOrder.{times_in, IsSoundOrder as IsSoundOrder}
 use Rattle.suspicion.specs.Settings.{terms_of}
 use Rattle.suspicion.specs.Suspicions.{HeldSuspicion}
 use Rattle.member.specs.declared.member.Phase.TheVariants.{Waiting}
-use Rattle.member.specs.declared.content.Content.{Content}
+use Rattle.member.specs.declared.event_kind.EventKind.{EventKind}
 use Rattle.membership.specs.Table.{Known, is_suspect, is_confirm}
 use Rattle.member.specs.State.{State}
 use Rattle.member.specs.Here.{MentionsMembers}
@@ -98,7 +98,7 @@ pub record IsConsistent (s : Setup) (m : ℕ) (t : State) : Type 0 where
   pub target : ProbesAMember s t
 
 -- an event among the members of the scenario
-pub record IsAmongMembers (s : Setup) (k : Key) (c : Content) : Type 0 where
+pub record IsAmongMembers (s : Setup) (k : Key) (c : EventKind) : Type 0 where
   pub receiver : k.to < member_count s
   pub sender : k.from < member_count s
   pub names : MentionsMembers (member_count s) c

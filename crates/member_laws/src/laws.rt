@@ -18,12 +18,12 @@ ghost use Rattle.incarnation.specs.declared.Update.{Update};
 ghost use Rattle.lifeguard.specs.declared.probe.Probe.{Probe};
 ghost use Rattle.lifeguard.specs.Health.{LocalHealth, scaled};
 ghost use Rattle.membership.specs.Table.{Known};
-ghost use Rattle.member.specs.declared.content.Content.{Content};
-ghost use Rattle.member.specs.declared.content.Content.TheVariants.{Start, Leave, Bye, PeriodTimer, DeadlineTimer};
+ghost use Rattle.member.specs.declared.event_kind.EventKind.{EventKind};
+ghost use Rattle.member.specs.declared.event_kind.EventKind.TheVariants.{Start, Leave, Bye, PeriodTimer, DeadlineTimer};
 ghost use Rattle.member.specs.declared.member.Phase.TheVariants.{Waiting, Running, Down};
 ghost use Rattle.member.specs.State.{State};
 ghost use Rattle.member.specs.Opening.{opening_state, opening};
-ghost use Rattle.member.specs.declared.telling.Telling.{Telling};
+ghost use Rattle.member.specs.declared.announce.Announce.{Announce};
 ghost use Rattle.member.specs.Effects.{Effect, unchanged};
 ghost use Rattle.member.specs.Send.{whole_table, buddy_of};
 ghost use Rattle.member.specs.Apply.{applied};
@@ -36,25 +36,25 @@ ghost use Rattle.member_laws.specs.Runs.{Cluster, IsRunOf, IsPlainRunOf, LeadsTo
 /// whatever else it hears. By the papers' rules it so rises by one where it hears itself suspected at
 /// its present number, and stays at all else. No step lowers it.
 pub fn an_incarnation_rises_to_refute_alone()
-    ensures refuted { (s : Setup) (telling : Telling) (k : Key) (u : Update) (o : Effect)
+    ensures refuted { (s : Setup) (telling : Announce) (k : Key) (u : Update) (o : Effect)
         → IsRefuted (profile_of s) k.to o.state u
         → (applied s telling k u o).state.incarnation ≡ u.inc + 1 }
-    ensures stays { (s : Setup) (telling : Telling) (k : Key) (u : Update) (o : Effect)
+    ensures stays { (s : Setup) (telling : Announce) (k : Key) (u : Update) (o : Effect)
         → ¬ IsRefuted (profile_of s) k.to o.state u
         → (applied s telling k u o).state.incarnation ≡ o.state.incarnation }
-    ensures refuted_by_papers { (s : Setup) (telling : Telling) (k : Key) (u : Update) (o : Effect)
+    ensures refuted_by_papers { (s : Setup) (telling : Announce) (k : Key) (u : Update) (o : Effect)
         → profile_of s ≡ Papers → AccusesOneself k.to o.state u
         → (applied s telling k u o).state.incarnation ≡ o.state.incarnation + 1 }
-    ensures stays_by_papers { (s : Setup) (telling : Telling) (k : Key) (u : Update) (o : Effect)
+    ensures stays_by_papers { (s : Setup) (telling : Announce) (k : Key) (u : Update) (o : Effect)
         → profile_of s ≡ Papers → ¬ AccusesOneself k.to o.state u
         → (applied s telling k u o).state.incarnation ≡ o.state.incarnation }
-    ensures never_falls { (s : Setup) (k : Key) (c : Content) (t : State) → WaitsAsOpened s k.to t
+    ensures never_falls { (s : Setup) (k : Key) (c : EventKind) (t : State) → WaitsAsOpened s k.to t
         → t.incarnation ≤ (step s k c t).state.incarnation }
 {}
 
 /// By the papers' rules what is confirmed stays confirmed: a step leaves such an entry as it is.
 pub fn a_confirmed_member_stays_so()
-    ensures { (s : Setup) → profile_of s ≡ Papers → (k : Key) (c : Content) (t : State) (subject number : ℕ) → WaitsAsOpened s k.to t
+    ensures { (s : Setup) → profile_of s ≡ Papers → (k : Key) (c : EventKind) (t : State) (subject number : ℕ) → WaitsAsOpened s k.to t
         → get t.table subject ≡ Some (Confirm, number)
         → get (step s k c t).state.table subject ≡ Some (Confirm, number) }
 {}
@@ -62,7 +62,7 @@ pub fn a_confirmed_member_stays_so()
 /// By memberlist's rules a member that is held as confirmed at a number is held as alive again only at
 /// a number over it.
 pub fn a_higher_number_alone_revives()
-    ensures { (s : Setup) → profile_of s ≡ Memberlist → (k : Key) (c : Content) (t : State) (subject number after : ℕ)
+    ensures { (s : Setup) → profile_of s ≡ Memberlist → (k : Key) (c : EventKind) (t : State) (subject number after : ℕ)
         → WaitsAsOpened s k.to t → get t.table subject ≡ Some (Confirm, number)
         → get (step s k c t).state.table subject ≡ Some (Alive, after) → number < after }
 {}
@@ -70,9 +70,9 @@ pub fn a_higher_number_alone_revives()
 /// A member that is down does nothing, and one that waits does nothing before its start: nothing of
 /// its state changes, no word is drawn, no event is made and no row is written.
 pub fn a_silent_member_keeps_silent()
-    ensures down { (s : Setup) (k : Key) (c : Content) (t : State) → t.phase ≡ Down
+    ensures down { (s : Setup) (k : Key) (c : EventKind) (t : State) → t.phase ≡ Down
         → step s k c t ≡ unchanged t }
-    ensures waiting { (s : Setup) (k : Key) (c : Content) (t : State) → t.phase ≡ Waiting → c ≢ Start
+    ensures waiting { (s : Setup) (k : Key) (c : EventKind) (t : State) → t.phase ≡ Waiting → c ≢ Start
         → step s k c t ≡ unchanged t }
 {}
 
@@ -93,16 +93,16 @@ pub fn a_beat_ends_a_probe_at_its_deadline()
 /// Lifeguard's local health stays within its ceiling, which never changes (LHA-Probe).
 pub fn health_stays_within_its_ceiling()
     ensures opening { (s : Setup) (m : ℕ) → IsWithinCeiling (opening_state s m).health }
-    ensures counter { (s : Setup) (k : Key) (c : Content) (t : State) → IsWithinCeiling t.health
+    ensures counter { (s : Setup) (k : Key) (c : EventKind) (t : State) → IsWithinCeiling t.health
         → IsWithinCeiling (step s k c t).state.health }
-    ensures ceiling { (s : Setup) (k : Key) (c : Content) (t : State)
+    ensures ceiling { (s : Setup) (k : Key) (c : EventKind) (t : State)
         → (step s k c t).state.health.ceiling ≡ t.health.ceiling }
 {}
 
 /// A member that waits for its start is as the run found it.
 pub fn a_waiting_member_is_as_opened()
     ensures opening { (s : Setup) (m : ℕ) → WaitsAsOpened s m (opening_state s m) }
-    ensures step { (s : Setup) (k : Key) (c : Content) (t : State) → WaitsAsOpened s k.to t
+    ensures step { (s : Setup) (k : Key) (c : EventKind) (t : State) → WaitsAsOpened s k.to t
         → WaitsAsOpened s k.to (step s k c t).state }
 {}
 
@@ -111,18 +111,18 @@ pub fn a_waiting_member_is_as_opened()
 /// events that it makes of it are among members too: all whom they name are members of the scenario.
 pub fn states_stay_consistent()
     ensures opening { (s : Setup) (m : ℕ) → IsConsistent s m (opening_state s m) }
-    ensures step { (s : Setup) (k : Key) (c : Content) (t : State) → IsSound s → IsAmongMembers s k c
+    ensures step { (s : Setup) (k : Key) (c : EventKind) (t : State) → IsSound s → IsAmongMembers s k c
         → IsConsistent s k.to t → IsConsistent s k.to (step s k c t).state }
-    ensures events { (s : Setup) (k : Key) (c : Content) (t : State) → IsSound s → IsAmongMembers s k c
+    ensures events { (s : Setup) (k : Key) (c : EventKind) (t : State) → IsSound s → IsAmongMembers s k c
         → IsConsistent s k.to t
-        → All (λ (e : Key × Content). IsAmongMembers s e.0 e.1) (step s k c t).events }
+        → All (λ (e : Key × EventKind). IsAmongMembers s e.0 e.1) (step s k c t).events }
 {}
 
 /// What Lifeguard's mechanisms do is not done where they are switched off. Without LHA-Suspicion no
 /// further accuser counts, without LHA-Probe no nack is sent and health stays full, so no time is
 /// scaled and no answer is owed to another's probe; without the Buddy System no ping has a buddy.
 pub fn what_is_off_is_not_done()
-    ensures rows { (s : Setup) (k : Key) (c : Content) (t : State) → IsConsistent s k.to t
+    ensures rows { (s : Setup) (k : Key) (c : EventKind) (t : State) → IsConsistent s k.to t
         → All (λ (row : Row). IsOn s row.what) (step s k c t).rows }
     ensures health { (s : Setup) (m : ℕ) (t : State) → s.lifeguard.probe ≡ false → IsConsistent s m t
         → t.health.counter ≡ 0 }
@@ -173,7 +173,7 @@ pub fn a_run_revives_by_higher_numbers_alone()
 pub fn a_run_keeps_states_consistent()
     ensures states { (s : Setup) (w : Cluster) (m : ℕ) (t : State) → IsSound s → IsReached s w
         → get w.members m ≡ Some t → IsConsistent s m t }
-    ensures events { (s : Setup) (w : Cluster) (k : Key) (c : Content) → IsSound s → IsReached s w
+    ensures events { (s : Setup) (w : Cluster) (k : Key) (c : EventKind) → IsSound s → IsReached s w
         → get w.pending k ≡ Some c → IsAmongMembers s k c }
 {}
 
@@ -193,10 +193,10 @@ pub fn a_run_tells_only_of_what_is_on()
 /// up to the end makes of a timely state, nor that of one that pends, wherever a run has come. And
 /// the states that a run reaches are timely.
 pub fn a_run_keeps_moments_in_range()
-    ensures step { (s : Setup) (k : Key) (c : Content) (t : State) → IsSound s → IsAmongMembers s k c
+    ensures step { (s : Setup) (k : Key) (c : EventKind) (t : State) → IsSound s → IsAmongMembers s k c
         → k.at ≤ s.end → IsConsistent s k.to t → IsTimely s t
-        → All (λ (e : Key × Content). e.0.at < 2 ^ 42) (step s k c t).events }
-    ensures run { (s : Setup) (w : Cluster) (k : Key) (c : Content) → IsSound s → IsReached s w
+        → All (λ (e : Key × EventKind). e.0.at < 2 ^ 42) (step s k c t).events }
+    ensures run { (s : Setup) (w : Cluster) (k : Key) (c : EventKind) → IsSound s → IsReached s w
         → get w.pending k ≡ Some c → k.at < 2 ^ 42 }
     ensures states { (s : Setup) (w : Cluster) (m : ℕ) (t : State) → IsSound s → IsReached s w
         → get w.members m ≡ Some t → IsTimely s t }
@@ -206,9 +206,9 @@ pub fn a_run_keeps_moments_in_range()
 /// among its events, and no row tells of one. By the papers' rules the step on all other events is that of
 /// the first version, and so the runs are the same.
 pub fn where_nobody_leaves_runs_are_plain()
-    ensures step { (s : Setup) → profile_of s ≡ Papers → (k : Key) (c : Content) (t : State) → c ≢ Leave → c ≢ Bye
+    ensures step { (s : Setup) → profile_of s ≡ Papers → (k : Key) (c : EventKind) (t : State) → c ≢ Leave → c ≢ Bye
         → step s k c t ≡ plain_step s k c t }
-    ensures events { (s : Setup) (w : Cluster) (k : Key) (c : Content) → s.leaves ≡ [] → IsReached s w
+    ensures events { (s : Setup) (w : Cluster) (k : Key) (c : EventKind) → s.leaves ≡ [] → IsReached s w
         → get w.pending k ≡ Some c → (c ≢ Leave) × (c ≢ Bye) }
     ensures runs { (s : Setup) (rows : List Row) → profile_of s ≡ Papers → s.leaves ≡ [] → IsRunOf s rows → IsPlainRunOf s rows }
     ensures plain_runs { (s : Setup) (rows : List Row) → profile_of s ≡ Papers → s.leaves ≡ [] → IsPlainRunOf s rows → IsRunOf s rows }

@@ -1,3 +1,5 @@
+//! What a claim says of a member (alive, suspect or confirm), and which of two claims overrides the other (SWIM,
+//! section 4.2).
 ghost use Rattle.std.specs.Prelude.{◌≡◌};
 ghost use Rattle.membership.specs.Table.{is_alive, is_suspect, is_confirm, does_override};
 

@@ -1,3 +1,4 @@
+//! The moments of the last deaths that a member has heard of, as memberlist's rules need them to gossip to the dead.
 ghost use Rattle.std.specs.Prelude.{◌≡◌, OnOk, OnErr};
 ghost use Rattle.membership.specs.Deaths.{never, confirmed_at, since_of};
 

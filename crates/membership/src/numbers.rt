@@ -1,3 +1,4 @@
+//! Columns of numbers by member, for incarnation numbers and moments of deaths: a 0 past the end takes no memory.
 ghost use Rattle.std.specs.Prelude.{◌≡◌, ◌≢◌, ◌<◌, ℕ, OnOk, vec_len, slice_index};
 
 use base::Memory;

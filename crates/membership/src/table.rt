@@ -1,3 +1,4 @@
+//! A member's table: the claim that it holds of each other member, with its incarnation number, in dense columns.
 ghost use Rattle.std.specs.Prelude.{List, [], EachIndex, None, Some, set, max, ◌≡◌, ◌≢◌, ◌+◌, ◌^◌, ◌<◌, ◌≤◌, ◌&&◌, ℕ, true, not, nat_eq, map, filter, length, vec_len, sum_by, slice_index, OnOk, OnErr, IfOk};
 ghost use Rattle.std.specs.Option.{option_map_or};
 ghost use Rattle.std.specs.FinMap.{empty, get, insert, remove};

@@ -12,10 +12,10 @@ use Rattle.trace.specs.declared.row.Row.{Row}
 use Rattle.trace.proofs.Beginnings.{Keeps-same}
 use Rattle.reports.specs.Text.{report_text}
 use Rattle.member_laws.specs.Runs.{IsRunOf}
-use Rattle.outputs.specs.declared.summary.Summary.{Summary}
-use Rattle.outputs.specs.Promise.{KeepsPromise, summed}
-use Rattle.outputs.proofs.Failing.{breaks_off}
-use Rattle.outputs.proofs.Runs.{writes_nothing}
+use Rattle.run_output.specs.declared.summary.Summary.{Summary}
+use Rattle.run_output.specs.Promise.{KeepsPromise, summed}
+use Rattle.run_output.proofs.Failing.{breaks_off}
+use Rattle.run_output.proofs.Runs.{writes_nothing}
 use Rattle.page_runs.specs.Pages.{BeginsPage, WritesPage}
 use Rattle.page_runs.specs.Promise.{KeepsPagePromise}
 use Rattle.page_runs.specs.Told.{TellsRun, rows_told}

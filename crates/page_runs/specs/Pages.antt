@@ -10,8 +10,8 @@ use Rattle.trace.specs.Text.{trace_text}
 use Rattle.trace.specs.declared.row.Row.{Row}
 use Rattle.reports.specs.Text.{report_text}
 use Rattle.member_laws.specs.Runs.{IsRunOf}
-use Rattle.run_lanes.specs.Choice.{choices}
-use Rattle.run_lanes.specs.declared.chosen.Chosen.{Chosen}
+use Rattle.member_timelines.specs.Choice.{choices}
+use Rattle.member_timelines.specs.declared.chosen.Chosen.{Chosen}
 use Rattle.run_page.specs.Page.{page_text}
 
 -- Members with a lane are compared item by item: how often they were wrongly confirmed to have failed, the most often first; when

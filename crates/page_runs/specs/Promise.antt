@@ -3,8 +3,8 @@ use Rattle.std.specs.Prelude.{◌≡◌, ◌≢◌, ◌⊎◌, ◌<◌, ℕ, Lis
 use Rattle.base.specs.declared.fault.Fault.{Fault}
 use Rattle.base.specs.declared.fault.Fault.TheVariants as fault
 use Rattle.scenario.specs.Setup.{Setup}
-use Rattle.member_laws.specs.Runs.{WearsOut}
-use Rattle.outputs.specs.declared.summary.Summary.{Summary}
+use Rattle.member_laws.specs.Runs.{CounterOverflows}
+use Rattle.run_output.specs.declared.summary.Summary.{Summary}
 use Rattle.page_runs.specs.Pages.{WritesRunAndPage, BeginsRunAndPage}
 
 -- What every run of the scenario keeps that writes a page of this name by this release. Its three sinks hold bytes, and count their failures.
@@ -20,7 +20,7 @@ pub record KeepsPagePromise {A B C : Type 0} (held : A → Option (List ℕ)) (f
   pub first : failed trace_old < failed trace_new → report_new ≡ report_old
   pub second : (failed trace_old < failed trace_new) ⊎ (failed_report report_old < failed_report report_new) → page_new ≡ page_old
   -- no counter of a run that succeeds passes 2^63
-  pub lasts : OnOk result (¬ (WearsOut s))
+  pub lasts : OnOk result (¬ (CounterOverflows s))
   -- a sink is said to have failed only if one did; where a run succeeds none has, and where another fault comes neither the report's
   -- nor the page's
   pub write : IsErrOf result fault.Write

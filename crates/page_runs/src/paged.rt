@@ -2,28 +2,28 @@
 ghost use Rattle.std.specs.Prelude.{◌≡◌, ◌<◌, ◌≤◌, ◌^◌, ◌⊎◌, [], length, IfOk, OnOk, IsErrOf};
 ghost use Rattle.scenario.specs.Setup.{member_count};
 ghost use Rattle.series.specs.Series.{AreSeriesOf};
-ghost use Rattle.member_laws.specs.Runs.{WearsOut};
-ghost use Rattle.outputs.specs.Promise.{KeepsPromise, WearsOutReport, summed};
+ghost use Rattle.member_laws.specs.Runs.{CounterOverflows};
+ghost use Rattle.run_output.specs.Promise.{KeepsPromise, ReportOverflows, summed};
 ghost use Rattle.page_runs.specs.Promise.{KeepsPagePromise};
 ghost use Rattle.page_runs.specs.Told.{TellsRun, rows_told};
 
+use crate::page_series::PageSeries;
 use crate::paging::{RunShown, write_page};
 use crate::told::RunTold;
 use base::{Fault, Memory};
-use outputs::{Summary, TraceAndGathered};
-use page_series::PageSeries;
+use partitioning::run_shared_gathered;
+use run_output::{Summary, TraceAndGathered};
+use run_progress::Watched;
 use scenario::{Division, Scenario, Workers};
-use sharing::run_shared_gathered;
+use sequential_run::the_run_is_one;
 use std::alloc::Global;
 use std::io::Write;
 use std::marker::Sync;
 use std::sync::Wait;
 use std::thread::Threads;
 use trace::Sink;
-use watched_runs::Watched;
-use whole_runs::the_run_is_one;
 
-/// Runs the scenario as `sharing::run_shared` does, and once the trace and the report are whole and their sinks flushed writes
+/// Runs the scenario as `partitioning::run_shared` does, and once the trace and the report are whole and their sinks flushed writes
 /// the page of the run, whose sink is flushed too. The trace's sink is given back. After a fault the sinks have got a beginning
 /// of that. Where there is a `watch` it is told how far the run has come, as far as it takes that.
 ///
@@ -50,12 +50,12 @@ pub fn run_with_page<A: Sink, B: Sink, C: Sink, W: Write, R: Threads + Wait + Sy
         trace result.0 report.old report.new page.old page.new result.1 }
 
     // No count of its report passes 2^63, and no fault comes without its cause.
-    ensures lasts_report { OnOk result.1 (¬ (WearsOutReport scenario.now)) }
-    ensures worn { IsErrOf result.1 Fault.Worn → WearsOut scenario.now ⊎ WearsOutReport scenario.now }
-    ensures others { IsErrOf result.1 Fault.Relay → A.failed result.0 ≡ A.failed trace }
+    ensures lasts_report { OnOk result.1 (¬ (ReportOverflows scenario.now)) }
+    ensures overflow { IsErrOf result.1 Fault.CounterOverflow → CounterOverflows scenario.now ⊎ ReportOverflows scenario.now }
+    ensures others { IsErrOf result.1 Fault.ThreadLost → A.failed result.0 ≡ A.failed trace }
 
     // One worker alone loses nothing to threads.
-    ensures threads { IsErrOf result.1 Fault.Relay → 2 ≤ workers }
+    ensures threads { IsErrOf result.1 Fault.ThreadLost → 2 ≤ workers }
 {
     let _end = scenario.end();
     the_run_is_one();
@@ -82,10 +82,10 @@ fn run_told<A: Sink, B: Sink, W: Write, R: Threads + Wait + Sync>(
     requires countable_report { B.failed report.old < 2 ^ 63 }
     ensures promise { KeepsPromise A.held A.failed B.held B.failed scenario.now trace result.0 report.old report.new (summed (rows_told result.1)) }
     ensures told { IfOk result.1 (TellsRun scenario.now) }
-    ensures lasts_report { OnOk result.1 (¬ (WearsOutReport scenario.now)) }
-    ensures worn { IsErrOf result.1 Fault.Worn → WearsOut scenario.now ⊎ WearsOutReport scenario.now }
-    ensures others { IsErrOf result.1 Fault.Relay → A.failed result.0 ≡ A.failed trace }
-    ensures threads { IsErrOf result.1 Fault.Relay → 2 ≤ workers }
+    ensures lasts_report { OnOk result.1 (¬ (ReportOverflows scenario.now)) }
+    ensures overflow { IsErrOf result.1 Fault.CounterOverflow → CounterOverflows scenario.now ⊎ ReportOverflows scenario.now }
+    ensures others { IsErrOf result.1 Fault.ThreadLost → A.failed result.0 ≡ A.failed trace }
+    ensures threads { IsErrOf result.1 Fault.ThreadLost → 2 ≤ workers }
 {
     let _end = scenario.end();
     match PageSeries::new(alloc, scenario) {
@@ -118,10 +118,10 @@ fn run_gathering<A: Sink, B: Sink, R: Threads + Wait + Sync>(
     requires none_gathered { AreSeriesOf scenario.now place.gathered.series [] }
     ensures promise { KeepsPromise A.held A.failed B.held B.failed scenario.now place.trace result.0 report.old report.new (summed (rows_told result.1)) }
     ensures told { IfOk result.1 (TellsRun scenario.now) }
-    ensures lasts_report { OnOk result.1 (¬ (WearsOutReport scenario.now)) }
-    ensures worn { IsErrOf result.1 Fault.Worn → WearsOut scenario.now ⊎ WearsOutReport scenario.now }
-    ensures others { IsErrOf result.1 Fault.Relay → A.failed result.0 ≡ A.failed place.trace }
-    ensures threads { IsErrOf result.1 Fault.Relay → 2 ≤ workers }
+    ensures lasts_report { OnOk result.1 (¬ (ReportOverflows scenario.now)) }
+    ensures overflow { IsErrOf result.1 Fault.CounterOverflow → CounterOverflows scenario.now ⊎ ReportOverflows scenario.now }
+    ensures others { IsErrOf result.1 Fault.ThreadLost → A.failed result.0 ≡ A.failed place.trace }
+    ensures threads { IsErrOf result.1 Fault.ThreadLost → 2 ≤ workers }
 {
     let outcome = run_shared_gathered(rt, alloc, scenario, division, workers, &mut place, report);
     let TraceAndGathered { trace, gathered } = place;
@@ -149,10 +149,10 @@ fn run_watching<A: Sink, B: Sink, W: Write, R: Threads + Wait + Sync>(
     requires none_gathered { AreSeriesOf scenario.now gathered.series [] }
     ensures promise { KeepsPromise A.held A.failed B.held B.failed scenario.now trace result.0 report.old report.new (summed (rows_told result.1)) }
     ensures told { IfOk result.1 (TellsRun scenario.now) }
-    ensures lasts_report { OnOk result.1 (¬ (WearsOutReport scenario.now)) }
-    ensures worn { IsErrOf result.1 Fault.Worn → WearsOut scenario.now ⊎ WearsOutReport scenario.now }
-    ensures others { IsErrOf result.1 Fault.Relay → A.failed result.0 ≡ A.failed trace }
-    ensures threads { IsErrOf result.1 Fault.Relay → 2 ≤ workers }
+    ensures lasts_report { OnOk result.1 (¬ (ReportOverflows scenario.now)) }
+    ensures overflow { IsErrOf result.1 Fault.CounterOverflow → CounterOverflows scenario.now ⊎ ReportOverflows scenario.now }
+    ensures others { IsErrOf result.1 Fault.ThreadLost → A.failed result.0 ≡ A.failed trace }
+    ensures threads { IsErrOf result.1 Fault.ThreadLost → 2 ≤ workers }
 {
     let gathered = Watched::new(out, gathered);
     let mut place = TraceAndGathered { trace, gathered };

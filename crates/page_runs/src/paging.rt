@@ -7,7 +7,7 @@ ghost use Rattle.page_runs.specs.Told.{TellsRun};
 
 use crate::told::RunTold;
 use base::{Fault, Memory};
-use outputs::Summary;
+use run_output::Summary;
 use run_page::{Run, page};
 use scenario::Scenario;
 use std::alloc::Global;
@@ -40,7 +40,7 @@ pub(crate) fn write_page<C: Sink>(
     ensures unfailed { OnOk result (C.failed out.new ≡ C.failed out.old) }
     ensures write { IsErrOf result Fault.Write → C.failed out.old < C.failed out.new }
     ensures others { IfErr result (λ cause. cause ≢ Fault.Write → C.failed out.new ≡ C.failed out.old) }
-    ensures causes { IfErr result (λ cause. (cause ≢ Fault.Worn) × (cause ≢ Fault.Relay)) }
+    ensures causes { IfErr result (λ cause. (cause ≢ Fault.CounterOverflow) × (cause ≢ Fault.ThreadLost)) }
 {
     let text = page_of(alloc, scenario, shown, told)?;
     match put_page(text.as_bytes(), out) {

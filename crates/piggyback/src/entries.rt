@@ -1,4 +1,5 @@
-// The entries of a buffer, in the order in which they are sent.
+//! A buffer's entries change: an update replaces the one about its subject, and each that was sent is counted, and
+//! dropped once it was sent often enough (SWIM, section 4.1).
 ghost use Rattle.std.specs.Prelude.{◌≡◌, ◌<◌, ◌≤◌, ◌==◌, ℕ, IsTrue, IsSome, IfSome, IsOk, OnOk, OnErr, vec_len, count_by, filter, insert, nat_lt, position, remove, if◌then◌else◌};
 ghost use Rattle.std.specs.List.{position_or_len};
 ghost use Rattle.std.specs.Option.{option_map};
@@ -11,7 +12,7 @@ use base::{MemberId, Memory};
 use incarnation::Update;
 
 // Where the entry about a member is, if there is one.
-fn place_of(entries: &[(Update, u64)], subject: MemberId) -> Option<usize>
+fn place_of_subject(entries: &[(Update, u64)], subject: MemberId) -> Option<usize>
     ensures { result ≡ position (λ it. it.0.subject == subject) entries.now }
 {
     entries
@@ -25,7 +26,7 @@ pub(crate) fn entry_of(entries: &[(Update, u64)], subject: MemberId) -> Option<(
     ensures found { result ≡ found_of subject entries.now }
     ensures own { IfSome result (λ it. it.0.subject ≡ subject) }
 {
-    match place_of(entries, subject) {
+    match place_of_subject(entries, subject) {
         Some(place) => Some(entries[place]),
         None => None,
     }
@@ -65,7 +66,7 @@ pub(crate) fn set(entries: &mut Vec<(Update, u64)>, update: Update) -> Result<()
     ensures err { OnErr result (entries.new.items ≡ entries.old.items) }
     ensures replaces { IsSome (found_of update.subject entries.old.items) → IsOk result }
 {
-    match place_of(entries, update.subject) {
+    match place_of_subject(entries, update.subject) {
         Some(place) => {
             replace_at(entries, place, (update, 0));
             Ok(())
@@ -81,7 +82,7 @@ fn count_one(entries: &mut Vec<(Update, u64)>, subject: MemberId)
     ensures counted { let old = entries.old.items in (other : ℕ) → found_of other entries.new.items
         ≡ (if other == subject then option_map counted_once (found_of other old) else found_of other old) }
 {
-    let Some(place) = place_of(entries, subject) else {
+    let Some(place) = place_of_subject(entries, subject) else {
         return;
     };
     let entry = entries[place];

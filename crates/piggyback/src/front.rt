@@ -1,5 +1,4 @@
-// The entries that left with a message mostly stand at the front. There they are counted together, and
-// merged into the others.
+//! A faster way to count updates as sent: they are taken from the buffer's front together, and merged back in order.
 ghost use Rattle.std.specs.Prelude.{◌≡◌, ◌≤◌, IsTrue, IfOk, length, map, drop, take, vec_len};
 ghost use Rattle.std.specs.Bool.{OnTrue, OnFalse};
 ghost use Rattle.piggyback.specs.Keyed.{all_placed, begins_with, counted_once, goes_first, is_in_order, stands_first};

@@ -1,4 +1,5 @@
-// Which updates a message carries, in which order.
+//! The order in which updates ride on messages: those sent fewer times first (SWIM, section 4.1), after the buddy's
+//! suspicion (Lifeguard's Buddy System).
 ghost use Rattle.std.specs.Prelude.{◌≡◌, [], ◌∷◌, ◌++◌, IsTrue, IfOk, OnOk, map, filter, take, option_to_list};
 ghost use Rattle.std.specs.List.{position_or_len};
 ghost use Rattle.piggyback.specs.Keyed.{is_in_order};

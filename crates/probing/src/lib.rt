@@ -95,7 +95,7 @@ impl Rota {
         ensures removed { self.new ≡ remove_of member self.old }
         ensures sound { IsSoundOrder self.new }
     {
-        let Some(place) = place_of(&self.members, member) else {
+        let Some(place) = place_of_member(&self.members, member) else {
             return;
         };
         self.members.remove(place);
@@ -122,7 +122,7 @@ fn number(member: MemberId) -> u16
 }
 
 /// The place of a member in a list, if it is there.
-fn place_of(members: &[MemberId], member: MemberId) -> Option<usize>
+fn place_of_member(members: &[MemberId], member: MemberId) -> Option<usize>
     ensures { result ≡ position (λ other. other == member) members.now }
 {
     members.iter().position(|other| *other == member)

@@ -1,3 +1,4 @@
+//! A member draws at most k of the candidates that fit, with three draws per candidate at most (memberlist's rules).
 ghost use Rattle.std.specs.Prelude.{◌≡◌, ◌^◌, ◌<◌, ◌≤◌, IfOk, OnOk, length};
 ghost use Rattle.streams.specs.Draw.{words_of};
 ghost use Rattle.probing.specs.Samples.{is_in, with_drawn, sample_of};

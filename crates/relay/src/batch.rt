@@ -1,3 +1,4 @@
+//! A batch of trace rows, as a relay carries it to the thread that writes, and as the contracts record it.
 use std::collections::LinkedList;
 use trace::Row;
 

@@ -1,3 +1,5 @@
+//! A bounded channel that carries batches of the trace in order between two threads, with contracts over what each seat
+//! sent and received.
 ghost use Rattle.std.specs.Prelude.{◌≡◌, ◌++◌, [], ◌∷◌, false, All, IfOk, IfErr, OnOk, OnErr, IfSome, IfNone};
 ghost use Rattle.crossbeam_channel.specs.Ends.{sends_on, receives_on};
 

@@ -1,4 +1,4 @@
-// The rights to send and to take, which are parted once and joined at the end.
+//! How the one right over the relay's channel is parted into a sending and a receiving one, and joined at the end.
 ghost use Rattle.std.specs.Prelude.{◌≡◌, [], true, false, Option, Some, None};
 ghost use Rattle.crossbeam_channel.specs.Claims.{view, IsSeatAt};
 ghost use Rattle.crossbeam_channel.specs.Ends.{sends_on};

@@ -1,4 +1,5 @@
-// What holds of the relay at each moment, and what each step tells. These types are for the proofs alone.
+//! The relay's protocol for the proofs: batches come out in the order in which they went in, and each send and each
+//! take says what it adds to the log of its side. These types are for the proofs alone.
 ghost use Rattle.std.specs.Prelude.{◌≡◌, ◌++◌, [], ◌∷◌, ⊤, IfSome, map};
 
 use crate::batch::{Batch, Lot};

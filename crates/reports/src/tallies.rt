@@ -60,16 +60,16 @@ impl Tallies {
 
     /// Adds the next row of a run. A refusal leaves the tallies as they were.
     ///
-    /// Faults: `Memory`; `Worn` where 2^63 rows are there already.
+    /// Faults: `Memory`; `CounterOverflow` where 2^63 rows are there already.
     pub fn add(&mut self, row: &Row) -> Result<(), Fault>
         ensures ok { OnOk result (self.new ≡ self.old ++ row.now ∷ []) }
         ensures err { OnErr result (self.new ≡ self.old) }
-        ensures worn { IsErrOf result Fault.Worn → 2 ^ 63 ≤ length self.old }
-        ensures full { 2 ^ 63 ≤ length self.old → IsErrOf result Fault.Worn }
-        ensures causes { IfErr result (λ fault. (fault ≢ Fault.Write) × (fault ≢ Fault.Relay)) }
+        ensures overflow { IsErrOf result Fault.CounterOverflow → 2 ^ 63 ≤ length self.old }
+        ensures full { 2 ^ 63 ≤ length self.old → IsErrOf result Fault.CounterOverflow }
+        ensures causes { IfErr result (λ fault. (fault ≢ Fault.Write) × (fault ≢ Fault.ThreadLost)) }
     {
         if self.counts.rows >= COUNTER_LIMIT {
-            return Err(Fault::Worn);
+            return Err(Fault::CounterOverflow);
         }
         self.revivals.reach(row)?;
         self.failures.follow(row)?;
@@ -81,12 +81,12 @@ impl Tallies {
 
     /// Adds the next rows of a run, up to one that is refused.
     ///
-    /// Faults: `Memory`; `Worn` where there would be more than 2^63 rows.
+    /// Faults: `Memory`; `CounterOverflow` where there would be more than 2^63 rows.
     pub fn add_all(&mut self, rows: &[Row]) -> Result<(), Fault>
         ensures ok { OnOk result (self.new ≡ self.old ++ rows.now) }
         ensures lasts { OnOk result (length self.new ≤ 2 ^ 63) }
-        ensures worn { IsErrOf result Fault.Worn → 2 ^ 63 < length (self.old ++ rows.now) }
-        ensures causes { IfErr result (λ fault. (fault ≢ Fault.Write) × (fault ≢ Fault.Relay)) }
+        ensures overflow { IsErrOf result Fault.CounterOverflow → 2 ^ 63 < length (self.old ++ rows.now) }
+        ensures causes { IfErr result (λ fault. (fault ≢ Fault.Write) × (fault ≢ Fault.ThreadLost)) }
     {
         for row in rows {
             self.add(row)?;

@@ -10,8 +10,8 @@ use Rattle.trace.specs.Text.{trace_text}
 use Rattle.trace.proofs.Beginnings.{Appends-none}
 use Rattle.reports.specs.Text.{report_text}
 use Rattle.files.specs.Files.{KnownFile, HoldsNow, ClosesAs, KeepsOthers, KeepsAllOthers, KeepsAllButThree, DifferEach}
-use Rattle.member_laws.specs.Runs.{WearsOut}
-use Rattle.outputs.specs.Promise.{WearsOutReport}
+use Rattle.member_laws.specs.Runs.{CounterOverflows}
+use Rattle.run_output.specs.Promise.{ReportOverflows}
 use Rattle.page_runs.specs.Pages.{BeginsPage, BeginsRunAndPage, IsPageOf, WritesRunAndPage}
 use Rattle.scenario_files.specs.Shelves.{Shelf, HoldsBeginning}
 use Rattle.scenario_files.proofs.Held.{holds_text}
@@ -64,8 +64,8 @@ module _ (s : Setup) (name release : List ℕ) (start end : Shelf) (trace : Text
 
   -- it broke off
   pub paged_begun : (EndsBy : Fault → Type 0) (cause : Fault) → EndsBy cause → BeginsRunAndPage name release s old new report_old report_new page_old page_new
-      → (cause ≡ fault.Worn → WearsOut s ⊎ WearsOutReport s) → BreaksOffPaged EndsBy s name release start end trace report page cause
-  paged_begun EndsBy cause may begins worn = record { rows = begins.rows; run = begins.run; written = by begins.written; others = others; may = may; worn = worn }
+      → (cause ≡ fault.CounterOverflow → CounterOverflows s ⊎ ReportOverflows s) → BreaksOffPaged EndsBy s name release start end trace report page cause
+  paged_begun EndsBy cause may begins overflow = record { rows = begins.rows; run = begins.run; written = by begins.written; others = others; may = may; overflow = overflow }
     where
       traced : List ℕ
       traced = trace_text s begins.rows

@@ -10,8 +10,8 @@ use Rattle.base.specs.declared.fault.Fault.TheVariants as fault
 use Rattle.scenario.specs.Setup.{Setup}
 use Rattle.trace.specs.Text.{trace_text}
 use Rattle.reports.specs.Text.{report_text}
-use Rattle.member_laws.specs.Runs.{WearsOut}
-use Rattle.outputs.specs.Promise.{WritesRun, WritesBeginning, WearsOutReport}
+use Rattle.member_laws.specs.Runs.{CounterOverflows}
+use Rattle.run_output.specs.Promise.{WritesRun, WritesBeginning, ReportOverflows}
 use Rattle.scenario_files.specs.Shelves.{Shelf, HoldsBeginning}
 use Rattle.scenario_files.proofs.Held.{holds_beginning, holds_text}
 use Rattle.scenario_files.proofs.Pairs.{first_begins, first_holds, second_begins, second_holds}
@@ -35,15 +35,15 @@ module _ (s : Setup) (start made end : Shelf) (trace : Text) (old new report_old
     others = rest_kept;
   }
 
-  pub trace_begun : (EndsBy : Fault → Type 0) (cause : Fault) → EndsBy cause → WritesBeginning s old new report_old report_new → (cause ≡ fault.Worn → WearsOut s ⊎ WearsOutReport s)
+  pub trace_begun : (EndsBy : Fault → Type 0) (cause : Fault) → EndsBy cause → WritesBeginning s old new report_old report_new → (cause ≡ fault.CounterOverflow → CounterOverflows s ⊎ ReportOverflows s)
       → BreaksOff EndsBy s start end trace None cause
-  trace_begun EndsBy cause may begins worn = record {
+  trace_begun EndsBy cause may begins overflow = record {
     rows = begins.rows;
     run = begins.run;
     written = go begins.written;
     others = rest_kept;
     may = may;
-    worn = worn;
+    overflow = overflow;
   }
     where
       text : List ℕ
@@ -115,14 +115,14 @@ module _ (start made between end : Shelf) (trace report : Text) (apart : IfSome 
       → HoldsNow (start trace) (made trace) [] → IfSome (start trace) (λ _. old ≡ Some [])
       → HoldsNow (start report) (made report) [] → IfSome (start report) (λ _. report_old ≡ Some [])
       → ClosesAs (made trace) (between trace) new → ClosesAs (between report) (end report) report_new
-      → EndsBy cause → WritesBeginning s old new report_old report_new → (cause ≡ fault.Worn → WearsOut s ⊎ WearsOutReport s)
+      → EndsBy cause → WritesBeginning s old new report_old report_new → (cause ≡ fault.CounterOverflow → CounterOverflows s ⊎ ReportOverflows s)
       → BreaksOff EndsBy s start end trace (Some report) cause
-  both_begun EndsBy s cause old new report_old report_new empty fresh report_empty report_fresh closed report_ends may begins worn = record {
+  both_begun EndsBy s cause old new report_old report_new empty fresh report_empty report_fresh closed report_ends may begins overflow = record {
     rows = begins.rows;
     run = begins.run;
     written = both_begin (trace_text s begins.rows) (report_text s begins.rows) old new report_old report_new empty fresh report_empty report_fresh
         closed report_ends begins.written;
     others = others_kept;
     may = may;
-    worn = worn;
+    overflow = overflow;
   }

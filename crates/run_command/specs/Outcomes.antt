@@ -8,8 +8,8 @@ use Rattle.scenario.specs.Division.{Deal}
 use Rattle.trace.specs.Text.{trace_text}
 use Rattle.trace.specs.declared.row.Row.{Row}
 use Rattle.reports.specs.Text.{report_text}
-use Rattle.member_laws.specs.Runs.{IsRunOf, WearsOut}
-use Rattle.outputs.specs.Promise.{WearsOutReport}
+use Rattle.member_laws.specs.Runs.{IsRunOf, CounterOverflows}
+use Rattle.run_output.specs.Promise.{ReportOverflows}
 use Rattle.page_runs.specs.Pages.{IsPageOf}
 use Rattle.clap.specs.Words.{Text}
 use Rattle.files.specs.Files.{Making, HoldsNow, CannotMake, CannotMakeSecond, CannotMakeThird, AreThreeFiles, AreFourFiles}
@@ -113,7 +113,7 @@ pub record BreaksOff (EndsBy : Fault → Type 0) (s : Setup) (before after : She
       ⊎ (HoldsNow (before trace) (after trace) (trace_text s rows) × BeginsReport before after report (report_text s rows))
   pub others : KeepsRest before after trace report
   pub may : EndsBy cause
-  pub worn : cause ≡ fault.Worn → WearsOut s ⊎ WearsOutReport s
+  pub overflow : cause ≡ fault.CounterOverflow → CounterOverflows s ⊎ ReportOverflows s
 
 -- The file of this name can't be made: it is the trace's; or it is the report's, and may be the trace's too. Nor can one that is
 -- the scenario's.
@@ -141,7 +141,7 @@ pub record BreaksOffPaged (EndsBy : Fault → Type 0) (s : Setup) (name release 
       × ((text : List ℕ) × IsPageOf name s rows release text × HoldsBeginning (before page) (after page) text)))
   pub others : KeepsAllRest before after trace report page
   pub may : EndsBy cause
-  pub worn : cause ≡ fault.Worn → WearsOut s ⊎ WearsOutReport s
+  pub overflow : cause ≡ fault.CounterOverflow → CounterOverflows s ⊎ ReportOverflows s
 
 -- the file of a page can't be made, or it is that of the scenario, of the trace or of the report
 abbrev pub CannotMakePage : Making → Text → Text → Option Text → Text → Type 0

@@ -8,7 +8,7 @@ mod running;
 mod simulator;
 mod storing;
 
-pub use outputs::Summary;
 pub use page_runs::RunShown;
+pub use run_output::Summary;
 pub use running::run;
 pub use simulator::Simulator;

@@ -8,7 +8,7 @@ use crate::simulator::Simulator;
 use crate::storing::store_run;
 use command_line::{Failure, Release, RunWords};
 use files::Files;
-use outputs::Summary;
+use run_output::Summary;
 use scenario_files::{PreparedRun, prepare};
 use std::alloc::Global;
 use std::io::Write;

@@ -1,14 +1,14 @@
 //! What simulates a scenario.
 ghost use Rattle.std.specs.Prelude.{◌≡◌, ◌⊎◌, ◌<◌, ◌^◌, IfOk, IfErr, OnOk, OnErr, IsErrOf, length};
 ghost use Rattle.scenario.specs.Setup.{member_count};
-ghost use Rattle.member_laws.specs.Runs.{WearsOut};
+ghost use Rattle.member_laws.specs.Runs.{CounterOverflows};
 ghost use Rattle.trace.specs.Writers.{writer_under, put_failures};
-ghost use Rattle.outputs.specs.Promise.{WritesRun, WritesBeginning, WearsOutReport};
+ghost use Rattle.run_output.specs.Promise.{WritesRun, WritesBeginning, ReportOverflows};
 ghost use Rattle.page_runs.specs.Pages.{WritesRunAndPage, BeginsRunAndPage};
 
 use base::Fault;
-use outputs::Summary;
 use page_runs::RunShown;
+use run_output::Summary;
 use scenario::{Division, Scenario, Workers};
 use std::alloc::Global;
 use std::io::Write;
@@ -50,9 +50,9 @@ pub trait Simulator {
 
         // no fault comes without its cause
         ensures cause { IfErr result.2 (ends_by scenario.now workers) }
-        ensures worn { IsErrOf result.2 Fault.Worn → WearsOut scenario.now ⊎ WearsOutReport scenario.now }
+        ensures overflow { IsErrOf result.2 Fault.CounterOverflow → CounterOverflows scenario.now ⊎ ReportOverflows scenario.now }
         ensures write { IsErrOf result.2 Fault.Write → (0 < put_failures result.0) ⊎ (R.failed report < R.failed result.1) }
-        ensures relay { IsErrOf result.2 Fault.Relay → put_failures result.0 ≡ 0 }
+        ensures relay { IsErrOf result.2 Fault.ThreadLost → put_failures result.0 ≡ 0 }
         ensures whole { OnOk result.2 (put_failures result.0 ≡ 0) }
         ensures whole_report { OnOk result.2 (R.failed result.1 ≡ R.failed report) };
 
@@ -82,9 +82,9 @@ pub trait Simulator {
 
         // no fault comes without its cause
         ensures cause { IfErr result.3 (ends_by scenario.now workers) }
-        ensures worn { IsErrOf result.3 Fault.Worn → WearsOut scenario.now ⊎ WearsOutReport scenario.now }
+        ensures overflow { IsErrOf result.3 Fault.CounterOverflow → CounterOverflows scenario.now ⊎ ReportOverflows scenario.now }
         ensures write { IsErrOf result.3 Fault.Write → (0 < put_failures result.0) ⊎ ((R.failed report < R.failed result.1) ⊎ (0 < put_failures result.2)) }
-        ensures relay { IsErrOf result.3 Fault.Relay → put_failures result.0 ≡ 0 }
+        ensures relay { IsErrOf result.3 Fault.ThreadLost → put_failures result.0 ≡ 0 }
         ensures whole { OnOk result.3 (put_failures result.0 ≡ 0) }
         ensures whole_report { OnOk result.3 (R.failed result.1 ≡ R.failed report) }
         ensures whole_page { OnOk result.3 (put_failures result.2 ≡ 0) };

@@ -8,7 +8,7 @@ use crate::nowhere::Nowhere;
 use crate::simulator::Simulator;
 use command_line::{Failure, RunWords};
 use files::{Files, PairFault};
-use outputs::Summary;
+use run_output::Summary;
 use scenario_files::{PreparedRun, file_failure, run_told};
 use std::alloc::Global;
 use std::io::Write;

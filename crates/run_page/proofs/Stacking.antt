@@ -10,8 +10,8 @@ use Rattle.trace.specs.declared.row.What.{What}
 use Rattle.series.specs.Series.{kind_place}
 use Rattle.series.specs.Spans.{span_width}
 use Rattle.drawing.specs.Shapes.{area}
-use Rattle.run_lanes.specs.Heights.{stacked}
-use Rattle.run_lanes.specs.Lanes.{moments}
+use Rattle.member_timelines.specs.Heights.{stacked}
+use Rattle.member_timelines.specs.Lanes.{moments}
 use Rattle.run_page.specs.Stacks.{Layer, layers, tops}
 
 -- the text that the layers left append, and one layer of them appended

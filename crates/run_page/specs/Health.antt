@@ -10,9 +10,9 @@ use Rattle.series.specs.Series.{healths_of}
 use Rattle.drawing.specs.Axes.{axis_up}
 use Rattle.drawing.specs.Legends.{entry}
 use Rattle.drawing.specs.Shapes.{figure_opening, figure_end, plot_opening, plot_end}
-use Rattle.run_lanes.specs.Heights.{heights, flat, axis_height}
-use Rattle.run_lanes.specs.Lanes.{moments}
-use Rattle.run_lanes.specs.LaneTable.{time_axis, is_unchanged}
+use Rattle.member_timelines.specs.Heights.{heights, flat, axis_height}
+use Rattle.member_timelines.specs.Lanes.{moments}
+use Rattle.member_timelines.specs.LaneTable.{time_axis, is_unchanged}
 use Rattle.run_page.specs.Stacks.{Layer, layers, tops, greatest}
 
 -- the values that are drawn: a counter never passes 16

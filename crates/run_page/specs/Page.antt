@@ -4,10 +4,10 @@ use Rattle.scenario.specs.Setup.{Setup}
 use Rattle.trace.specs.declared.row.Row.{Row}
 use Rattle.drawing.specs.Escaped.{escaped, markup}
 use Rattle.drawing.specs.Pages.{page_opening}
-use Rattle.run_lanes.specs.declared.chosen.Chosen.{Chosen}
-use Rattle.run_lanes.specs.LaneTable.{lanes_text}
-use Rattle.run_lanes.specs.ThrownOut.{thrown_out_text}
-use Rattle.run_deaths.specs.Causes.{causes_text}
+use Rattle.member_timelines.specs.declared.chosen.Chosen.{Chosen}
+use Rattle.member_timelines.specs.LaneTable.{lanes_text}
+use Rattle.member_timelines.specs.ThrownOut.{thrown_out_text}
+use Rattle.false_deaths.specs.Causes.{causes_text}
 use Rattle.run_settings.specs.Settings.{settings_text}
 use Rattle.run_summary.specs.Summary.{summary_text}
 use Rattle.run_spread.specs.Spread.{spread_text}

@@ -5,8 +5,8 @@ use Rattle.std.specs.List.{reduce}
 use Rattle.scenario.specs.Setup.{Setup}
 use Rattle.series.specs.Spans.{span_width}
 use Rattle.drawing.specs.Shapes.{area}
-use Rattle.run_lanes.specs.Heights.{stacked}
-use Rattle.run_lanes.specs.Lanes.{moments}
+use Rattle.member_timelines.specs.Heights.{stacked}
+use Rattle.member_timelines.specs.Lanes.{moments}
 
 -- what is drawn of something: its class in the palette, and how high each span is
 pub record Layer : Type 0 where

@@ -15,9 +15,9 @@ use Rattle.drawing.specs.Axes.{axis_up}
 use Rattle.drawing.specs.Legends.{entry, counted_entry}
 use Rattle.drawing.specs.Numbers.{grouped}
 use Rattle.drawing.specs.Shapes.{figure_opening, figure_end, plot_opening, plot_end, area}
-use Rattle.run_lanes.specs.Heights.{flat, axis_height}
-use Rattle.run_lanes.specs.Lanes.{moments}
-use Rattle.run_lanes.specs.LaneTable.{time_axis}
+use Rattle.member_timelines.specs.Heights.{flat, axis_height}
+use Rattle.member_timelines.specs.Lanes.{moments}
+use Rattle.member_timelines.specs.LaneTable.{time_axis}
 use Rattle.run_page.specs.Stacks.{Layer, layers, tops, greatest}
 
 -- the class of a kind of message

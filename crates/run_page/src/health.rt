@@ -3,14 +3,14 @@ ghost use Rattle.std.specs.Prelude.{◌≡◌, ◌<◌, ◌≤◌, ◌^◌, ◌+
 ghost use Rattle.std.specs.String.{string_bytes};
 ghost use Rattle.std.specs.List.{list_all};
 ghost use Rattle.series.specs.Spans.{span_count};
-ghost use Rattle.run_lanes.specs.Run.{IsTold};
+ghost use Rattle.member_timelines.specs.Run.{IsTold};
 ghost use Rattle.run_page.specs.Stacks.{greatest};
 ghost use Rattle.run_page.specs.Health.{values, class_of_value, at_value, unwell, health_areas, health_words, health_plot, health_row, health_span, health_rows, value_rows, health_table, health_figure, health_text};
 
 use crate::kinds::{open_time_plot, push_layer, reach};
 use base::Memory;
 use drawing::{close_figure, close_plot, open_figure, push_entry, push_up};
-use run_lanes::{Run, axis_height, before, flat, greatest, heights, push_time_axis};
+use member_timelines::{Run, axis_height, before, flat, greatest, heights, push_time_axis};
 use std::alloc::{AllocError, Global};
 
 /// The values from 1 on: a counter never passes 16.

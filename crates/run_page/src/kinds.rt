@@ -6,16 +6,16 @@ ghost use Rattle.reports.specs.Text.{message_kinds};
 ghost use Rattle.series.specs.Series.{sends_in, loses_in};
 ghost use Rattle.series.specs.Spans.{span_width};
 ghost use Rattle.drawing.specs.Shapes.{area, plot_opening};
-ghost use Rattle.run_lanes.specs.Heights.{stacked};
-ghost use Rattle.run_lanes.specs.Lanes.{moments};
-ghost use Rattle.run_lanes.specs.Run.{IsTold};
+ghost use Rattle.member_timelines.specs.Heights.{stacked};
+ghost use Rattle.member_timelines.specs.Lanes.{moments};
+ghost use Rattle.member_timelines.specs.Run.{IsTold};
 ghost use Rattle.run_page.specs.Stacks.{greatest};
 ghost use Rattle.run_page.specs.Traffic.{class_of, is_counted, sent_by_span, lost_by_span, sent_tops, lost_tops, sent_areas};
 
 use base::Memory;
 use drawing::{open_plot, push_area};
+use member_timelines::{Run, flat, greatest, stacked};
 use reports::message_kinds;
-use run_lanes::{Run, flat, greatest, stacked};
 use std::alloc::{AllocError, Global};
 use trace::What;
 

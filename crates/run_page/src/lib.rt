@@ -7,5 +7,5 @@ mod layout;
 mod traffic;
 mod whole;
 
-pub use run_lanes::Run;
+pub use member_timelines::Run;
 pub use whole::page;

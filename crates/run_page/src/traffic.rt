@@ -4,7 +4,7 @@ ghost use Rattle.std.specs.String.{string_bytes};
 ghost use Rattle.std.specs.List.{list_all, range_with_len};
 ghost use Rattle.reports.specs.Text.{message_kinds};
 ghost use Rattle.series.specs.Spans.{span_width, span_count};
-ghost use Rattle.run_lanes.specs.Run.{IsTold};
+ghost use Rattle.member_timelines.specs.Run.{IsTold};
 ghost use Rattle.run_page.specs.Traffic.{is_counted, sent, lost, hundredths, two_places, rate_words, kind_entry, lost_entry, kinds_legend, width_words, sent_plot, lost_area, lost_plot, lost_tops, lost_part, column, columns, from_cell, cells, span_cells, traffic_table, traffic_body, traffic_text};
 
 use crate::kinds::{
@@ -15,7 +15,7 @@ use base::Memory;
 use drawing::{
     close_figure, close_plot, open_figure, push_counted, push_entry, push_grouped, push_up,
 };
-use run_lanes::{Run, axis_height, flat, greatest, push_time_axis};
+use member_timelines::{Run, axis_height, flat, greatest, push_time_axis};
 use std::alloc::{AllocError, Global};
 use trace::What;
 

@@ -1,10 +1,12 @@
+//! The page of a run put together: its head and summary, the members' lanes, false deaths and their causes, the spread
+//! of crashes, the messages, the health scores and the settings.
 ghost use Rattle.std.specs.Prelude.{◌≡◌, ◌<◌, ◌++◌, List, IfOk, OnOk, All};
 ghost use Rattle.std.specs.String.{string_bytes};
 ghost use Rattle.std.specs.List.Sorted.{IsPermutation, IsSorted};
 ghost use Rattle.scenario.specs.Setup.{member_count};
-ghost use Rattle.run_lanes.specs.declared.chosen.Chosen.{Chosen as AChosen};
-ghost use Rattle.run_lanes.specs.Run.{IsTold};
-ghost use Rattle.run_lanes.specs.Choice.{choices};
+ghost use Rattle.member_timelines.specs.declared.chosen.Chosen.{Chosen as AChosen};
+ghost use Rattle.member_timelines.specs.Run.{IsTold};
+ghost use Rattle.member_timelines.specs.Choice.{choices};
 ghost use Rattle.run_page.specs.Page.{head_text, page_front, page_back, page_text};
 
 use crate::health::push_health;
@@ -12,8 +14,8 @@ use crate::layout::layout_style;
 use crate::traffic::push_traffic;
 use base::Memory;
 use drawing::{open_page, push_escaped, push_markup};
-use run_deaths::push_causes;
-use run_lanes::{Chosen, Run, all_chosen, push_lanes, push_thrown_out};
+use false_deaths::push_causes;
+use member_timelines::{Chosen, Run, all_chosen, push_lanes, push_thrown_out};
 use run_settings::push_settings;
 use run_spread::push_spread;
 use run_summary::push_summary;

@@ -15,7 +15,7 @@ use Rattle.drawing.specs.Escaped.{escaped}
 use Rattle.drawing.specs.Legends.{entry}
 use Rattle.drawing.specs.Numbers.{grouped}
 use Rattle.drawing.specs.Shapes.{figure_opening, figure_end, plot_opening, plot_end, line, step_start}
-use Rattle.run_lanes.specs.Heights.{axis_height}
+use Rattle.member_timelines.specs.Heights.{axis_height}
 use Rattle.run_spread.specs.declared.news.ShareTimes.{ShareTimes}
 
 -- ---- when members learned of a crash

@@ -6,11 +6,11 @@ ghost use Rattle.std.specs.List.Sorted.{IsPermutation, IsSorted};
 ghost use Rattle.scenario.specs.Setup.{member_count};
 ghost use Rattle.figures.specs.Cases.{rank, at_rank};
 ghost use Rattle.series.specs.Watched.{at_by, crashes, crashed};
-ghost use Rattle.run_lanes.specs.Run.{IsTold};
+ghost use Rattle.member_timelines.specs.Run.{IsTold};
 ghost use Rattle.run_spread.specs.Spread.{learned, stays, staying, time_of_one, times, last_learned, last_of, longest, reached, shares};
 
 use base::{MemberId, Memory, Moment};
-use run_lanes::Run;
+use member_timelines::Run;
 use std::alloc::Global;
 
 /// How many steps a line has.

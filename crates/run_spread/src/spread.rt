@@ -5,8 +5,8 @@ ghost use Rattle.std.specs.List.{range_with_len};
 ghost use Rattle.scenario.specs.Setup.{member_count};
 ghost use Rattle.series.specs.Watched.{crashed};
 ghost use Rattle.drawing.specs.Shapes.{line, plot_opening, step_start};
-ghost use Rattle.run_lanes.specs.Heights.{axis_height};
-ghost use Rattle.run_lanes.specs.Run.{IsTold};
+ghost use Rattle.member_timelines.specs.Heights.{axis_height};
+ghost use Rattle.member_timelines.specs.Run.{IsTold};
 ghost use Rattle.run_spread.specs.Spread.{learned, staying, chart_opening, spread_chart, time_cell, share_cells, share_row, share_table, crash_part, crash_text, watched_crash, spread_legend, unwatched_words, spread_figure, spread_text};
 
 use crate::news::{Heard, STEPS, ShareTimes, crashed, longest, news, staying};
@@ -15,7 +15,7 @@ use drawing::{
     close_figure, close_plot, open_figure, open_plot, push_across, push_entry, push_escaped,
     push_grouped, push_line, push_up,
 };
-use run_lanes::{Run, axis_height};
+use member_timelines::{Run, axis_height};
 use series::Spread;
 use std::alloc::{AllocError, Global};
 

@@ -13,8 +13,8 @@ use Rattle.reports.specs.Departures.{crashes_of, latencies_of}
 use Rattle.reports.specs.Revivals.{revivals}
 use Rattle.reports.specs.FalsePositives.{ways_to_depart, false_positives}
 use Rattle.drawing.specs.Numbers.{grouped}
-use Rattle.run_lanes.specs.Numbers.{by_number}
-use Rattle.run_lanes.specs.Wrongly.{count_out}
+use Rattle.member_timelines.specs.Numbers.{by_number}
+use Rattle.member_timelines.specs.Wrongly.{count_out}
 
 -- how large the cluster is and how long it ran
 unfoldable pub size_words : Setup → List ℕ

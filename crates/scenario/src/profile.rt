@@ -1,3 +1,5 @@
+//! Which rules the members follow: those of the SWIM and Lifeguard papers in versions 1 and 2 of the format, those of
+//! memberlist in version 3.
 ghost use Rattle.std.specs.Prelude.{◌≡◌};
 ghost use Rattle.scenario.specs.Profile.{profile_of};
 

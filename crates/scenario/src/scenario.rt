@@ -1,3 +1,4 @@
+//! A scenario that keeps the format's rules, and what a run asks it about members, links, cuts, slow times and pauses.
 ghost use Rattle.std.specs.Prelude.{◌≡◌, ◌<◌, ◌≤◌, ◌^◌, ℕ, true, false};
 ghost use Rattle.std.specs.Prelude.{string_bytes, map, filter, find, nat_eq, slice_get, option_map, option_and_then, option_copied, IfOk, IfSome, IfNone};
 ghost use Rattle.std.specs.List.{list_any, range_with_len};

@@ -1,3 +1,5 @@
+//! The values of a scenario's tables: settings of SWIM, Lifeguard's switches, memberlist's gossip and streams, links,
+//! groups, and what happens to members and links.
 use base::{MemberId, Moment};
 
 /// How members probe and gossip. Times are in ticks.

@@ -13,7 +13,7 @@ use crate::additions::{
 use crate::lists::{count_of, list_names, read_groups, read_paths, read_script};
 use crate::pairs::check_pairs;
 use crate::references::check_references;
-use crate::refusal::{Refusal, place_of};
+use crate::refusal::{Refusal, place_of_byte};
 use crate::roster::Roster;
 use crate::tables::{
     read_gossip, read_lifeguard, read_link, read_stream, read_suspicion, read_swim,
@@ -75,7 +75,7 @@ fn unread(error: &toml::de::Error) -> Refusal
         None => Refusal::memory(),
         Some(span) => Refusal {
             rule: 1,
-            place: place_of(span.start),
+            place: place_of_byte(span.start),
         },
     }
 }

@@ -1,3 +1,4 @@
+//! Why the reader refuses a scenario's text: the number of the least broken rule, and the place that breaks it.
 use schema::{ShapeFault, TablePlace};
 use thiserror::Error;
 
@@ -60,6 +61,6 @@ fn number_of(index: usize) -> u32 {
 }
 
 /// A place in the text as it is told to people.
-pub(crate) fn place_of(byte: usize) -> u32 {
+pub(crate) fn place_of_byte(byte: usize) -> u32 {
     u32::try_from(byte).unwrap_or(u32::MAX)
 }

@@ -73,18 +73,18 @@ impl Series {
         })
     }
 
-    /// Adds the next row of a run of the scenario. A refusal leaves what was gathered; `Worn` comes
+    /// Adds the next row of a run of the scenario. A refusal leaves what was gathered; `CounterOverflow` comes
     /// where so many rows came that none can be counted any more.
     pub fn add(&mut self, row: &Row, _scenario: &Scenario) -> Result<(), Fault>
         requires named { NamesMembers _scenario.now row.now }
         requires gathered { (rows : List AnyRow) × AreSeriesOf _scenario.now self.old rows }
         ensures ok { OnOk result ((rows : List AnyRow) → AreSeriesOf _scenario.now self.old rows → AreSeriesOf _scenario.now self.new (rows ++ row.now ∷ [])) }
         ensures err { OnErr result ((rows : List AnyRow) → AreSeriesOf _scenario.now self.old rows → AreSeriesOf _scenario.now self.new rows) }
-        ensures worn { IsErrOf result Fault.Worn → (rows : List AnyRow) → AreSeriesOf _scenario.now self.old rows → 2 ^ 63 ≤ length rows }
-        ensures causes { IfErr result (λ fault. (fault ≢ Fault.Write) × (fault ≢ Fault.Relay)) }
+        ensures overflow { IsErrOf result Fault.CounterOverflow → (rows : List AnyRow) → AreSeriesOf _scenario.now self.old rows → 2 ^ 63 ≤ length rows }
+        ensures causes { IfErr result (λ fault. (fault ≢ Fault.Write) × (fault ≢ Fault.ThreadLost)) }
     {
         if self.rows >= COUNTER_LIMIT {
-            return Err(Fault::Worn);
+            return Err(Fault::CounterOverflow);
         }
         let span = self.spans.span(row.at);
         let number = self.rows + 2;

@@ -1,3 +1,4 @@
+//! How the time of a run is divided for the figures of a page: at most 120 equal spans, and the span of each moment.
 ghost use Rattle.std.specs.Prelude.{◌≡◌, ◌<◌, ◌≤◌};
 ghost use Rattle.series.specs.Spans.{span_width, span_in, span_count};
 

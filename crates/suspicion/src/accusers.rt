@@ -1,3 +1,4 @@
+//! The confirmations of a suspicion (Lifeguard's LHA-Suspicion): up to nine further accusers, kept in place.
 ghost use Rattle.std.specs.Prelude.{◌≡◌, ◌==◌, ◌<◌, ◌≤◌, [], ◌∷◌, ◌++◌, length};
 ghost use Rattle.std.specs.List.{list_any};
 

@@ -1,3 +1,4 @@
+//! What a member keeps of one suspicion until it ends: its terms, its start, its accusers and its present timer.
 ghost use Rattle.suspicion.specs.Ranges.{IsKept};
 
 use crate::accusers::Accusers;

@@ -1,3 +1,5 @@
+//! The suspicions that one member holds: each starts with one accuser, each confirmation that counts shortens it, and
+//! one timer of it is the present one (SWIM, section 4.2; Lifeguard's LHA-Suspicion).
 ghost use Rattle.std.specs.Prelude.{◌≡◌, ◌+◌, ◌^◌, ◌<◌, ◌≤◌, max, false, IfOk, IfSome, OnOk, OnErr, Ok, unwrap_or};
 ghost use Rattle.std.specs.Option.{option_map};
 ghost use Rattle.std.specs.FinMap.{empty, contains_key, insert, remove};

@@ -1,3 +1,5 @@
+//! How long a suspicion lasts: from the most to the least time, shortened by each confirmation (Lifeguard's
+//! LHA-Suspicion), with logarithms and confirmations counted as in the papers or as in memberlist.
 ghost use Rattle.std.specs.Prelude.{◌≡◌, ◌^◌, ◌<◌, ◌≤◌};
 ghost use Rattle.suspicion.specs.Ranges.{AreSound};
 ghost use Rattle.suspicion.specs.Times.{size_log, min_timeout, most_accusers, timeout};

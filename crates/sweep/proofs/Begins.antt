@@ -1,9 +1,9 @@
 -- What stands of the table of a piece in a text.
 use Rattle.std.proofs.Common.{◌≡◌, ◌≢◌, ◌<◌, ◌≤◌, ◌+◌, ◌-◌, ℕ, Bool, List, [], ◌++◌, inl, inr, refl, sym, ap, ◌∙◌, arith}
-use Rattle.cases.specs.Sweep.{Sweep, run_count}
-use Rattle.pieces.specs.declared.piece.Piece.{Piece}
-use Rattle.pieces.specs.Pieces.{IsPiece, first_run, past_run}
-use Rattle.pieces.proofs.Bounds.{share_grows}
+use Rattle.sweep_plan.specs.Sweep.{Sweep, run_count}
+use Rattle.shards.specs.declared.piece.Piece.{Piece}
+use Rattle.shards.specs.Pieces.{IsPiece, first_run, past_run}
+use Rattle.shards.proofs.Bounds.{share_grows}
 use Rattle.sweep.specs.Pieces.{piece_header}
 use Rattle.sweep.specs.Resumed.{AreWholeLines, IsBegun, RefusesBegun, RefusesStart, StandsSo, bytes_kept}
 use Rattle.sweep.specs.declared.begun.BegunFault.{BegunFault}

@@ -4,12 +4,12 @@ use Rattle.std.specs.Prelude.{slice_get}
 use Rattle.std.proofs.Math.Seq.{drop-cons}
 use Rattle.std.proofs.lemmas.List.{take_more, length-take-le, drop_all}
 use Rattle.std.proofs.lemmas.Option.{get_or_from_slice_get, slice_get_within}
-use Rattle.cases.specs.Sweep.{KeyValues}
-use Rattle.cases.specs.Cases.{cases_of}
-use Rattle.cases.proofs.Choices.{cases_long}
-use Rattle.cases.specs.Values.{value_text}
-use Rattle.cases.specs.declared.choice.Choice.{Choice}
-use Rattle.cases.specs.declared.values.SettingValue.{SettingValue}
+use Rattle.sweep_plan.specs.Sweep.{KeyValues}
+use Rattle.sweep_plan.specs.Cases.{cases_of}
+use Rattle.sweep_plan.proofs.Choices.{cases_long}
+use Rattle.sweep_plan.specs.Values.{value_text}
+use Rattle.sweep_plan.specs.declared.choice.Choice.{Choice}
+use Rattle.sweep_plan.specs.declared.values.SettingValue.{SettingValue}
 use Rattle.figures.specs.declared.summary.CaseSummary.{CaseSummary}
 use Rattle.sweep.specs.Texts.{longest, lines_of_cases, marked_line}
 use Rattle.sweep.proofs.Steps.{taken_more}

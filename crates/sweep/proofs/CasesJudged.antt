@@ -4,12 +4,12 @@ use Rattle.std.specs.Prelude.{All, slice_get}
 use Rattle.std.proofs.lemmas.Nat.{mul-le}
 use Rattle.std.proofs.lemmas.Option.{none-some, same_Some, slice_get-get_or}
 use Rattle.toml.specs.Data.{Data}
-use Rattle.cases.specs.Asked.{AsksForSeeds}
-use Rattle.cases.specs.Cases.{cases_of}
-use Rattle.cases.specs.Document.{with_choice, with_values}
-use Rattle.cases.specs.Sweep.{Sweep, case_count, seed_count}
-use Rattle.cases.specs.declared.choice.Choice.{Choice}
-use Rattle.cases.specs.declared.seeds.Seeds.{Seeds}
+use Rattle.sweep_plan.specs.Asked.{AsksForSeeds}
+use Rattle.sweep_plan.specs.Cases.{cases_of}
+use Rattle.sweep_plan.specs.Document.{with_choice, with_values}
+use Rattle.sweep_plan.specs.Sweep.{Sweep, case_count, seed_count}
+use Rattle.sweep_plan.specs.declared.choice.Choice.{Choice}
+use Rattle.sweep_plan.specs.declared.seeds.Seeds.{Seeds}
 use Rattle.sweep.specs.Judged.{AreAccepted, IsAccepted, IsAcceptedAt}
 use Rattle.sweep.specs.Runs.{IsAskedFor, IsRunAt, planned_as, runs_of, seeds_of}
 use Rattle.sweep.proofs.Flat.{cases_counted, run_in, seed_there}

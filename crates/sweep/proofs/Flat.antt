@@ -7,11 +7,11 @@ use Rattle.std.proofs.lemmas.Option.{none-some, same_Some, slice_get-map, slice_
 use Rattle.std.specs.Prelude.{slice_get}
 use Rattle.std.specs.List.{flat_map, range_with_len}
 use Rattle.std.specs.Option.{option_map}
-use Rattle.cases.specs.Sweep.{KeyValues, Sweep, case_count, seed_count, run_count}
-use Rattle.cases.specs.Cases.{cases_of}
-use Rattle.cases.proofs.Choices.{length-cases_of}
-use Rattle.cases.specs.declared.seeds.Seeds.{Seeds}
-use Rattle.cases.specs.declared.choice.Choice.{Choice}
+use Rattle.sweep_plan.specs.Sweep.{KeyValues, Sweep, case_count, seed_count, run_count}
+use Rattle.sweep_plan.specs.Cases.{cases_of}
+use Rattle.sweep_plan.proofs.Choices.{length-cases_of}
+use Rattle.sweep_plan.specs.declared.seeds.Seeds.{Seeds}
+use Rattle.sweep_plan.specs.declared.choice.Choice.{Choice}
 use Rattle.sweep.specs.Runs.{IsRunAt, planned_as, runs_of, seeds_of}
 
 module _ {X : Type 0} where

@@ -11,7 +11,7 @@ use Rattle.figures.specs.Notes.{Note}
 use Rattle.figures.specs.Cases.{IsSummaryOf}
 use Rattle.figures.specs.Kept.{AreFiguresOf, runs_kept}
 use Rattle.figures.proofs.Roots.{le_from, lt_from}
-use Rattle.cases.specs.Sweep.{Sweep, case_count, seed_count, run_count}
+use Rattle.sweep_plan.specs.Sweep.{Sweep, case_count, seed_count, run_count}
 use Rattle.sweep.specs.declared.gathering.Gathering.{Gathering}
 use Rattle.sweep.specs.Summaries.{runs_of_case, SumUp, IsGathered}
 use Rattle.sweep.proofs.Pushed.{pushed}

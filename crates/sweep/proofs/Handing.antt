@@ -7,9 +7,9 @@ use Rattle.toml.specs.Data.{Data}
 use Rattle.trace.specs.Sinks.{fault_of_write}
 use Rattle.trace.specs.declared.write.WriteError.{WriteError}
 use Rattle.trace.specs.declared.write.WriteError.TheVariants as error
-use Rattle.cases.specs.Sweep.{Sweep}
+use Rattle.sweep_plan.specs.Sweep.{Sweep}
 use Rattle.sweep.specs.Table.{HasCause}
-use Rattle.outputs.specs.Written.{sink_failures}
+use Rattle.run_output.specs.Written.{sink_failures}
 
 -- what holds holds at a success too
 pub on_ok : {T E P : Type 0} (r : Result T E) → P → OnOk r P

@@ -7,10 +7,10 @@ use Rattle.scenario.specs.Setup.{Setup, IsSound}
 use Rattle.trace.specs.declared.row.Row.{Row}
 use Rattle.trace.specs.Sinks.{AppendsBeginning}
 use Rattle.member_laws.specs.Runs.{IsRunOf}
-use Rattle.cases.specs.Sweep.{Sweep, run_count}
+use Rattle.sweep_plan.specs.Sweep.{Sweep, run_count}
 use Rattle.figures.specs.Notes.{Note}
-use Rattle.pieces.specs.declared.piece.Piece.{Piece}
-use Rattle.pieces.specs.Pieces.{first_run, past_run}
+use Rattle.shards.specs.declared.piece.Piece.{Piece}
+use Rattle.shards.specs.Pieces.{first_run, past_run}
 use Rattle.sweep.specs.Judged.{AreAccepted}
 use Rattle.sweep.specs.Runs.{Made, AreMadeBetween}
 use Rattle.sweep.specs.Table.{BeginsLines, noted_line, tells_revived}

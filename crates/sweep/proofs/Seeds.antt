@@ -25,9 +25,9 @@ use Rattle.schema.specs.declared.shape.Check.TheVariants.{Missing, Unknown, Wron
 use Rattle.scenario.specs.Setup.{Setup, Group, IsSound}
 use Rattle.scenario_reader.specs.Reading.{version_numbered, version_of, plain_group, plain_groups, group_in, path_in, swim_in, suspicion_in, lifeguard_in, link_in, gossip_in, stream_in, stream_table, slow_in, crash_in, leave_in, cut_in, pause_in, added_items, pause_items, setup_of_tree}
 use Rattle.scenario_reader.specs.Rules.{has_lost_contact, names_no_member, names_no_group, breaks_names, breaks_references, breaks_added_references, breaks_pairs, breaks_departures, breaks_pauses, breaks_times, breaks_added_times, breaks_size, least_of, least_broken_by, least_broken, unless_broken, document_verdict}
-use Rattle.cases.specs.Document.{put, with_entry, with_seed}
-use Rattle.cases.proofs.Names.{bytes_eq_same}
-use Rattle.cases.proofs.Puts.{entry_other, get_here}
+use Rattle.sweep_plan.specs.Document.{put, with_entry, with_seed}
+use Rattle.sweep_plan.proofs.Names.{bytes_eq_same}
+use Rattle.sweep_plan.proofs.Puts.{entry_other, get_here}
 
 -- ---- what stands at the keys
 

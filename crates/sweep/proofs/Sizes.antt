@@ -5,11 +5,11 @@ use Rattle.std.proofs.lemmas.Nat.{mul-le}
 use Rattle.std.proofs.lemmas.List.{length-take}
 use Rattle.std.proofs.lemmas.List.Sums.{count_by-le-length}
 use Rattle.std.proofs.lemmas.Option.{slice_get-get_or}
-use Rattle.answers.specs.Wants.{HasFewRuns}
-use Rattle.cases.specs.Asked.{AsksForSeeds}
-use Rattle.cases.proofs.Choices.{cases_some}
-use Rattle.cases.specs.Sweep.{Sweep, case_count, seed_count}
-use Rattle.cases.specs.declared.seeds.Seeds.{Seeds}
+use Rattle.goals.specs.Wants.{HasFewRuns}
+use Rattle.sweep_plan.specs.Asked.{AsksForSeeds}
+use Rattle.sweep_plan.proofs.Choices.{cases_some}
+use Rattle.sweep_plan.specs.Sweep.{Sweep, case_count, seed_count}
+use Rattle.sweep_plan.specs.declared.seeds.Seeds.{Seeds}
 use Rattle.figures.specs.Cases.{IsSummaryOf}
 use Rattle.figures.specs.Notes.{Note}
 use Rattle.figures.specs.declared.summary.CaseSummary.{CaseSummary}

@@ -20,9 +20,9 @@ use Rattle.trace.specs.declared.row.Row.{Row}
 use Rattle.trace.specs.Sinks.{AppendsBeginning}
 use Rattle.trace.proofs.Beginnings.{Appends-then, Appends-kept, beginning-kept, beginning-first, beginning-then, beginning-whole, beginning-of}
 use Rattle.member_laws.specs.Runs.{IsRunOf}
-use Rattle.outputs.specs.Written.{sink_failures}
+use Rattle.run_output.specs.Written.{sink_failures}
 use Rattle.figures.specs.Notes.{Note}
-use Rattle.cases.specs.Sweep.{Sweep, run_count}
+use Rattle.sweep_plan.specs.Sweep.{Sweep, run_count}
 use Rattle.sweep.specs.Runs.{Planned, Made, IsMadeAs, AreMadeBetween, IsRunAt, noted, runs_of, runs_between, verdict_of}
 use Rattle.sweep.specs.Table.{tells_revived, noted_line, lines_text, Course, HasLines, BeginsLines, HasCause, IsCauseAt, IsMadeRun}
 use Rattle.sweep.specs.declared.making.MadeRun.{MadeRun}
@@ -166,10 +166,10 @@ module _ (tree : Data) (sweep : Sweep) where
   -- why there is no run of a number is why the sweep ends
   pub cause_at : (number : ℕ) (f : Fault) → IsCauseAt tree sweep number f → HasCause tree sweep f
   cause_at number fault.Memory h = tt
-  cause_at number fault.Worn h =
-      record { number = number; planned = h.read.0; there = h.read.1; scenario = h.scenario; accepted = h.read.2; worn = h.worn }
+  cause_at number fault.CounterOverflow h =
+      record { number = number; planned = h.read.0; there = h.read.1; scenario = h.scenario; accepted = h.read.2; overflow = h.overflow }
   cause_at number fault.Write h = absurd h
-  cause_at number fault.Relay h = absurd h
+  cause_at number fault.ThreadLost h = absurd h
 
   -- also where it is handed on
   pub cause_handed : {T : Type 0} (number : ℕ) (e : Fault) (r : Result T Fault) → IsErrAnd r (λ f. f ≡ e) → IsCauseAt tree sweep number e → IfErr r (HasCause tree sweep)
@@ -183,9 +183,9 @@ module _ (tree : Data) (sweep : Sweep) where
     where
       by : (e : Fault) → IsCauseAt tree sweep number e → n ≡ n + sink_failures {T = T} (Err e)
       by fault.Memory h = omega arith
-      by fault.Worn h = omega arith
+      by fault.CounterOverflow h = omega arith
       by fault.Write h = absurd h
-      by fault.Relay h = absurd h
+      by fault.ThreadLost h = absurd h
 
   -- the runs from the first to past the last are all
   pub all_made : (made : List Made) → AreMadeBetween tree sweep 0 (run_count sweep) made → AllZip (IsMadeAs tree) (runs_of sweep) made

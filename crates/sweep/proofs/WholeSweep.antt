@@ -5,10 +5,10 @@ use Rattle.std.specs.List.{AllZip, flat_map}
 use Rattle.std.specs.Io.KnownBytes.{Appends}
 use Rattle.toml.specs.Data.{Data}
 use Rattle.trace.specs.Sinks.{AppendsBeginning}
-use Rattle.cases.specs.Sweep.{Sweep, run_count, seed_count}
-use Rattle.pieces.specs.declared.piece.Piece.{Piece}
-use Rattle.pieces.specs.Pieces.{first_run, past_run, whole}
-use Rattle.pieces.proofs.Whole.{first_of_whole, past_of_whole}
+use Rattle.sweep_plan.specs.Sweep.{Sweep, run_count, seed_count}
+use Rattle.shards.specs.declared.piece.Piece.{Piece}
+use Rattle.shards.specs.Pieces.{first_run, past_run, whole}
+use Rattle.shards.proofs.Whole.{first_of_whole, past_of_whole}
 use Rattle.sweep.specs.declared.gathering.Gathering.{Gathering}
 use Rattle.sweep.specs.Runs.{Made, IsMadeAs, AreMade, AreMadeBetween, noted, runs_of}
 use Rattle.sweep.specs.Table.{noted_line, tells_revived}

@@ -2,7 +2,7 @@
 use Rattle.std.specs.Prelude.{◌≡◌, ℕ, Ok, Err, All, take}
 use Rattle.toml.specs.Data.{Data}
 use Rattle.scenario.specs.Setup.{Setup, IsSound}
-use Rattle.cases.specs.Sweep.{Sweep}
+use Rattle.sweep_plan.specs.Sweep.{Sweep}
 use Rattle.sweep.specs.Runs.{Planned, IsRunAt, runs_of, verdict_of}
 
 -- the run's document is accepted: it is that of a scenario, which is sound

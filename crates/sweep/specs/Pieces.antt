@@ -5,10 +5,10 @@ use Rattle.std.specs.Io.KnownBytes.{Appends}
 use Rattle.toml.specs.Data.{Data}
 use Rattle.trace.specs.Sinks.{AppendsBeginning}
 use Rattle.figures.specs.Lines.{header_line}
-use Rattle.cases.specs.Sweep.{Sweep, run_count}
-use Rattle.pieces.specs.declared.piece.Piece.{Piece}
-use Rattle.pieces.specs.Pieces.{first_run, past_run, whole}
-use Rattle.pieces.specs.Names.{head_cell}
+use Rattle.sweep_plan.specs.Sweep.{Sweep, run_count}
+use Rattle.shards.specs.declared.piece.Piece.{Piece}
+use Rattle.shards.specs.Pieces.{first_run, past_run, whole}
+use Rattle.shards.specs.Names.{head_cell}
 use Rattle.sweep.specs.Runs.{Made, AreMade, AreMadeBetween}
 use Rattle.sweep.specs.Table.{names_of, tells_revived, noted_line}
 

@@ -4,9 +4,9 @@ use Rattle.std.specs.List.{flat_map}
 use Rattle.std.specs.Io.KnownBytes.{Appends}
 use Rattle.toml.specs.Data.{Data}
 use Rattle.trace.specs.Sinks.{AppendsBeginning}
-use Rattle.cases.specs.Sweep.{Sweep, run_count}
-use Rattle.pieces.specs.declared.piece.Piece.{Piece}
-use Rattle.pieces.specs.Pieces.{first_run, past_run}
+use Rattle.sweep_plan.specs.Sweep.{Sweep, run_count}
+use Rattle.shards.specs.declared.piece.Piece.{Piece}
+use Rattle.shards.specs.Pieces.{first_run, past_run}
 use Rattle.sweep.specs.Runs.{Made, AreMadeBetween}
 use Rattle.sweep.specs.Table.{Course, noted_line, tells_revived}
 use Rattle.sweep.specs.Pieces.{piece_header}

@@ -7,12 +7,12 @@ use Rattle.scenario_reader.specs.Rules.{document_verdict}
 use Rattle.trace.specs.declared.row.Row.{Row}
 use Rattle.member_laws.specs.Runs.{IsRunOf}
 use Rattle.figures.specs.Notes.{Note, note_of}
-use Rattle.cases.specs.Sweep.{Sweep, seed_count}
-use Rattle.cases.specs.Cases.{cases_of}
-use Rattle.cases.specs.Document.{with_values}
-use Rattle.cases.specs.Asked.{IsSweepOf}
-use Rattle.cases.specs.declared.seeds.Seeds.{Seeds}
-use Rattle.cases.specs.declared.choice.Choice.{Choice}
+use Rattle.sweep_plan.specs.Sweep.{Sweep, seed_count}
+use Rattle.sweep_plan.specs.Cases.{cases_of}
+use Rattle.sweep_plan.specs.Document.{with_values}
+use Rattle.sweep_plan.specs.Asked.{IsSweepOf}
+use Rattle.sweep_plan.specs.declared.seeds.Seeds.{Seeds}
+use Rattle.sweep_plan.specs.declared.choice.Choice.{Choice}
 
 -- a run that a sweep asks for: the values of its case, and its seed, which is the text's own where none is asked for
 pub record Planned : Type 0 where

@@ -2,7 +2,7 @@
 use Rattle.std.specs.Prelude.{◌≡◌, ◌≤◌, ℕ, ◌*◌, Option, Some, List, length, map, take, drop, slice_get}
 use Rattle.std.specs.Io.KnownBytes.{Appends}
 use Rattle.toml.specs.Data.{Data}
-use Rattle.cases.specs.Sweep.{Sweep, case_count, seed_count}
+use Rattle.sweep_plan.specs.Sweep.{Sweep, case_count, seed_count}
 use Rattle.figures.specs.declared.summary.CaseSummary.{CaseSummary}
 use Rattle.figures.specs.Notes.{Note}
 use Rattle.figures.specs.Cases.{IsSummaryOf}

@@ -12,15 +12,15 @@ use Rattle.schema.specs.declared.schema.Version.TheVariants.{One, Two, Three}
 use Rattle.scenario.specs.Setup.{Setup}
 use Rattle.scenario_reader.specs.Reading.{version_of}
 use Rattle.trace.specs.Sinks.{AppendsBeginning}
-use Rattle.member_laws.specs.Runs.{WearsOut}
-use Rattle.outputs.specs.Promise.{WearsOutReport}
+use Rattle.member_laws.specs.Runs.{CounterOverflows}
+use Rattle.run_output.specs.Promise.{ReportOverflows}
 use Rattle.figures.specs.Figures.{figures_of}
 use Rattle.figures.specs.Lines.{run_line}
 use Rattle.figures.specs.Notes.{note_cell}
-use Rattle.cases.specs.Keys.{key_name}
-use Rattle.cases.specs.Values.{value_text}
-use Rattle.cases.specs.Sweep.{KeyValues, Sweep}
-use Rattle.cases.specs.declared.choice.Choice.{Choice}
+use Rattle.sweep_plan.specs.Keys.{key_name}
+use Rattle.sweep_plan.specs.Values.{value_text}
+use Rattle.sweep_plan.specs.Sweep.{KeyValues, Sweep}
+use Rattle.sweep_plan.specs.declared.choice.Choice.{Choice}
 use Rattle.sweep.specs.declared.making.MadeRun.{MadeRun}
 use Rattle.sweep.specs.Runs.{Planned, Made, IsMadeAs, AreMadeBetween, IsRunAt, noted, verdict_of}
 
@@ -80,40 +80,40 @@ pub record BeginsLines (tree : Data) (sweep : Sweep) (course : Course) (held : O
 
 -- the scenario's run, or the count of its rows, wears a counter out
 abbrev pub IsWearing : Setup → Type 0
-IsWearing s = WearsOut s ⊎ WearsOutReport s
+IsWearing s = CounterOverflows s ⊎ ReportOverflows s
 
 -- some run that is asked for does
-pub record WearsOutSome (tree : Data) (sweep : Sweep) : Type 0 where
+pub record OverflowsOutSome (tree : Data) (sweep : Sweep) : Type 0 where
   pub number : ℕ
   pub planned : Planned
   pub there : IsRunAt sweep number planned
   pub scenario : Setup
   pub accepted : verdict_of tree planned ≡ Ok scenario
-  pub worn : IsWearing scenario
+  pub overflow : IsWearing scenario
 
 -- why a sweep ends before its time: a counter only where some run wears one out; a sink where its failures say so; no relay
 abbrev pub HasCause : Data → Sweep → Fault → Type 0
 HasCause tree sweep fault.Memory = Unit {0}
-HasCause tree sweep fault.Worn = WearsOutSome tree sweep
+HasCause tree sweep fault.CounterOverflow = OverflowsOutSome tree sweep
 HasCause tree sweep fault.Write = Unit {0}
-HasCause tree sweep fault.Relay = ⊥
+HasCause tree sweep fault.ThreadLost = ⊥
 
 -- the scenario is that of the run of this number
 abbrev pub IsReadAt : Data → Sweep → ℕ → Setup → Type 0
 IsReadAt tree sweep number s = (p : Planned) × IsRunAt sweep number p × (verdict_of tree p ≡ Ok s)
 
 -- the run of this number wears a counter out
-pub record WearsOutAt (tree : Data) (sweep : Sweep) (number : ℕ) : Type 0 where
+pub record OverflowsOutAt (tree : Data) (sweep : Sweep) (number : ℕ) : Type 0 where
   pub scenario : Setup
   pub read : IsReadAt tree sweep number scenario
-  pub worn : IsWearing scenario
+  pub overflow : IsWearing scenario
 
 -- why there is no run of a number: a counter only where that run wears one out; no sink, and no relay
 abbrev pub IsCauseAt : Data → Sweep → ℕ → Fault → Type 0
 IsCauseAt tree sweep number fault.Memory = Unit {0}
-IsCauseAt tree sweep number fault.Worn = WearsOutAt tree sweep number
+IsCauseAt tree sweep number fault.CounterOverflow = OverflowsOutAt tree sweep number
 IsCauseAt tree sweep number fault.Write = ⊥
-IsCauseAt tree sweep number fault.Relay = ⊥
+IsCauseAt tree sweep number fault.ThreadLost = ⊥
 
 -- the line and the note are those of the run of this number
 pub record IsMadeRun (tree : Data) (sweep : Sweep) (number : ℕ) (run : MadeRun) : Type 0 where

@@ -1,14 +1,14 @@
 -- The text of the cases of a sweep: a header, and a line for each case, in aligned columns.
 use Rattle.std.specs.Prelude.{ℕ, Bool, List, [], ◌∷◌, ◌++◌, length, map, max}
 use Rattle.std.specs.List.{flat_map, zip}
-use Rattle.cases.specs.Keys.{key_name}
-use Rattle.cases.specs.Values.{value_text}
-use Rattle.cases.specs.Sweep.{KeyValues, Sweep}
-use Rattle.cases.specs.Cases.{cases_of}
-use Rattle.cases.specs.declared.choice.Choice.{Choice}
+use Rattle.sweep_plan.specs.Keys.{key_name}
+use Rattle.sweep_plan.specs.Values.{value_text}
+use Rattle.sweep_plan.specs.Sweep.{KeyValues, Sweep}
+use Rattle.sweep_plan.specs.Cases.{cases_of}
+use Rattle.sweep_plan.specs.declared.choice.Choice.{Choice}
 use Rattle.figures.specs.CaseLines.{cells_aligned, figure_texts, figure_widths, figure_words}
 use Rattle.figures.specs.declared.summary.CaseSummary.{CaseSummary}
-use Rattle.answers.specs.Front.{is_on_front, mark_text, mark_word}
+use Rattle.goals.specs.Front.{is_on_front, mark_text, mark_word}
 use Rattle.sweep.specs.Table.{names_of, texts_of}
 
 -- how long the longest of some texts is

@@ -1,7 +1,7 @@
 //! What stands of the table of a piece that was cut off.
 ghost use Rattle.std.specs.Prelude.{◌≡◌, ◌≢◌, ◌++◌, true, false, List, ℕ, IfOk, IfErr, IfSome, IsNone};
 ghost use Rattle.toml.specs.View.{view};
-ghost use Rattle.pieces.specs.Pieces.{IsPiece};
+ghost use Rattle.shards.specs.Pieces.{IsPiece};
 ghost use Rattle.sweep.specs.Pieces.{piece_header};
 ghost use Rattle.sweep.specs.Runs.{IsAskedFor};
 ghost use Rattle.sweep.specs.Table.{tells_revived};
@@ -11,9 +11,9 @@ ghost use Rattle.sweep.specs.declared.begun.BegunFault.TheVariants as begun_faul
 use crate::piece_tables::front_of;
 use crate::revived::tells_revived;
 use base::Memory;
-use cases::Plan;
-use pieces::Piece;
+use shards::Piece;
 use std::alloc::Global;
+use sweep_plan::Plan;
 use thiserror::Error;
 use toml::Value;
 

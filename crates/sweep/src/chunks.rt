@@ -1,8 +1,8 @@
 //! The runs of a sweep, some at a time.
 ghost use Rattle.std.specs.Prelude.{◌≡◌, ◌<◌, ◌≤◌, ◌^◌, ◌+◌, OnOk, OnErr, IfOk, IfErr};
 ghost use Rattle.toml.specs.View.{view};
-ghost use Rattle.cases.specs.Sweep.{run_count, seed_count};
-ghost use Rattle.outputs.specs.Written.{sink_failures};
+ghost use Rattle.sweep_plan.specs.Sweep.{run_count, seed_count};
+ghost use Rattle.run_output.specs.Written.{sink_failures};
 ghost use Rattle.sweep.specs.Judged.{AreAccepted};
 ghost use Rattle.sweep.specs.Runs.{IsAskedFor};
 ghost use Rattle.sweep.specs.Shares.{AreShares};
@@ -19,13 +19,13 @@ use crate::shares::{LotSize, Share, next_lot};
 use crate::work::SECOND_OF_WORK;
 use crate::writing::write_line;
 use base::Fault;
-use cases::Plan;
 use figures::CaseSummary;
-use pieces::Piece;
 use scenario::Workers;
+use shards::Piece;
 use std::alloc::Global;
 use std::marker::Sync;
 use std::thread::Threads;
+use sweep_plan::Plan;
 use toml::Value;
 use trace::Sink;
 
@@ -42,7 +42,7 @@ const LOT: LotSize = LotSize {
 /// memory; each time it is told how many were made. Gives what is told of each case, in their order. Each document
 /// must have been judged to be accepted. After a fault the table has got a beginning of that.
 ///
-/// Faults: `Memory`; `Worn` where a counter of some run, or a count of its tallies, would pass 2^63; `Write`
+/// Faults: `Memory`; `CounterOverflow` where a counter of some run, or a count of its tallies, would pass 2^63; `Write`
 /// where the sink failed.
 pub fn sweep<S: Sink, P: Progress>(
     rt: &(impl Threads + Sync),

@@ -1,15 +1,15 @@
 //! Whether all scenarios of a sweep keep the format's rules.
 ghost use Rattle.std.specs.Prelude.{◌≡◌, ◌≢◌, ◌<◌, ◌≤◌, Err, OnOk, IfErr};
 ghost use Rattle.toml.specs.View.{view};
-ghost use Rattle.cases.specs.Sweep.{run_count};
+ghost use Rattle.sweep_plan.specs.Sweep.{run_count};
 ghost use Rattle.sweep.specs.Runs.{IsAskedFor, IsRunAt, planned_as, verdict_of};
 ghost use Rattle.sweep.specs.Judged.{AreAccepted, IsAcceptedAt, IsFirstRefused};
 
 use crate::planned::{first_run, planned};
 use base::Memory;
-use cases::{Choice, Plan, read_with};
 use scenario_reader::Refusal;
 use std::alloc::Global;
+use sweep_plan::{Choice, Plan, read_with};
 use toml::Value;
 
 /// Why a sweep is refused before anything runs.

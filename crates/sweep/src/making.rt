@@ -3,7 +3,7 @@ ghost use Rattle.std.specs.Prelude.{◌≤◌, ◌<◌, ℕ, All, List, IfOk};
 ghost use Rattle.std.specs.List.{AllZip, flat_map};
 ghost use Rattle.toml.specs.Data.{Data};
 ghost use Rattle.toml.specs.View.{view};
-ghost use Rattle.cases.specs.Sweep.{Sweep, run_count};
+ghost use Rattle.sweep_plan.specs.Sweep.{Sweep, run_count};
 ghost use Rattle.sweep.specs.Judged.{AreAccepted};
 ghost use Rattle.sweep.specs.Runs.{IsAskedFor};
 ghost use Rattle.sweep.specs.Shares.{numbers_of};
@@ -15,14 +15,14 @@ use crate::revived::tells_revived;
 use crate::shares::Share;
 use crate::values::line_of;
 use base::{Fault, Memory};
-use cases::Plan;
 use figures::{RunFigures, RunNote};
 use rayon::prelude::*;
+use sequential_run::tally_run;
 use std::alloc::Global;
 use std::marker::Sync;
 use std::thread::Threads;
+use sweep_plan::Plan;
 use toml::Value;
-use whole_runs::tally_run;
 
 /// A run that was made.
 #[derive(Drop)]
@@ -33,7 +33,7 @@ pub struct MadeRun {
     pub note: RunNote,
 }
 
-/// The runs of these shares, in their order; or why there is no run of a number: `Memory`; `Worn` where a counter of that run, or
+/// The runs of these shares, in their order; or why there is no run of a number: `Memory`; `CounterOverflow` where a counter of that run, or
 /// a count of its tallies, would pass 2^63. As many threads as there are shares, and no more than two for each processor, make
 /// the runs of the shares, side by side. Each document must have been judged to be accepted. It fails where memory is refused
 /// for the list of runs.

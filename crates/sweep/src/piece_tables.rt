@@ -2,11 +2,11 @@
 ghost use Rattle.std.specs.Prelude.{◌≡◌, ◌≤◌, ◌<◌, ◌^◌, ◌+◌, [], OnOk, OnErr, IfErr, IfOk, drop};
 ghost use Rattle.std.specs.Io.KnownBytes.{Appends};
 ghost use Rattle.toml.specs.View.{view};
-ghost use Rattle.cases.specs.Sweep.{run_count, seed_count};
+ghost use Rattle.sweep_plan.specs.Sweep.{run_count, seed_count};
 ghost use Rattle.trace.specs.Sinks.{AppendsBeginning, failures_of_write};
-ghost use Rattle.outputs.specs.Written.{sink_failures};
-ghost use Rattle.pieces.specs.Pieces.{IsPiece, first_run, past_run};
-ghost use Rattle.pieces.specs.Names.{head_cell};
+ghost use Rattle.run_output.specs.Written.{sink_failures};
+ghost use Rattle.shards.specs.Pieces.{IsPiece, first_run, past_run};
+ghost use Rattle.shards.specs.Names.{head_cell};
 ghost use Rattle.sweep.specs.Judged.{AreAccepted};
 ghost use Rattle.sweep.specs.Runs.{IsAskedFor};
 ghost use Rattle.sweep.specs.Table.{HasCause, tells_revived};
@@ -21,16 +21,16 @@ use crate::progress::Progress;
 use crate::revived::tells_revived;
 use crate::values::write_names;
 use base::{Fault, Memory};
-use cases::Plan;
-use outputs::flush;
-use pieces::{Piece, head_cell};
+use run_output::flush;
 use scenario::Workers;
+use sequential_run::a_run_exists;
+use shards::{Piece, head_cell};
 use std::alloc::Global;
 use std::marker::Sync;
 use std::thread::Threads;
+use sweep_plan::Plan;
 use toml::Value;
 use trace::{Put, Sink, WriteError, put_all};
-use whole_runs::a_run_exists;
 
 /// Makes the runs of a piece of a sweep, and writes its table: a header, ahead of which stands the piece's name, and a
 /// line for each run, each with what its case keeps of it before it; at the end the table is flushed. `mark` tells which

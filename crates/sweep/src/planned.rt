@@ -1,13 +1,13 @@
 //! The runs that a sweep asks for, by their numbers.
 ghost use Rattle.std.specs.Prelude.{◌≡◌, ◌<◌, ◌≤◌, ◌+◌, ◌*◌, ◌^◌, All, Some, slice_get, IfOk};
 ghost use Rattle.std.specs.Option.{ForSome};
-ghost use Rattle.cases.specs.Values.{FitsToml};
-ghost use Rattle.cases.specs.Sweep.{case_count, run_count, seed_count};
+ghost use Rattle.sweep_plan.specs.Values.{FitsToml};
+ghost use Rattle.sweep_plan.specs.Sweep.{case_count, run_count, seed_count};
 ghost use Rattle.sweep.specs.Runs.{IsAskedFor, IsRunAt, planned_as, seeds_of};
 
 use base::Memory;
-use cases::{Choice, Plan, Seeds};
 use std::alloc::Global;
+use sweep_plan::{Choice, Plan, Seeds};
 
 /// A run that a sweep asks for.
 #[derive(Drop)]

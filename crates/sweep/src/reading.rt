@@ -1,17 +1,17 @@
 //! The scenarios of runs that a sweep asks for.
 ghost use Rattle.std.specs.Prelude.{◌≡◌, ◌<◌, IfOk};
 ghost use Rattle.toml.specs.View.{view};
-ghost use Rattle.cases.specs.Sweep.{run_count};
+ghost use Rattle.sweep_plan.specs.Sweep.{run_count};
 ghost use Rattle.sweep.specs.Judged.{AreAccepted};
 ghost use Rattle.sweep.specs.Runs.{IsAskedFor};
 ghost use Rattle.sweep.specs.Table.{IsReadAt};
 
 use crate::planned::planned;
 use base::Memory;
-use cases::{Plan, read_with};
 use scenario::Scenario;
 use scenario_reader::Refusal;
 use std::alloc::Global;
+use sweep_plan::{Plan, read_with};
 use toml::Value;
 
 /// The scenario of the run of this number. Its document was judged, so an error is want of memory.

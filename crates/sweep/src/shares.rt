@@ -1,7 +1,7 @@
 //! The runs that come next, dealt out to workers.
 ghost use Rattle.std.specs.Prelude.{◌≡◌, ◌<◌, ◌≤◌, ◌+◌, ◌^◌, ℕ, true, length, IfOk, OnOk};
 ghost use Rattle.toml.specs.View.{view};
-ghost use Rattle.cases.specs.Sweep.{run_count};
+ghost use Rattle.sweep_plan.specs.Sweep.{run_count};
 ghost use Rattle.sweep.specs.Judged.{AreAccepted};
 ghost use Rattle.sweep.specs.Runs.{IsAskedFor};
 ghost use Rattle.sweep.specs.Shares.{AreShares};
@@ -9,9 +9,9 @@ ghost use Rattle.sweep.specs.Shares.{AreShares};
 use crate::reading::read_run;
 use crate::work::{changes_work, work_of};
 use base::Memory;
-use cases::Plan;
 use scenario::Workers;
 use std::alloc::Global;
+use sweep_plan::Plan;
 use toml::Value;
 
 /// Runs that a worker makes one after the other.

@@ -1,19 +1,19 @@
 //! The text of the cases of a sweep, in aligned columns.
 ghost use Rattle.std.specs.Prelude.{◌≡◌, ◌<◌, ◌++◌, length, slice_get, string_bytes, Some, List, IfOk, OnOk};
-ghost use Rattle.cases.specs.Sweep.{case_count};
-ghost use Rattle.cases.specs.Cases.{cases_of};
-ghost use Rattle.cases.specs.declared.choice.Choice.{Choice as AnyChoice};
+ghost use Rattle.sweep_plan.specs.Sweep.{case_count};
+ghost use Rattle.sweep_plan.specs.Cases.{cases_of};
+ghost use Rattle.sweep_plan.specs.declared.choice.Choice.{Choice as AnyChoice};
 ghost use Rattle.toml.specs.View.{view};
 ghost use Rattle.sweep.specs.Table.{tells_revived};
 ghost use Rattle.sweep.specs.Texts.{column_width, widths_of, cases_text, marked_header, marked_line};
 
 use crate::revived::tells_revived;
 use crate::values::{lent, names, texts};
-use answers::{is_on_front, push_header, push_marked};
 use base::Memory;
-use cases::{Plan, Setting};
 use figures::{CaseSummary, push_case_header, push_case_line};
+use goals::{is_on_front, push_header, push_marked};
 use std::alloc::Global;
+use sweep_plan::{Plan, Setting};
 use toml::Value;
 
 /// The text of the cases of a sweep of this document: a header, and for each case a line with the values of the

@@ -7,9 +7,9 @@ ghost use Rattle.figures.specs.Notes.{note_cell};
 ghost use Rattle.sweep.specs.Table.{names_of, texts_of};
 
 use base::Memory;
-use cases::{Choice, Setting};
 use figures::{RunFigures, RunNote, write_header, write_note, write_run};
 use std::alloc::Global;
+use sweep_plan::{Choice, Setting};
 use trace::{Put, Sink, WriteError};
 
 /// Puts the first line of the table, with the names of the keys that are set. Whether it tells of members

@@ -2,7 +2,7 @@
 ghost use Rattle.std.specs.Prelude.{◌≢◌, ◌≡◌, ◌<◌, ◌^◌, ◌+◌, ◌++◌, ◌∷◌, [], ℕ, List, OnOk, OnErr, IfErr};
 ghost use Rattle.std.specs.Io.KnownBytes.{Appends};
 ghost use Rattle.trace.specs.Sinks.{AppendsBeginning, failures_of_write};
-ghost use Rattle.outputs.specs.Written.{sink_failures};
+ghost use Rattle.run_output.specs.Written.{sink_failures};
 ghost use Rattle.figures.specs.Notes.{Note};
 
 use crate::gathering::Gather;
@@ -25,7 +25,7 @@ pub fn write_line<S: Sink, G: Gather>(
     ensures whole { OnOk result (Appends (S.held table.old) (S.held table.new) run.now.line.items) }
     ensures gathered { OnOk result ((each : ℕ) (notes : List Note) → G.has gathering.old each notes → G.has gathering.new each (notes ++ run.now.note ∷ [])) }
     ensures part { OnErr result (AppendsBeginning (S.held table.old) (S.held table.new) run.now.line.items) }
-    ensures causes { IfErr result (λ fault. (fault ≢ Fault.Worn) × (fault ≢ Fault.Relay)) }
+    ensures causes { IfErr result (λ fault. (fault ≢ Fault.CounterOverflow) × (fault ≢ Fault.ThreadLost)) }
     ensures failures { S.failed table.new ≡ S.failed table.old + sink_failures result }
 {
     gathering.add(alloc, &run.note)?;

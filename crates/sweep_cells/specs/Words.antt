@@ -1,9 +1,9 @@
 -- Figures as words.
 use Rattle.std.specs.Prelude.{ℕ, ◌+◌, ◌-◌, ◌*◌, ◌/◌, ◌%◌, ◌^◌, ◌==◌, if◌then◌else◌, min, max, List, [], ◌++◌, Option, codes, decimal, length, slice_get}
 use Rattle.std.specs.Option.{option_map_or}
-use Rattle.cases.specs.Cases.{cases_of, settings_text}
-use Rattle.cases.specs.Sweep.{KeyValues}
-use Rattle.cases.specs.declared.choice.Choice.{Choice}
+use Rattle.sweep_plan.specs.Cases.{cases_of, settings_text}
+use Rattle.sweep_plan.specs.Sweep.{KeyValues}
+use Rattle.sweep_plan.specs.declared.choice.Choice.{Choice}
 use Rattle.drawing.specs.Escaped.{escaped, markup}
 use Rattle.drawing.specs.Numbers.{grouped}
 use Rattle.figures.specs.declared.summary.CaseSummary.{CaseSummary}

@@ -1,15 +1,15 @@
 //! Figures as words, and cells of tables.
 ghost use Rattle.std.specs.Prelude.{◌≡◌, ◌<◌, ◌++◌, OnOk, slice_get, IfSome, length};
 ghost use Rattle.std.specs.String.{string_bytes};
-ghost use Rattle.cases.specs.Sweep.{case_count};
+ghost use Rattle.sweep_plan.specs.Sweep.{case_count};
 ghost use Rattle.sweep_cells.specs.Cells.{cell, time_cell};
 ghost use Rattle.sweep_cells.specs.Words.{time_words, whole_percent, tenth_percent, percent_words, hundredths_words, rate_words, runs_words, deaths_words, count_words, noun_words, interval_words, number_words, settings_words, settings_at, thousandths, share_of};
 
 use base::Memory;
-use cases::{Choice, Plan, settings_text};
 use drawing::{push_escaped, push_grouped, push_markup};
 use figures::CaseSummary;
 use std::alloc::{AllocError, Global};
+use sweep_plan::{Choice, Plan, settings_text};
 
 /// Appends a time in ticks, or a dash where there is none.
 #[tactic(auto, unfolding(crate::specs::Words::time_words))]

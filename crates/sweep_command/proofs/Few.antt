@@ -4,12 +4,12 @@ use Rattle.std.specs.Prelude.{All}
 use Rattle.std.specs.List.{AllZip, range_with_len}
 use Rattle.std.proofs.lemmas.List.Elements.{All-cons, All-nil}
 use Rattle.toml.specs.Data.{Data}
-use Rattle.cases.specs.Sweep.{Sweep, seed_count}
+use Rattle.sweep_plan.specs.Sweep.{Sweep, seed_count}
 use Rattle.figures.specs.declared.summary.CaseSummary.{CaseSummary}
-use Rattle.answers.specs.Wants.{HasFewRuns}
+use Rattle.goals.specs.Wants.{HasFewRuns}
 use Rattle.sweep.specs.Runs.{IsAskedFor, Made, noted}
 use Rattle.sweep.proofs.Sizes.{few_of, few_runs, few_with_all}
-use Rattle.pieces.specs.Pieces.{whole}
+use Rattle.shards.specs.Pieces.{whole}
 use Rattle.sweep_until.specs.Pieces.{cases_in, first_case}
 use Rattle.sweep_until.specs.Until.{IsMadeUntil, SumsUp}
 use Rattle.sweep_command.specs.Runs.{AreRuns, AreSummedUp, MakesRuns, RunsBy}

@@ -5,7 +5,7 @@ use Rattle.std.proofs.lemmas.Result.{IfErr-weaker}
 use Rattle.toml.specs.Data.{Data}
 use Rattle.files.specs.Files.{AreThreeFiles, Making}
 use Rattle.trace.proofs.Beginnings.{beginning-whole}
-use Rattle.pieces.specs.Pieces.{whole}
+use Rattle.shards.specs.Pieces.{whole}
 use Rattle.figures.specs.declared.summary.CaseSummary.{CaseSummary}
 use Rattle.command_line.specs.declared.words.SweepWords.{SweepWords}
 use Rattle.command_line.specs.declared.failure.Failure.{Failure}

@@ -3,8 +3,8 @@ use Rattle.std.proofs.Common.{◌≡◌, ◌≢◌, ◌<◌, ◌+◌, ◌∙◌,
 use Rattle.toml.specs.Data.{Data}
 use Rattle.base.specs.declared.fault.Fault.{Fault}
 use Rattle.base.specs.declared.fault.Fault.TheVariants as fault
-use Rattle.cases.specs.Sweep.{Sweep}
-use Rattle.outputs.specs.Written.{sink_failures}
+use Rattle.sweep_plan.specs.Sweep.{Sweep}
+use Rattle.run_output.specs.Written.{sink_failures}
 use Rattle.sweep.specs.Table.{HasCause}
 use Rattle.sweep_command.specs.Outcomes.{IsCaused}
 

@@ -7,9 +7,9 @@ use Rattle.files.specs.Files.{KnownFile, HoldsAtLeast, HoldsNow, ClosesAs, Keeps
 use Rattle.files.specs.Files as files
 use Rattle.trace.specs.Sinks.{AppendsBeginning}
 use Rattle.trace.proofs.Beginnings.{beginning-whole}
-use Rattle.cases.specs.Sweep.{Sweep}
-use Rattle.pieces.specs.declared.piece.Piece.{Piece}
-use Rattle.pieces.specs.Pieces.{whole}
+use Rattle.sweep_plan.specs.Sweep.{Sweep}
+use Rattle.shards.specs.declared.piece.Piece.{Piece}
+use Rattle.shards.specs.Pieces.{whole}
 use Rattle.sweep.specs.Pieces.{piece_header}
 use Rattle.sweep.specs.Table.{tells_revived}
 use Rattle.sweep.proofs.Kept.{kept_within}

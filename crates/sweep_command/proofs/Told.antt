@@ -1,9 +1,9 @@
 -- What is told of cases, by what stands for the plan's wants and for the cases.
 use Rattle.std.proofs.Common.{◌≡◌, ℕ, Bool, List, subst}
-use Rattle.cases.specs.Sweep.{Sweep}
-use Rattle.answers.specs.declared.want.Want.{Want}
+use Rattle.sweep_plan.specs.Sweep.{Sweep}
+use Rattle.goals.specs.declared.want.Want.{Want}
 use Rattle.figures.specs.declared.summary.CaseSummary.{CaseSummary}
-use Rattle.case_telling.specs.Telling.{TellsCases}
+use Rattle.sweep_output.specs.Telling.{TellsCases}
 
 pub told_as : (jsonl : Bool) (plan : Sweep) (text : List ℕ) (revived revived' : Bool) (wants wants' : List Want) (cases cases' : List CaseSummary)
     → revived ≡ revived' → wants ≡ wants' → cases ≡ cases' → TellsCases jsonl revived plan wants cases text → TellsCases jsonl revived' plan wants' cases' text

@@ -5,15 +5,15 @@ use Rattle.std.proofs.lemmas.List.{take_all}
 use Rattle.std.proofs.lemmas.List.FromFn.{length-range_with_len}
 use Rattle.std.proofs.lemmas.Slice.Zip.{AllZip-long}
 use Rattle.toml.specs.Data.{Data}
-use Rattle.cases.specs.Sweep.{Sweep, case_count, run_count}
+use Rattle.sweep_plan.specs.Sweep.{Sweep, case_count, run_count}
 use Rattle.figures.specs.declared.summary.CaseSummary.{CaseSummary}
 use Rattle.sweep.specs.Runs.{Made, AreMade, AreMadeBetween, IsMadeAs, runs_of}
 use Rattle.sweep.specs.Summaries.{MakesAll}
 use Rattle.sweep_until.specs.Until.{AreMadeFrom, AreMadeUntil, BeginsUntil, IsMadeUntil, MakesUntil, SumsUp}
 use Rattle.std.proofs.lemmas.Option.{same_Some}
-use Rattle.pieces.specs.declared.piece.Piece.{Piece}
-use Rattle.pieces.specs.Pieces.{first_run, past_run, whole}
-use Rattle.pieces.proofs.Whole.{first_of_whole, past_of_whole}
+use Rattle.shards.specs.declared.piece.Piece.{Piece}
+use Rattle.shards.specs.Pieces.{first_run, past_run, whole}
+use Rattle.shards.proofs.Whole.{first_of_whole, past_of_whole}
 use Rattle.sweep.specs.Pieces.{AreMadeIn, BeginsPiece, BeginsTable, WritesPiece}
 use Rattle.sweep.proofs.Flat.{runs_counted}
 use Rattle.sweep.specs.Resumed.{BeginsRest, WritesRest}

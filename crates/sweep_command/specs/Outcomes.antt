@@ -8,15 +8,15 @@ use Rattle.clap.specs.Words.{Text}
 use Rattle.base.specs.declared.fault.Fault.{Fault}
 use Rattle.base.specs.declared.fault.Fault.TheVariants as fault
 use Rattle.files.specs.Files.{KnownFile, Making, Holds, HoldsNow, IsAbsent, KeepsOthers, KeepsAllOthers, CannotMake, CannotMakeSecond, AreThreeFiles}
-use Rattle.cases.specs.Keys.{key_name}
-use Rattle.cases.specs.Missing.{missing_of}
-use Rattle.cases.specs.Sweep.{Sweep, case_count}
-use Rattle.cases.specs.Cases.{settings_text}
-use Rattle.cases.specs.declared.keys.SettingKey.{SettingKey}
+use Rattle.sweep_plan.specs.Keys.{key_name}
+use Rattle.sweep_plan.specs.Missing.{missing_of}
+use Rattle.sweep_plan.specs.Sweep.{Sweep, case_count}
+use Rattle.sweep_plan.specs.Cases.{settings_text}
+use Rattle.sweep_plan.specs.declared.keys.SettingKey.{SettingKey}
 use Rattle.trace.specs.Sinks.{AppendsBeginning}
-use Rattle.case_telling.specs.Telling.{IsSweepPage, TellsCases}
-use Rattle.pieces.specs.Pieces.{whole}
-use Rattle.pieces.specs.declared.piece.Piece.{Piece}
+use Rattle.sweep_output.specs.Telling.{IsSweepPage, TellsCases}
+use Rattle.shards.specs.Pieces.{whole}
+use Rattle.shards.specs.declared.piece.Piece.{Piece}
 use Rattle.sweep.specs.Runs.{Planned}
 use Rattle.sweep.specs.Judged.{AreAccepted, IsFirstRefused}
 use Rattle.sweep.specs.Table.{tells_revived, HasCause}

@@ -5,17 +5,17 @@ use Rattle.std.specs.List.{AllZip}
 use Rattle.std.specs.Io.KnownBytes.{Appends}
 use Rattle.toml.specs.Data.{Data}
 use Rattle.trace.specs.Sinks.{AppendsBeginning}
-use Rattle.cases.specs.Sweep.{Sweep, case_count, run_count, seed_count}
+use Rattle.sweep_plan.specs.Sweep.{Sweep, case_count, run_count, seed_count}
 use Rattle.figures.specs.declared.summary.CaseSummary.{CaseSummary}
-use Rattle.pieces.specs.declared.piece.Piece.{Piece}
-use Rattle.pieces.specs.Pieces.{first_run, past_run, whole}
+use Rattle.shards.specs.declared.piece.Piece.{Piece}
+use Rattle.shards.specs.Pieces.{first_run, past_run, whole}
 use Rattle.sweep.specs.Runs.{Made, noted}
 use Rattle.sweep.specs.Summaries.{SumUp}
 use Rattle.sweep.specs.Table.{tells_revived}
 use Rattle.sweep.specs.Pieces.{AreMadeIn, piece_table}
 use Rattle.sweep.specs.Resumed.{AreMadeBehind, IsBegun, RefusesBegun, rest_text}
 use Rattle.sweep.specs.declared.begun.BegunFault.{BegunFault}
-use Rattle.begun_cases.specs.Begun.{IsBegunCases, RefusesBegunCases}
+use Rattle.resume.specs.Begun.{IsBegunCases, RefusesBegunCases}
 use Rattle.sweep_until.specs.Pieces.{AreCasesBehind, AreCasesIn, cases_in}
 use Rattle.sweep_until.specs.Until.{SumsUp, all_of}
 

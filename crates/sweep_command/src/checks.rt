@@ -2,15 +2,14 @@
 ghost use Rattle.std.specs.Prelude.{◌≡◌, ◌≢◌, None, Some, IfOk, IfErr, OnOk, string_bytes};
 ghost use Rattle.toml.specs.Data.{Data};
 ghost use Rattle.toml.specs.View.{view};
-ghost use Rattle.cases.specs.Missing.{missing_of};
-ghost use Rattle.cases.specs.Sweep.{Sweep};
+ghost use Rattle.sweep_plan.specs.Missing.{missing_of};
+ghost use Rattle.sweep_plan.specs.Sweep.{Sweep};
 ghost use Rattle.sweep.specs.Runs.{IsAskedFor, planned_as};
 ghost use Rattle.sweep.specs.Judged.{AreAccepted, IsFirstRefused};
 ghost use Rattle.sweep_command.specs.Outcomes.{FailsSweepCheck, LacksItem, PassesSweepChecks, RefusesCase};
 
 use crate::workers::sweep_workers;
 use base::Memory;
-use cases::{Plan, SettingKey, missing_item, settings_text};
 use command_line::{Failure, SweepWords};
 use files::Files;
 use scenario::Workers;
@@ -18,6 +17,7 @@ use scenario_files::{MarkedDocument, load_document};
 use std::alloc::Global;
 use std::thread::Threads;
 use sweep::{Refused, judge};
+use sweep_plan::{Plan, SettingKey, missing_item, settings_text};
 use toml::Value;
 
 /// The number of the rule that stands for want of memory.

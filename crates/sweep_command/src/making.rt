@@ -1,21 +1,21 @@
 //! The runs of a whole sweep.
 ghost use Rattle.std.specs.Prelude.{◌≡◌, ◌<◌, ◌≤◌, ◌^◌, ◌+◌, IfOk, IfErr, OnErr, OnOk};
 ghost use Rattle.toml.specs.View.{view};
-ghost use Rattle.outputs.specs.Written.{sink_failures};
-ghost use Rattle.pieces.specs.Pieces.{IsPiece};
+ghost use Rattle.run_output.specs.Written.{sink_failures};
+ghost use Rattle.shards.specs.Pieces.{IsPiece};
 ghost use Rattle.sweep.specs.Runs.{IsAskedFor};
 ghost use Rattle.sweep.specs.Judged.{AreAccepted};
 ghost use Rattle.sweep.specs.Table.{HasCause};
 ghost use Rattle.sweep_command.specs.Runs.{BeginsAllRuns, BeginsRuns, BeginsRunsBehind, FitPiece, MakesRuns, WritesRuns, WritesRunsBehind};
 
 use base::Fault;
-use cases::Plan;
 use figures::CaseSummary;
-use pieces::Piece;
 use scenario::Workers;
+use shards::Piece;
 use std::alloc::Global;
 use std::thread::Threads;
 use sweep::{Begun, Progress, sweep, write_piece, write_rest};
+use sweep_plan::Plan;
 use sweep_until::{BegunCases, sweep_until, write_piece_until, write_rest_until};
 use toml::Value;
 use trace::Sink;
@@ -26,7 +26,7 @@ use trace::Sink;
 /// document of each run must have been judged to be accepted. After a fault the table has got a
 /// beginning.
 ///
-/// Faults: `Memory`; `Worn` where a counter of some run, or a count of its tallies, would pass 2^63;
+/// Faults: `Memory`; `CounterOverflow` where a counter of some run, or a count of its tallies, would pass 2^63;
 /// `Write` where the sink failed.
 pub(crate) fn make_runs<S: Sink, P: Progress>(
     rt: &(impl Threads + Sync),

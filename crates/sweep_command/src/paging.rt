@@ -2,11 +2,11 @@
 ghost use Rattle.std.specs.Prelude.{◌≡◌, ◌<◌, ◌≤◌, ◌^◌, ◌+◌, All, false, length, IfOk, IfErr, OnOk, OnErr, string_bytes};
 ghost use Rattle.toml.specs.Data.{Data};
 ghost use Rattle.toml.specs.View.{view};
-ghost use Rattle.answers.specs.Wants.{HasFewRuns, IsBounded};
-ghost use Rattle.cases.specs.Sweep.{Sweep, case_count};
+ghost use Rattle.goals.specs.Wants.{HasFewRuns, IsBounded};
+ghost use Rattle.sweep_plan.specs.Sweep.{Sweep, case_count};
 ghost use Rattle.files.specs.Files.{AreThreeFiles};
 ghost use Rattle.trace.specs.Writers.{put_failures, writer_under};
-ghost use Rattle.outputs.specs.Written.{sink_failures};
+ghost use Rattle.run_output.specs.Written.{sink_failures};
 ghost use Rattle.sweep.specs.Runs.{IsAskedFor};
 ghost use Rattle.sweep.specs.Judged.{AreAccepted};
 ghost use Rattle.sweep.specs.Table.{HasCause};
@@ -16,7 +16,6 @@ use crate::checks::PreparedSweep;
 use crate::making::make_runs;
 use crate::progressing::RunLines;
 use base::Fault;
-use case_telling::{SweepShown, cases_page, cases_told, put_text};
 use command_line::{Failure, Release, SweepWords};
 use figures::CaseSummary;
 use files::{Files, PairFault};
@@ -25,6 +24,7 @@ use std::alloc::Global;
 use std::io::Write;
 use std::thread::Threads;
 use sweep::{NoProgress, Progress, tells_revived};
+use sweep_output::{SweepShown, cases_page, cases_told, put_text};
 use trace::{Put, Sink, Stopped};
 
 /// Makes the runs, and writes their table to the file that the words name and a page of their cases

@@ -2,23 +2,23 @@
 ghost use Rattle.std.specs.Prelude.{◌≡◌, Some, IfOk, IfErr, string_bytes};
 ghost use Rattle.std.specs.Option.{ForSome};
 ghost use Rattle.toml.specs.View.{view};
-ghost use Rattle.pieces.specs.Pieces.{IsPiece};
+ghost use Rattle.shards.specs.Pieces.{IsPiece};
 ghost use Rattle.scenario_files.specs.Shelves.{IsUnread};
 ghost use Rattle.sweep.specs.Runs.{IsAskedFor};
 ghost use Rattle.sweep.specs.Resumed.{IsBegun, RefusesBegun};
 ghost use Rattle.sweep.specs.Table.{tells_revived};
-ghost use Rattle.begun_cases.specs.Begun.{IsBegunCases, RefusesBegunCases};
+ghost use Rattle.resume.specs.Begun.{IsBegunCases, RefusesBegunCases};
 ghost use Rattle.sweep_command.specs.Outcomes.{CannotGoOn, GoesOn, HeldSoFar, RefusesSoFar, piece_resumed};
 ghost use Rattle.sweep_command.specs.Runs.{AreBegun, RefusesTable};
 
-use begun_cases::begun_cases_of;
-use cases::Plan;
 use command_line::{Failure, PieceFault, SweepWords};
 use files::{Files, ReadFault};
-use pieces::Piece;
+use resume::begun_cases_of;
 use scenario_files::MarkedDocument;
+use shards::Piece;
 use std::alloc::Global;
 use sweep::{BegunFault, begun_of};
+use sweep_plan::Plan;
 
 /// What stays of a piece's table that was made before it was cut off; nothing where no piece goes on.
 #[derive(Clone, Copy)]

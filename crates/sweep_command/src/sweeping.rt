@@ -2,10 +2,10 @@
 ghost use Rattle.std.specs.Prelude.{◌≡◌, ◌<◌, ◌^◌, ◌+◌, All, Some, false, [], IfOk, IfErr, OnOk, OnErr, string_bytes};
 ghost use Rattle.std.specs.Option.{ForSome};
 ghost use Rattle.toml.specs.View.{view};
-ghost use Rattle.pieces.specs.Pieces.{IsPiece};
-ghost use Rattle.answers.specs.Wants.{IsBounded};
+ghost use Rattle.shards.specs.Pieces.{IsPiece};
+ghost use Rattle.goals.specs.Wants.{IsBounded};
 ghost use Rattle.trace.specs.Writers.{put_failures, writer_under};
-ghost use Rattle.outputs.specs.Written.{sink_failures};
+ghost use Rattle.run_output.specs.Written.{sink_failures};
 ghost use Rattle.sweep.specs.Runs.{IsAskedFor};
 ghost use Rattle.sweep.specs.Judged.{AreAccepted};
 ghost use Rattle.sweep.specs.Table.{HasCause};
@@ -18,15 +18,15 @@ use crate::paging::store_paged;
 use crate::progressing::RunLines;
 use crate::resuming::{Stays, find_standing};
 use base::Fault;
-use case_telling::cases_told;
 use command_line::{Failure, Release, SweepWords};
 use files::Files;
-use pieces::Piece;
 use scenario_files::{file_failure, run_told};
+use shards::Piece;
 use std::alloc::Global;
 use std::io::Write;
 use std::thread::Threads;
 use sweep::{NoProgress, Progress, tells_revived};
+use sweep_output::cases_told;
 use trace::{Put, Sink};
 
 /// Makes the runs that the words of a sweep ask for, and writes their table to a file, and a page of

@@ -1,8 +1,8 @@
 -- Figures of axes, one axis more at a time.
 use Rattle.std.proofs.Common.{◌≡◌, ◌<◌, ◌≤◌, ◌+◌, ◌-◌, ℕ, List, [], ◌∷◌, ◌++◌, drop, take, length, ap, sym, ◌∙◌, append-nil, append_assoc, arith}
 use Rattle.std.proofs.lemmas.List.{drop_all, length-drop, length-take-le}
-use Rattle.cases.specs.Axes.{axes_of}
-use Rattle.cases.specs.Sweep.{KeyValues}
+use Rattle.sweep_plan.specs.Axes.{axes_of}
+use Rattle.sweep_plan.specs.Sweep.{KeyValues}
 use Rattle.figures.specs.declared.summary.CaseSummary.{CaseSummary}
 use Rattle.sweep_keys.specs.Keys.{figures_from, key_figure_of}
 

@@ -1,7 +1,7 @@
 -- Products and sums that stop where 64 bits do.
 use Rattle.std.proofs.Common.{◌≡◌, ℕ, ◌+◌, ◌*◌, min, ◌∙◌, ap, arith}
 use Rattle.std.proofs.Math.Nat.{mul_comm}
-use Rattle.cases.proofs.Counts.{saturated}
+use Rattle.sweep_plan.proofs.Counts.{saturated}
 use Rattle.sweep_keys.specs.Lines.{held}
 
 -- a product stops where its second factor does

@@ -2,11 +2,11 @@
 use Rattle.std.specs.Prelude.{ℕ, Bool, ◌+◌, ◌-◌, ◌/◌, ◌%◌, ◌^◌, ◌==◌, ◌&&◌, nat_le, if◌then◌else◌, min, max, List, [], ◌∷◌, ◌++◌, Option, None, codes, decimal, drop, fold, is_some, length, slice_get, take, unwrap_or}
 use Rattle.std.specs.List.{flat_map, range_with_len}
 use Rattle.std.specs.Option.{option_map_or}
-use Rattle.cases.specs.Cases.{cases_of}
-use Rattle.cases.specs.Asked.{names_text, values_text}
-use Rattle.cases.specs.Axes.{axes_of, place_count}
-use Rattle.cases.specs.Sweep.{KeyValues, case_count}
-use Rattle.cases.specs.declared.choice.Choice.{Choice}
+use Rattle.sweep_plan.specs.Cases.{cases_of}
+use Rattle.sweep_plan.specs.Asked.{names_text, values_text}
+use Rattle.sweep_plan.specs.Axes.{axes_of, place_count}
+use Rattle.sweep_plan.specs.Sweep.{KeyValues, case_count}
+use Rattle.sweep_plan.specs.declared.choice.Choice.{Choice}
 use Rattle.drawing.specs.Axes.{axis_up}
 use Rattle.drawing.specs.Escaped.{escaped, markup}
 use Rattle.drawing.specs.Numbers.{place as place_on}

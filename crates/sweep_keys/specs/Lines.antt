@@ -1,6 +1,6 @@
 -- The cases that differ in one axis alone, which is a key or keys that go together, as lines over its values.
 use Rattle.std.specs.Prelude.{ℕ, ◌+◌, ◌-◌, ◌*◌, ◌/◌, ◌%◌, ◌^◌, min, max, List, Option, codes, fold}
-use Rattle.cases.specs.Sweep.{KeyValues, choice_count}
+use Rattle.sweep_plan.specs.Sweep.{KeyValues, choice_count}
 use Rattle.figures.specs.declared.summary.CaseSummary.{CaseSummary}
 use Rattle.sweep_keys.specs.declared.lines.KeyLines.{KeyLines}
 use Rattle.sweep_keys.specs.declared.statistic.Statistic.{Statistic}

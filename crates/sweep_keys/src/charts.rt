@@ -2,17 +2,17 @@
 ghost use Rattle.std.specs.Prelude.{◌≡◌, ◌<◌, ◌^◌, ◌++◌, OnOk};
 ghost use Rattle.std.specs.List.{flat_map, range_with_len};
 ghost use Rattle.std.specs.String.{string_bytes};
-ghost use Rattle.cases.specs.Axes.{place_count};
+ghost use Rattle.sweep_plan.specs.Axes.{place_count};
 ghost use Rattle.sweep_keys.specs.Keys.{greatest_in, greatest_over, greatest_of, greatest_of_all, plot_height, line_over, value_word, value_at, values_under, chart_opening, lines_words, lines_opening, lines_plane, key_chart};
 
 use crate::line::{Plot, case_over, push_line};
 use crate::lines::{KeyLines, middle};
 use crate::statistic::Statistic;
 use base::Memory;
-use cases::{Setting, place_count, values_text};
 use drawing::{close_plot, open_plot, push_escaped, push_markup, push_place, push_up};
 use figures::CaseSummary;
 use std::alloc::{AllocError, Global};
+use sweep_plan::{Setting, place_count, values_text};
 
 /// The greatest time that a plot shows.
 const MOST: u64 = 1_000_000_000_000_000_000;

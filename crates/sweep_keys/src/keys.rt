@@ -2,7 +2,7 @@
 ghost use Rattle.std.specs.Prelude.{◌≡◌, ◌++◌, IfOk, OnOk};
 ghost use Rattle.std.specs.String.{string_bytes};
 ghost use Rattle.sweep_keys.specs.Keys.{key_id, key_heading, marks_words, key_opening, key_charts, key_figure, key_figure_of, figures_from, key_figures, lines_of};
-ghost use Rattle.cases.specs.Axes.{axes_of};
+ghost use Rattle.sweep_plan.specs.Axes.{axes_of};
 
 use crate::charts::push_chart;
 use crate::legend::push_legend;
@@ -10,10 +10,10 @@ use crate::lines::{KeyLines, shared_out};
 use crate::rows::push_rows;
 use crate::statistic::Statistic;
 use base::Memory;
-use cases::{Plan, Setting, axis_end, names_text, place_count};
 use drawing::{close_figure, open_figure, push_markup};
 use figures::CaseSummary;
 use std::alloc::{AllocError, Global};
+use sweep_plan::{Plan, Setting, axis_end, names_text, place_count};
 
 /// Appends a figure for each key that has more values than one, and one for keys that go together. It takes the summary of each case
 /// of the plan, in their order, and fails only where memory is refused.

@@ -6,10 +6,10 @@ ghost use Rattle.sweep_keys.specs.Keys.{without, others_words, others_at, sample
 
 use crate::lines::KeyLines;
 use base::Memory;
-use cases::{Choice, Plan};
 use drawing::push_markup;
 use std::alloc::{AllocError, Global};
 use sweep_cells::{push_count, push_settings};
+use sweep_plan::{Choice, Plan};
 
 /// Appends what each line is: the values of the other keys.
 #[tactic(auto, unfolding(crate::specs::Keys::legend))]

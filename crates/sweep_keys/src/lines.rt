@@ -2,7 +2,7 @@
 ghost use Rattle.std.specs.Prelude.{◌≡◌};
 ghost use Rattle.sweep_keys.specs.Lines.{key_lines, case_place, width, middle, across, shared_out};
 
-use cases::Setting;
+use sweep_plan::Setting;
 
 /// The most lines that are drawn over a key.
 const MOST_LINES: usize = 8;

@@ -9,11 +9,11 @@ use crate::line::case_over;
 use crate::lines::KeyLines;
 use crate::statistic::Statistic;
 use base::Memory;
-use cases::{Plan, Setting, place_count, values_text};
 use drawing::push_markup;
 use figures::CaseSummary;
 use std::alloc::{AllocError, Global};
 use sweep_cells::{push_cell, push_time_cell};
+use sweep_plan::{Plan, Setting, place_count, values_text};
 
 /// What the rows of a key are of.
 #[derive(Clone, Copy)]

@@ -2,7 +2,7 @@
 use Rattle.std.specs.Prelude.{ℕ, Bool, true, false, fold, ◌+◌, ◌-◌, ◌/◌, ◌^◌, ◌==◌, if◌then◌else◌, min, max, not, List, [], ◌++◌, Option, codes, decimal, length, slice_get, unwrap_or}
 use Rattle.std.specs.List.{flat_map, range_with_len}
 use Rattle.std.specs.Option.{option_map_or}
-use Rattle.cases.specs.Sweep.{KeyValues}
+use Rattle.sweep_plan.specs.Sweep.{KeyValues}
 use Rattle.drawing.specs.Axes.{at_ticks, axis_across}
 use Rattle.drawing.specs.Escaped.{markup}
 use Rattle.drawing.specs.Numbers.{place as place_on}

@@ -1,7 +1,7 @@
 -- A setting in a list: its number and its values, how fast it is, how safe, and what it costs.
 use Rattle.std.specs.Prelude.{ℕ, Bool, nat_le, nat_lt, if◌then◌else◌, List, [], ◌++◌, codes, slice_get}
 use Rattle.std.specs.Option.{option_map_or}
-use Rattle.cases.specs.Sweep.{KeyValues}
+use Rattle.sweep_plan.specs.Sweep.{KeyValues}
 use Rattle.drawing.specs.Escaped.{markup}
 use Rattle.figures.specs.declared.summary.CaseSummary.{CaseSummary}
 use Rattle.sweep_cells.specs.Words.{deaths_words, interval_words, number_words, rate_words, runs_words, settings_at, thousandths, time_words}

@@ -1,8 +1,8 @@
 -- The page of a sweep.
 use Rattle.std.specs.Prelude.{ℕ, Bool, if◌then◌else◌, List, [], ◌++◌, Option, codes}
-use Rattle.answers.specs.Front.{has_crash}
-use Rattle.answers.specs.declared.want.Want.{Want}
-use Rattle.cases.specs.Sweep.{Sweep}
+use Rattle.goals.specs.Front.{has_crash}
+use Rattle.goals.specs.declared.want.Want.{Want}
+use Rattle.sweep_plan.specs.Sweep.{Sweep}
 use Rattle.drawing.specs.Escaped.{escaped, markup}
 use Rattle.drawing.specs.Pages.{page_opening}
 use Rattle.figures.specs.declared.summary.CaseSummary.{CaseSummary}

@@ -2,11 +2,11 @@
 use Rattle.std.specs.Prelude.{ℕ, Bool, ◌==◌, if◌then◌else◌, List, [], ◌++◌, Option, Some, None, codes, decimal, length, slice_get}
 use Rattle.std.specs.List.{flat_map, list_any, range_with_len}
 use Rattle.std.specs.Option.{option_map_or}
-use Rattle.answers.specs.Wants.{may_meet, more_runs}
-use Rattle.answers.specs.declared.statistic.Statistic.{Statistic}
-use Rattle.answers.specs.declared.statistic.Statistic.TheVariants.{Out, SuspectP50, ConfirmP50, ConfirmP99, ConfirmGreatest, LastP50, LastGreatest, FalseSuspect, ThrownOut, Messages}
-use Rattle.answers.specs.declared.want.Want.{Want}
-use Rattle.cases.specs.Sweep.{KeyValues}
+use Rattle.goals.specs.Wants.{may_meet, more_runs}
+use Rattle.goals.specs.declared.statistic.Statistic.{Statistic}
+use Rattle.goals.specs.declared.statistic.Statistic.TheVariants.{Out, SuspectP50, ConfirmP50, ConfirmP99, ConfirmGreatest, LastP50, LastGreatest, FalseSuspect, ThrownOut, Messages}
+use Rattle.goals.specs.declared.want.Want.{Want}
+use Rattle.sweep_plan.specs.Sweep.{KeyValues}
 use Rattle.drawing.specs.Escaped.{escaped, markup}
 use Rattle.drawing.specs.Shapes.{figure_opening, figure_end}
 use Rattle.figures.specs.declared.summary.CaseSummary.{CaseSummary}

@@ -2,7 +2,7 @@
 use Rattle.std.specs.Prelude.{ℕ, Bool, ◌-◌, ◌==◌, if◌then◌else◌, min, List, [], ◌++◌, Option, codes, length, slice_get}
 use Rattle.std.specs.List.{flat_map, range_with_len}
 use Rattle.std.specs.Option.{option_map_or}
-use Rattle.cases.specs.Sweep.{KeyValues, Sweep, case_count, seed_count}
+use Rattle.sweep_plan.specs.Sweep.{KeyValues, Sweep, case_count, seed_count}
 use Rattle.drawing.specs.Escaped.{markup}
 use Rattle.drawing.specs.Numbers.{grouped}
 use Rattle.drawing.specs.Shapes.{figure_opening, figure_end}

@@ -2,11 +2,11 @@
 use Rattle.std.specs.Prelude.{ℕ, Bool, if◌then◌else◌, List, [], ◌++◌, codes, length, slice_get}
 use Rattle.std.specs.List.{flat_map, range_with_len}
 use Rattle.std.specs.Option.{option_map_or}
-use Rattle.cases.specs.Cases.{cases_of}
-use Rattle.cases.specs.Keys.{key_name}
-use Rattle.cases.specs.Sweep.{KeyValues}
-use Rattle.cases.specs.Values.{value_text}
-use Rattle.cases.specs.declared.choice.Choice.{Choice}
+use Rattle.sweep_plan.specs.Cases.{cases_of}
+use Rattle.sweep_plan.specs.Keys.{key_name}
+use Rattle.sweep_plan.specs.Sweep.{KeyValues}
+use Rattle.sweep_plan.specs.Values.{value_text}
+use Rattle.sweep_plan.specs.declared.choice.Choice.{Choice}
 use Rattle.drawing.specs.Escaped.{escaped, markup}
 use Rattle.drawing.specs.Shapes.{figure_opening, figure_end}
 use Rattle.figures.specs.declared.summary.CaseSummary.{CaseSummary}

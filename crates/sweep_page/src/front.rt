@@ -10,7 +10,6 @@ use crate::front_points::{FrontPoint, across_of};
 use crate::marks::{push_joined, push_marks, push_numbers};
 use crate::table::push_shares;
 use base::Memory;
-use cases::Plan;
 use drawing::{
     close_figure, close_plot, open_figure, open_plot, push_across, push_markup, push_place,
     round_step,
@@ -20,6 +19,7 @@ use std::alloc::{AllocError, Global};
 use sweep_cells::{
     case_at, push_number, push_percent, push_rate, push_settings_at, push_time_cell, thousandths,
 };
+use sweep_plan::Plan;
 
 /// The greatest number that an axis reaches.
 const MOST: u64 = 1_000_000_000_000_000_000;

@@ -4,7 +4,6 @@ ghost use Rattle.std.specs.String.{string_bytes};
 ghost use Rattle.sweep_page.specs.Items.{caution, caution_at, caution_words, confirm_span, cost_span, deaths_span, item, item_at, item_end, item_opening, safety, share_span, speed_span};
 
 use base::Memory;
-use cases::Plan;
 use drawing::push_markup;
 use figures::CaseSummary;
 use std::alloc::{AllocError, Global};
@@ -12,6 +11,7 @@ use sweep_cells::{
     case_at, push_deaths, push_interval, push_number, push_rate, push_runs_with, push_settings_at,
     push_time, thousandths,
 };
+use sweep_plan::Plan;
 
 /// Five percent, in thousandths: what a safe setting's interval doesn't reach beyond.
 const SAFE: u64 = 50;

@@ -2,17 +2,17 @@
 ghost use Rattle.std.specs.Prelude.{◌≡◌, ◌++◌, All, OnOk, decimal, length};
 ghost use Rattle.std.specs.List.{flat_map, range_with_len};
 ghost use Rattle.std.specs.String.{string_bytes};
-ghost use Rattle.answers.specs.Wants.{HasFewRuns, IsBounded};
+ghost use Rattle.goals.specs.Wants.{HasFewRuns, IsBounded};
 ghost use Rattle.sweep_page.specs.Question.{answer, best_answer, goal_item, goals_words, is_open, more_needed, needed_words, no_answer, open_answer, open_item, open_item_at, open_item_of, question, question_figure, runs_needed, statistic_words, unmet_answer};
 
 use crate::items::{push_caution_at, push_item_at};
-use answers::{Statistic, Want, may_meet, more_runs};
 use base::Memory;
-use cases::Plan;
 use drawing::{close_figure, open_figure, push_escaped, push_markup};
 use figures::CaseSummary;
+use goals::{Statistic, Want, may_meet, more_runs};
 use std::alloc::{AllocError, Global};
 use sweep_cells::{push_number, push_settings_at};
+use sweep_plan::Plan;
 
 /// What is wanted of a setting, and the best that meets it.
 #[derive(Clone, Copy)]

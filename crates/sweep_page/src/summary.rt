@@ -7,11 +7,11 @@ ghost use Rattle.sweep_page.specs.Summary.{at_most, front_opening, front_words_o
 use crate::front_points::FrontPoint;
 use crate::items::push_item_at;
 use base::Memory;
-use cases::Plan;
 use drawing::{close_figure, open_figure, push_grouped, push_markup};
 use figures::CaseSummary;
 use std::alloc::{AllocError, Global};
 use sweep_cells::push_count;
+use sweep_plan::Plan;
 
 /// How many cases on the front are told of in words.
 const MOST_TOLD: usize = 12;

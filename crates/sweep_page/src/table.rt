@@ -2,12 +2,11 @@
 ghost use Rattle.std.specs.Prelude.{◌≡◌, ◌<◌, ◌++◌, OnOk, length};
 ghost use Rattle.std.specs.List.{flat_map, range_with_len};
 ghost use Rattle.std.specs.String.{string_bytes};
-ghost use Rattle.cases.specs.Sweep.{case_count};
+ghost use Rattle.sweep_plan.specs.Sweep.{case_count};
 ghost use Rattle.sweep_page.specs.Table.{share_cells, cost_cells, figure_cells, value_cell, value_cells, row_opening, row, row_at, key_head, table_words, figure_heads, table};
 
 use crate::front_points::is_marked;
 use base::Memory;
-use cases::{Choice, Plan, Setting};
 use drawing::{close_figure, open_figure, push_escaped, push_markup};
 use figures::CaseSummary;
 use std::alloc::{AllocError, Global};
@@ -15,6 +14,7 @@ use sweep_cells::{
     case_at, push_cell, push_deaths, push_hundredths, push_interval, push_number, push_percent,
     push_rate, push_runs_with, push_time_cell, share_of, thousandths,
 };
+use sweep_plan::{Choice, Plan, Setting};
 
 /// Appends the table of all cases, those on the front marked.
 #[tactic(auto, unfolding(crate::specs::Table::table))]

@@ -1,8 +1,8 @@
 //! The page, from its head to its end.
 ghost use Rattle.std.specs.Prelude.{◌≡◌, ◌++◌, All, IfOk, OnOk, length};
 ghost use Rattle.std.specs.String.{string_bytes};
-ghost use Rattle.answers.specs.Wants.{HasFewRuns, IsBounded};
-ghost use Rattle.cases.specs.Sweep.{case_count};
+ghost use Rattle.goals.specs.Wants.{HasFewRuns, IsBounded};
+ghost use Rattle.sweep_plan.specs.Sweep.{case_count};
 ghost use Rattle.sweep_page.specs.Page.{page_head, page_end, page_over, page_text, time_figures, times_where};
 ghost use Rattle.sweep_page.specs.Points.{places_of};
 ghost use Rattle.sweep_times.specs.Times.{times_figure};
@@ -13,13 +13,13 @@ use crate::layout::page_style;
 use crate::question::{Question, push_question};
 use crate::summary::push_summary;
 use crate::table::push_table;
-use answers::has_crash;
 use base::Memory;
-use cases::Plan;
 use drawing::{open_page, push_escaped, push_markup};
 use figures::CaseSummary;
+use goals::has_crash;
 use std::alloc::{AllocError, Global};
 use sweep_keys::push_keys;
+use sweep_plan::Plan;
 use sweep_times::push_times;
 
 /// What is told beside the figures.

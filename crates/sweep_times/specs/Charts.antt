@@ -2,7 +2,7 @@
 use Rattle.std.specs.Prelude.{ℕ, ◌+◌, ◌==◌, if◌then◌else◌, min, List, [], ◌++◌, codes, decimal, slice_get}
 use Rattle.std.specs.List.{flat_map, range_with_len}
 use Rattle.std.specs.Option.{option_map_or}
-use Rattle.cases.specs.Sweep.{KeyValues}
+use Rattle.sweep_plan.specs.Sweep.{KeyValues}
 use Rattle.drawing.specs.Axes.{axis_across, axis_up}
 use Rattle.drawing.specs.Escaped.{markup}
 use Rattle.drawing.specs.Numbers.{grouped}

@@ -7,11 +7,11 @@ ghost use Rattle.sweep_times.specs.Charts.{median_rule, plot_title, times_openin
 use crate::bars::push_bars;
 use crate::bins::{height_of, held, never_confirmed};
 use base::Memory;
-use cases::Plan;
 use drawing::{close_plot, open_plot, push_across, push_grouped, push_markup, push_rule, push_up};
 use figures::CaseSummary;
 use std::alloc::{AllocError, Global};
 use sweep_cells::{case_at, push_number, push_settings_at, push_time};
+use sweep_plan::Plan;
 
 /// Appends the charts of the cases at these places, over an axis of so many ticks.
 #[tactic(auto, unfolding(crate::specs::Charts::charts))]

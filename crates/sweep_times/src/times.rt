@@ -7,11 +7,11 @@ use crate::bins::axis_reach;
 use crate::charts::push_charts;
 use crate::rows::push_rows;
 use base::Memory;
-use cases::Plan;
 use drawing::{close_figure, open_figure, push_markup};
 use figures::CaseSummary;
 use std::alloc::{AllocError, Global};
 use sweep_cells::push_count;
+use sweep_plan::Plan;
 
 /// How many cases are drawn.
 const MOST_DRAWN: usize = 12;

@@ -12,7 +12,7 @@ use Rattle.trace.specs.declared.row.Row.{Row}
 use Rattle.trace.specs.Sinks.{AppendsBeginning}
 use Rattle.trace.proofs.Beginnings.{Appends-none, Appends-then, Keeps-same, Appends-kept, beginning-first, beginning-then, beginning-whole, beginning-of}
 use Rattle.member_laws.specs.Runs.{IsRunOf}
-use Rattle.cases.specs.Sweep.{Sweep, case_count, seed_count}
+use Rattle.sweep_plan.specs.Sweep.{Sweep, case_count, seed_count}
 use Rattle.figures.specs.declared.summary.CaseSummary.{CaseSummary}
 use Rattle.figures.specs.Cases.{IsSummaryOf}
 use Rattle.figures.specs.Notes.{Note}

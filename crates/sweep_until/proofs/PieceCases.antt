@@ -5,12 +5,12 @@ use Rattle.std.specs.Io.KnownBytes.{Appends}
 use Rattle.std.proofs.Math.Nat.{le-mul_of_pos_right}
 use Rattle.toml.specs.Data.{Data}
 use Rattle.trace.specs.Sinks.{AppendsBeginning}
-use Rattle.cases.specs.Sweep.{Sweep, case_count, seed_count}
+use Rattle.sweep_plan.specs.Sweep.{Sweep, case_count, seed_count}
 use Rattle.figures.specs.declared.summary.CaseSummary.{CaseSummary}
-use Rattle.pieces.specs.declared.piece.Piece.{Piece}
-use Rattle.pieces.specs.Pieces.{IsPiece, first_run, past_run, whole}
-use Rattle.pieces.proofs.Bounds.{share_grows, share_within}
-use Rattle.pieces.proofs.Whole.{first_of_whole, past_of_whole}
+use Rattle.shards.specs.declared.piece.Piece.{Piece}
+use Rattle.shards.specs.Pieces.{IsPiece, first_run, past_run, whole}
+use Rattle.shards.proofs.Bounds.{share_grows, share_within}
+use Rattle.shards.proofs.Whole.{first_of_whole, past_of_whole}
 use Rattle.sweep.specs.Runs.{IsAskedFor, Made}
 use Rattle.sweep.specs.Table.{noted_line, tells_revived}
 use Rattle.sweep.specs.Pieces.{piece_header, piece_table}

@@ -8,7 +8,7 @@ use Rattle.toml.specs.Data.{Data}
 use Rattle.scenario.specs.Setup.{Setup, IsSound}
 use Rattle.trace.specs.declared.row.Row.{Row}
 use Rattle.member_laws.specs.Runs.{IsRunOf}
-use Rattle.cases.specs.Sweep.{Sweep, run_count}
+use Rattle.sweep_plan.specs.Sweep.{Sweep, run_count}
 use Rattle.sweep.specs.Runs.{Planned, Made, IsMadeAs, AreMadeBetween, runs_between, runs_of}
 use Rattle.sweep.specs.Judged.{IsAccepted, AreAccepted}
 use Rattle.sweep.proofs.Steps.{zipped_long}

@@ -3,7 +3,7 @@ use Rattle.std.proofs.Common.{◌≡◌, ◌∙◌, ◌<◌, ◌≤◌, ◌+◌,
 use Rattle.std.proofs.lemmas.Bool.{ltb-true, ltb-false}
 use Rattle.std.proofs.lemmas.List.{take-map, take_all, length-map}
 use Rattle.toml.specs.Data.{Data}
-use Rattle.cases.specs.Sweep.{Sweep, run_count}
+use Rattle.sweep_plan.specs.Sweep.{Sweep, run_count}
 use Rattle.figures.specs.Notes.{Note}
 use Rattle.sweep.specs.Runs.{Made, AreMadeBetween, noted}
 use Rattle.sweep.specs.Judged.{AreAccepted}

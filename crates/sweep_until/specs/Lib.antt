@@ -1,3 +1,4 @@
 pub mod Kept
-pub mod Until
 pub mod Pieces
+pub mod Until
+pub mod Widths

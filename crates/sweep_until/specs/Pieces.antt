@@ -3,9 +3,9 @@ use Rattle.std.specs.Prelude.{◌≡◌, ℕ, ◌+◌, ◌-◌, List, Option, So
 use Rattle.std.specs.Io.KnownBytes.{Appends}
 use Rattle.toml.specs.Data.{Data}
 use Rattle.trace.specs.Sinks.{AppendsBeginning}
-use Rattle.cases.specs.Sweep.{Sweep, case_count}
-use Rattle.pieces.specs.declared.piece.Piece.{Piece}
-use Rattle.pieces.specs.Pieces.{first_run, past_run}
+use Rattle.sweep_plan.specs.Sweep.{Sweep, case_count}
+use Rattle.shards.specs.declared.piece.Piece.{Piece}
+use Rattle.shards.specs.Pieces.{first_run, past_run}
 use Rattle.sweep.specs.Runs.{Made}
 use Rattle.sweep.specs.Table.{tells_revived}
 use Rattle.sweep.specs.Pieces.{piece_header, piece_table}

@@ -4,16 +4,16 @@ use Rattle.std.specs.List.{AllZip, range_with_len}
 use Rattle.std.specs.Io.KnownBytes.{Appends}
 use Rattle.toml.specs.Data.{Data}
 use Rattle.trace.specs.Sinks.{AppendsBeginning}
-use Rattle.cases.specs.Sweep.{Sweep, case_count, seed_count}
+use Rattle.sweep_plan.specs.Sweep.{Sweep, case_count, seed_count}
 use Rattle.figures.specs.declared.summary.CaseSummary.{CaseSummary}
 use Rattle.figures.specs.Cases.{IsSummaryOf, runs_with}
 use Rattle.figures.specs.Notes.{Note}
 use Rattle.sweep.specs.Runs.{Made, AreMadeBetween, noted}
-use Rattle.pieces.specs.Pieces.{whole}
+use Rattle.shards.specs.Pieces.{whole}
 use Rattle.sweep.specs.Table.{Course, BeginsLines, noted_line, tells_revived}
 use Rattle.sweep.specs.Pieces.{piece_header, table_text}
 use Rattle.sweep.specs.Summaries.{HasCome}
-use Rattle.widths.specs.Widths.{is_narrow}
+use Rattle.sweep_until.specs.Widths.{is_narrow}
 use Rattle.sweep_until.specs.Kept.{AreKept}
 use Rattle.sweep_until.specs.declared.runs.CaseRuns.{CaseRuns}
 

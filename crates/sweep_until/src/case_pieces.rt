@@ -1,8 +1,8 @@
 //! The table of a piece, which is one of whole cases.
 ghost use Rattle.std.specs.Prelude.{◌≡◌, ◌<◌, ◌≤◌, ◌^◌, ◌+◌, ◌-◌, [], Some, is_some, true, OnOk, OnErr, IfErr};
 ghost use Rattle.toml.specs.View.{view};
-ghost use Rattle.outputs.specs.Written.{sink_failures};
-ghost use Rattle.pieces.specs.Pieces.{IsPiece};
+ghost use Rattle.run_output.specs.Written.{sink_failures};
+ghost use Rattle.shards.specs.Pieces.{IsPiece};
 ghost use Rattle.sweep.specs.Judged.{AreAccepted};
 ghost use Rattle.sweep.specs.Runs.{IsAskedFor};
 ghost use Rattle.sweep.specs.Table.{HasCause};
@@ -13,18 +13,18 @@ use crate::begun::BegunCases;
 use crate::parts::PieceProgress;
 use crate::until::make_cases;
 use base::Fault;
-use cases::Plan;
 use figures::CaseSummary;
-use outputs::flush;
-use pieces::Piece;
+use run_output::flush;
 use scenario::Workers;
+use sequential_run::{a_run_exists, the_run_is_one};
+use shards::Piece;
 use std::alloc::Global;
 use std::marker::Sync;
 use std::thread::Threads;
 use sweep::{Progress, tells_revived, write_front_behind};
+use sweep_plan::Plan;
 use toml::Value;
 use trace::Sink;
-use whole_runs::{a_run_exists, the_run_is_one};
 
 /// The widest that an interval may be, in hundredths.
 const WIDEST: u64 = 100;

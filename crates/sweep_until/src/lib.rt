@@ -8,6 +8,7 @@ mod lots;
 mod parts;
 mod runs;
 mod until;
+mod widths;
 
 pub use begun::BegunCases;
 pub use case_pieces::{write_piece_until, write_rest_until};

@@ -1,8 +1,8 @@
 //! The runs of a case, some at a time, side by side.
 ghost use Rattle.std.specs.Prelude.{◌≡◌, ◌<◌, ◌≤◌, ◌^◌, ◌+◌, OnErr, IfOk, IfErr};
 ghost use Rattle.toml.specs.View.{view};
-ghost use Rattle.cases.specs.Sweep.{run_count};
-ghost use Rattle.outputs.specs.Written.{sink_failures};
+ghost use Rattle.sweep_plan.specs.Sweep.{run_count};
+ghost use Rattle.run_output.specs.Written.{sink_failures};
 ghost use Rattle.sweep.specs.Judged.{AreAccepted};
 ghost use Rattle.sweep.specs.Runs.{IsAskedFor};
 ghost use Rattle.sweep.specs.Shares.{AreShares};
@@ -11,14 +11,14 @@ ghost use Rattle.sweep_until.specs.Until.{BeginsWide, GoesOn, HasGone};
 
 use crate::runs::CaseRuns;
 use base::Fault;
-use cases::Plan;
+use sequential_run::the_run_is_one;
 use std::alloc::Global;
 use std::marker::Sync;
 use std::thread::Threads;
 use sweep::{Share, make_side_by_side, write_line};
+use sweep_plan::Plan;
 use toml::Value;
 use trace::Sink;
-use whole_runs::the_run_is_one;
 
 /// Makes the runs of a case from one number to before another, which are those of these shares, side by side, and writes their
 /// lines up to the first run with which the interval is narrow enough. Answers the number of the run after the last that

@@ -3,12 +3,12 @@ ghost use Rattle.std.specs.Prelude.{◌≡◌, ◌≤◌, ◌<◌, ◌∷◌, []
 ghost use Rattle.figures.specs.Cases.{runs_with};
 ghost use Rattle.figures.specs.Notes.{Note};
 
+use crate::widths::is_narrow;
 use base::Memory;
 use figures::{CaseFigures, CaseSummary, RunNote};
 use std::alloc::Global;
 use std::mem::replace;
 use sweep::Gather;
-use widths::is_narrow;
 
 /// The most runs that there is room for.
 const MOST_RUNS: u64 = 1_000_000;

@@ -1,8 +1,8 @@
 //! The sweep, case by case.
 ghost use Rattle.std.specs.Prelude.{◌≡◌, ◌<◌, ◌≤◌, ◌^◌, ◌+◌, ◌-◌, ◌*◌, ◌++◌, ◌∷◌, [], OnOk, OnErr, Option, List, ℕ, IfOk, IfErr};
 ghost use Rattle.toml.specs.View.{view};
-ghost use Rattle.cases.specs.Sweep.{case_count, run_count, seed_count};
-ghost use Rattle.outputs.specs.Written.{sink_failures};
+ghost use Rattle.sweep_plan.specs.Sweep.{case_count, run_count, seed_count};
+ghost use Rattle.run_output.specs.Written.{sink_failures};
 ghost use Rattle.sweep.specs.Judged.{AreAccepted};
 ghost use Rattle.sweep.specs.Runs.{IsAskedFor};
 ghost use Rattle.sweep.specs.Table.{Course, HasCause};
@@ -13,17 +13,17 @@ use crate::case_pieces::write_cases;
 use crate::lots::make_lot;
 use crate::runs::CaseRuns;
 use base::{Fault, Memory};
-use cases::Plan;
 use figures::CaseSummary;
-use pieces::Piece;
 use scenario::Workers;
+use sequential_run::{a_run_exists, the_run_is_one};
+use shards::Piece;
 use std::alloc::Global;
 use std::marker::Sync;
 use std::thread::Threads;
 use sweep::{LotSize, Progress, SECOND_OF_WORK, first_run, next_lot};
+use sweep_plan::Plan;
 use toml::Value;
 use trace::Sink;
-use whole_runs::{a_run_exists, the_run_is_one};
 
 /// How much each worker does before lines are written: some hundred milliseconds of work. What is made beyond the last run that
 /// is wanted is thrown away, so few are made at a time.
@@ -42,7 +42,7 @@ const LOT: LotSize = LotSize {
 /// each case, in their order. Each document must have been judged to be accepted. After a fault the table has got a beginning of
 /// that.
 ///
-/// Faults: `Memory`; `Worn` where a counter of some run, or a count of its tallies, would pass 2^63; `Write` where the sink
+/// Faults: `Memory`; `CounterOverflow` where a counter of some run, or a count of its tallies, would pass 2^63; `Write` where the sink
 /// failed.
 pub fn sweep_until<S: Sink, P: Progress>(
     rt: &(impl Threads + Sync),

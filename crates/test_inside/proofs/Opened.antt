@@ -20,8 +20,8 @@ use Rattle.base.proofs.Kept.{HoldsOfAll, all_with_events}
 use Rattle.trace.specs.declared.row.Row.{Row}
 use Rattle.scenario.specs.Setup.{Setup, member_count, crash_of, leave_of}
 use Rattle.member.specs.Here.{MentionsMembers}
-use Rattle.member.specs.declared.content.Content.{Content}
-use Rattle.member.specs.declared.content.Content.TheVariants.{Crash, Leave}
+use Rattle.member.specs.declared.event_kind.EventKind.{EventKind}
+use Rattle.member.specs.declared.event_kind.EventKind.TheVariants.{Crash, Leave}
 use Rattle.member.specs.declared.event.Event.{Event}
 use Rattle.member.specs.State.{State}
 use Rattle.member.specs.StateOf.{pair_of}
@@ -41,29 +41,29 @@ module _ (s : Setup) (m : ℕ) (there : m < member_count s) where
   opened_number = refl
 
   -- an event of the member's script
-  abbrev Own : Key → Content → Type 0
+  abbrev Own : Key → EventKind → Type 0
   Own k c = IsAmongMembers s k c × (k.to ≡ m) × (k.number < (opening_state s m).next_number)
 
   first_after : (ending : Option ℕ) → 0 < option_map_or (λ at. 2) ending 1
   first_after None = omega arith
   first_after (Some at) = omega arith
 
-  ending_own : (content : Content) (ending : Option ℕ) → MentionsMembers (member_count s) content → ((at : ℕ) → ending ≡ Some at → first_number s m ≡ 2)
-      → AllByRecursion {X = Key × Content} (λ e. Own e.0 e.1) (ending_event content m ending)
+  ending_own : (content : EventKind) (ending : Option ℕ) → MentionsMembers (member_count s) content → ((at : ℕ) → ending ≡ Some at → first_number s m ≡ 2)
+      → AllByRecursion {X = Key × EventKind} (λ e. Own e.0 e.1) (ending_event content m ending)
   ending_own content None names two = tt
   ending_own content (Some at) names two = let is = two at refl in ((record { receiver = there; sender = there; names = names }, refl, omega (arith, is, opened_number)), tt)
 
-  endings_own : AllByRecursion {X = Key × Content} (λ e. Own e.0 e.1) (ending_event Crash m (crash_of s m) ++ ending_event Leave m (leave_of s m))
+  endings_own : AllByRecursion {X = Key × EventKind} (λ e. Own e.0 e.1) (ending_event Crash m (crash_of s m) ++ ending_event Leave m (leave_of s m))
   endings_own =
       all_append (λ e. Own e.0 e.1) (ending_event Crash m (crash_of s m)) (ending_event Leave m (leave_of s m))
       (ending_own Crash (crash_of s m) tt (λ at is. two_after s (crash_of s m) (leave_of s m) at (inl is)))
       (ending_own Leave (leave_of s m) tt (λ at is. two_after s (crash_of s m) (leave_of s m) at (inr is)))
 
-  script_own : AllByRecursion {X = Key × Content} (λ e. Own e.0 e.1) (script_of s m)
+  script_own : AllByRecursion {X = Key × EventKind} (λ e. Own e.0 e.1) (script_of s m)
   script_own =
       let first = first_after (option_or (crash_of s m) (leave_of s m)) in ((record { receiver = there; sender = there; names = tt }, refl, omega (arith, first, opened_number)), endings_own)
 
-  abbrev pub alone : World State Content
+  abbrev pub alone : World State EventKind
   alone = with_member s m (record { members = empty; pending = empty })
 
   own_all : HoldsOfAll Own alone.pending
@@ -72,7 +72,7 @@ module _ (s : Setup) (m : ℕ) (there : m < member_count s) where
   own_pending : (q : Key) → IsPending alone q → (q.to ≡ m) × (q.number < (opening_state s m).next_number)
   own_pending q = by_value (get alone.pending q) refl
     where
-      by_value : (o : Option Content) → get alone.pending q ≡ o → is_some o ≡ true → (q.to ≡ m) × (q.number < (opening_state s m).next_number)
+      by_value : (o : Option EventKind) → get alone.pending q ≡ o → is_some o ≡ true → (q.to ≡ m) × (q.number < (opening_state s m).next_number)
       by_value None is here = absurd (false≢true here)
       by_value (Some c) is here = let own = own_all q c is in (own.1, own.2)
 
@@ -103,8 +103,8 @@ module _ (s : Setup) (m : ℕ) (there : m < member_count s) where
   pub alone_single : (q : ℕ) → is_own alone q ≡ nat_eq q m
   alone_single q = ap is_some (here_alone q) ∙ alone_either (eq_by_cmp nat_cmp q m) ∙ unsigned_tied q m
 
-module _ (s : Setup) (p : World State Content) (k : Key) (c : Content) (before : IsConsistentPart s p) (among : IsAmongMembers s k c) (own : is_own p k.to ≡ true) (elsewhere : is_own p k.from ≡ false) where
-  among_either : (q : Key) (d : Content) (b : Bool) → eq_by_cmp key_cmp q k ≡ b → cond b (Some c) (get p.pending q) ≡ Some d → IsAmongMembers s q d
+module _ (s : Setup) (p : World State EventKind) (k : Key) (c : EventKind) (before : IsConsistentPart s p) (among : IsAmongMembers s k c) (own : is_own p k.to ≡ true) (elsewhere : is_own p k.from ≡ false) where
+  among_either : (q : Key) (d : EventKind) (b : Bool) → eq_by_cmp key_cmp q k ≡ b → cond b (Some c) (get p.pending q) ≡ Some d → IsAmongMembers s q d
   among_either q d true e is = subst (λ r. IsAmongMembers s r d) (sym (tells q k e)) (subst (IsAmongMembers s k) (same_Some c d is) among)
   among_either q d false e is = before.events q d is
 
@@ -131,31 +131,31 @@ is_less Equal e = absurd (false≢true e)
 is_less Greater e = absurd (false≢true e)
 
 -- what comes before the least event isn't among the events
-pub absent_if_first : (events : FinMap key_cmp Content) (k least : Key) (r : Bool) → IsLeastKey events least → r ≡ is_lt (key_cmp k least) → r ≡ true → contains_key events k ≡ false
+pub absent_if_first : (events : FinMap key_cmp EventKind) (k least : Key) (r : Bool) → IsLeastKey events least → r ≡ is_lt (key_cmp k least) → r ≡ true → contains_key events k ≡ false
 absent_if_first events k least r is compared went = either (contains_key events k) refl
   where
     either : (b : Bool) → contains_key events k ≡ b → b ≡ false
     either true here = absurd (is.least k here (is_less (key_cmp k least) (sym compared ∙ went)))
     either false here = refl
 
-pub absent_if_none : (events : FinMap key_cmp Content) (k : Key) → events ≡ empty → contains_key events k ≡ false
+pub absent_if_none : (events : FinMap key_cmp EventKind) (k : Key) → events ≡ empty → contains_key events k ≡ false
 absent_if_none events k none = ap (λ m. contains_key m k) none ∙ ap is_some (get-empty key_cmp k)
 
 -- before anybody comes, nothing pends
-pub none_from_below : (events : FinMap key_cmp Content) (m : ℕ) → events ≡ empty → AreFromBelow events m
+pub none_from_below : (events : FinMap key_cmp EventKind) (m : ℕ) → events ≡ empty → AreFromBelow events m
 none_from_below events m none q here = absurd (false≢true (sym (absent_if_none events q none) ∙ here))
 
-pub if_received : {E : Type 0} (s : Setup) (result : Result (Unit {0}) E) (after received : World State Content) → OnOk result (after ≡ received) → IsConsistentPart s received → OnOk result (IsConsistentPart s after)
+pub if_received : {E : Type 0} (s : Setup) (result : Result (Unit {0}) E) (after received : World State EventKind) → OnOk result (after ≡ received) → IsConsistentPart s received → OnOk result (IsConsistentPart s after)
 if_received s (Ok _) after received is consistent = subst (IsConsistentPart s) (sym is) consistent
 if_received s (Err _) after received is consistent = tt
 
 -- the same for whose part it is: the members stay, and so does the number
-pub if_single : {E : Type 0} (result : Result (Unit {0}) E) (before after received : World State Content) (number kept : ℕ) → received.members ≡ before.members
+pub if_single : {E : Type 0} (result : Result (Unit {0}) E) (before after received : World State EventKind) (number kept : ℕ) → received.members ≡ before.members
     → OnOk result (after ≡ received) → OnOk result (kept ≡ number) → ((m : ℕ) → is_own before m ≡ nat_eq m number) → OnOk result ((m : ℕ) → is_own after m ≡ nat_eq m kept)
 if_single (Ok _) before after received number kept same is stays single =
-    λ m. ap (λ (w : World State Content). is_own w m) is ∙ ap (λ ms. contains_key ms m) same ∙ single m ∙ ap (nat_eq m) (sym stays)
+    λ m. ap (λ (w : World State EventKind). is_own w m) is ∙ ap (λ ms. contains_key ms m) same ∙ single m ∙ ap (nat_eq m) (sym stays)
 if_single (Err _) before after received number kept same is stays single = tt
 
 -- a window leaves a part its members
-pub same_own : (s : Setup) (bound : ℕ) (before after : World State Content) (out : List Event) (rows : List Row) → RunsWindow s bound before out rows after → (m : ℕ) → is_own after m ≡ is_own before m
+pub same_own : (s : Setup) (bound : ℕ) (before after : World State EventKind) (out : List Event) (rows : List Row) → RunsWindow s bound before out rows after → (m : ℕ) → is_own after m ≡ is_own before m
 same_own s bound before after out rows is m = own_run (step s) (is_own before) bound is.0 before after (map pair_of out) rows is.1.run m

@@ -2,7 +2,7 @@
 use Rattle.std.specs.Prelude.{◌≡◌, ℕ, Option, Some}
 use Rattle.scenario.specs.Setup.{Setup}
 use Rattle.scenario.specs.Division.{Deal}
-use Rattle.round_windows.specs.Bounds.{IsToldOf}
+use Rattle.lookahead_windows.specs.Bounds.{IsToldOf}
 
 pub record OneRun : Type 0 where
   pub setup : Setup

@@ -3,9 +3,9 @@ ghost use Rattle.std.specs.Prelude.{⊤};
 
 use crate::ways::{Way, dealt, run_by};
 use base::{Fault, Moment};
-use gates::Gate;
-use outputs::Summary;
-use rings::run_by_rings;
+use lookahead_windows::Gate;
+use parallel_run::run_by_rings;
+use run_output::Summary;
 use scenario::{Scenario, Workers};
 use scenario_reader::read;
 use std::marker::Sync;

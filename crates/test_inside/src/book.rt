@@ -3,9 +3,9 @@ ghost use Rattle.std.specs.Prelude.{⊤, ◌≤◌};
 
 use crate::ways::divided;
 use base::{Fault, Memory, Moment};
-use gates::Gate;
-use outputs::Summary;
-use rings::run_by_rings;
+use lookahead_windows::Gate;
+use parallel_run::run_by_rings;
+use run_output::Summary;
 use scenario::Workers;
 use scenario_reader::read;
 use std::alloc::Global;

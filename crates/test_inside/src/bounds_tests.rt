@@ -4,9 +4,9 @@ ghost use Rattle.test_inside.specs.Told.{one_run, IsToldOfOne};
 
 use crate::ways::{Way, divided, run_by};
 use base::{Fault, Memory, Moment};
-use gates::Gate;
-use outputs::Summary;
-use rings::run_by_rings;
+use lookahead_windows::Gate;
+use parallel_run::run_by_rings;
+use run_output::Summary;
 use scenario::{Division, Scenario, Workers};
 use scenario_reader::read;
 use std::alloc::Global;

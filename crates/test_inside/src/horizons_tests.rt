@@ -1,9 +1,9 @@
 //! Divisions of few members, worked out by hand.
 
 use base::Moment;
-use horizons::{Horizons, horizons};
 use links::Links;
-use round_windows::{round_bound, ways_into};
+use lookahead::{Horizons, horizons};
+use lookahead_windows::{round_bound, ways_into};
 use scenario::{Division, Scenario};
 use scenario_reader::read;
 use std::alloc::Global;

@@ -14,9 +14,9 @@ const DIVISIONS: &[(DivisionFault, &str)] = &[
 
 const RUNS: &[(Fault, &str)] = &[
     (Fault::Memory, "swimsim: run F1\n"),
-    (Fault::Worn, "swimsim: run F2\n"),
+    (Fault::CounterOverflow, "swimsim: run F2\n"),
     (Fault::Write, "swimsim: run F3\n"),
-    (Fault::Relay, "swimsim: run F4\n"),
+    (Fault::ThreadLost, "swimsim: run F4\n"),
 ];
 
 /// Asserts that a failure has this status, also where standard error takes nothing, and tells this line.

@@ -9,7 +9,7 @@ ghost use Rattle.member.specs.StateOf.{state_of};
 use base::{Key, MemberId, Moment};
 use incarnation::{Claim, Update};
 use links::Links;
-use member::{Content, Effects, Event, Member, Updates};
+use member::{Effects, Event, EventKind, Member, Updates};
 use scenario::Scenario;
 use std::alloc::{AllocError, Global};
 use std::process::Abort;
@@ -96,40 +96,40 @@ const RUNS: &[Input] = &[
 ];
 
 /// What an event asks.
-fn content_of(alloc: Global, asks: Asks) -> Result<Content, AllocError> {
+fn content_of(alloc: Global, asks: Asks) -> Result<EventKind, AllocError> {
     let (one, seq) = (MemberId(1), 1);
     let updates = told(alloc)?;
     let content = match asks {
-        Asks::Start => Content::Start,
-        Asks::Crash => Content::Crash,
-        Asks::Leave => Content::Leave,
-        Asks::JoinTimer => Content::JoinTimer,
-        Asks::PeriodTimer => Content::PeriodTimer,
-        Asks::TimeoutTimer => Content::TimeoutTimer { seq },
-        Asks::NackTimer => Content::NackTimer {
+        Asks::Start => EventKind::Start,
+        Asks::Crash => EventKind::Crash,
+        Asks::Leave => EventKind::Leave,
+        Asks::JoinTimer => EventKind::JoinTimer,
+        Asks::PeriodTimer => EventKind::PeriodTimer,
+        Asks::TimeoutTimer => EventKind::TimeoutTimer { seq },
+        Asks::NackTimer => EventKind::NackTimer {
             initiator: one,
             seq,
         },
-        Asks::SuspicionTimer => Content::SuspicionTimer { subject: one },
-        Asks::Join => Content::Join,
-        Asks::Welcome => Content::Welcome { entries: updates },
-        Asks::Ping => Content::Ping {
+        Asks::SuspicionTimer => EventKind::SuspicionTimer { subject: one },
+        Asks::Join => EventKind::Join,
+        Asks::Welcome => EventKind::Welcome { entries: updates },
+        Asks::Ping => EventKind::Ping {
             initiator: one,
             seq,
             updates,
         },
-        Asks::PingReq => Content::PingReq {
+        Asks::PingReq => EventKind::PingReq {
             seq,
             target: one,
             updates,
         },
-        Asks::Ack => Content::Ack {
+        Asks::Ack => EventKind::Ack {
             initiator: one,
             seq,
             updates,
         },
-        Asks::Nack => Content::Nack { seq },
-        Asks::Bye => Content::Bye,
+        Asks::Nack => EventKind::Nack { seq },
+        Asks::Bye => EventKind::Bye,
     };
     Ok(content)
 }
@@ -157,30 +157,30 @@ fn are_about(updates: &Updates, members: usize) -> bool
 }
 
 /// Whether a content names the first so many members alone.
-fn names_members(content: &Content, members: usize) -> bool
+fn names_members(content: &EventKind, members: usize) -> bool
     ensures { IsTrue result → MentionsMembers members content.now }
 {
     match content {
-        Content::Welcome { entries } | Content::Push { entries } | Content::Pull { entries } => {
-            are_about(entries, members)
-        }
-        Content::Gossip { updates } => are_about(updates, members),
-        Content::Ping {
+        EventKind::Welcome { entries }
+        | EventKind::Push { entries }
+        | EventKind::Pull { entries } => { are_about(entries, members) }
+        EventKind::Gossip { updates } => are_about(updates, members),
+        EventKind::Ping {
             initiator,
             updates,
             ..
         } => initiator.index() < members && are_about(updates, members),
-        Content::PingReq {
+        EventKind::PingReq {
             target,
             updates,
             ..
         } => target.index() < members && are_about(updates, members),
-        Content::Ack {
+        EventKind::Ack {
             initiator,
             updates,
             ..
         } => initiator.index() < members && are_about(updates, members),
-        Content::NackTimer { initiator, .. } => initiator.index() < members,
+        EventKind::NackTimer { initiator, .. } => initiator.index() < members,
         _ => true,
     }
 }

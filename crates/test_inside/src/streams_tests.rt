@@ -1,3 +1,4 @@
+//! Tests of the members' draws: words against PCG's reference, numbers below a bound and shuffles against `rand`.
 use base::MemberId;
 use rand::seq::SliceRandom;
 use rand_core::Rng;

@@ -1,7 +1,6 @@
 //! A sweep whose table fails where only the inside can make it: at its flush.
 
 use base::Fault;
-use cases::Plan;
 use figures::CaseSummary;
 use scenario::Workers;
 use scenario_reader::document;
@@ -10,6 +9,7 @@ use std::process::Abort;
 use std::test::Fail;
 use std::thread::Threads;
 use sweep::{NoProgress, judge, sweep};
+use sweep_plan::Plan;
 use trace::Sink;
 use trace::testing::MemorySink;
 

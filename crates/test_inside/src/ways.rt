@@ -1,17 +1,17 @@
 //! The ways in which tests run a scenario: as one, by parts in turn, and by workers.
 
 use base::{Fault, Memory};
-use gates::OpenGate;
-use outputs::Summary;
-use rings::run_by_rings;
+use lookahead_windows::OpenGate;
+use parallel_run::run_by_rings;
+use run_output::Summary;
 use scenario::{Division, Scenario, Workers};
+use sequential_run::{run_in_turn, run_one, run_streamed};
 use std::marker::Sync;
 use std::process::Abort;
 use std::sync::Wait;
 use std::thread::Threads;
 use trace::Sink;
 use trace::testing::MemorySink;
-use whole_runs::{run_in_turn, run_one, run_streamed};
 
 /// The division into so many parts with these members in each. `Memory` where it is refused.
 pub(crate) fn divided(

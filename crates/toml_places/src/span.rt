@@ -1,3 +1,4 @@
+//! Where a piece of a TOML document stands: a range of bytes that lies within the text.
 ghost use Rattle.std.specs.Prelude.{◌≡◌, ◌≤◌};
 ghost use Rattle.toml_places.specs.Places.{IsWithin};
 

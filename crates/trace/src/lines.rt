@@ -1,3 +1,4 @@
+//! Lays rows as lines of CSV at the end of a room of bytes, from the last row to the first, each from its last field.
 ghost use Rattle.std.specs.Prelude.{◌≡◌, ◌+◌, ◌*◌, ◌++◌, ◌∷◌, ◌<◌, ◌≤◌, [], decimal, length, drop, IfSome, All};
 ghost use Rattle.std.specs.List.{join_with_byte};
 ghost use Rattle.trace.specs.Text.{line_of, fields_of, rows_text, about_text, word_of, lost_text, NamesMembers};

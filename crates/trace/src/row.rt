@@ -1,3 +1,5 @@
+//! A row of the trace: the key of the event that a member handled, and what it tells of, such as a ping of SWIM, a nack
+//! of Lifeguard or a stream of memberlist, each with its word.
 ghost use Rattle.std.specs.Prelude.{◌≡◌};
 ghost use Rattle.trace.specs.Text.{word_of};
 

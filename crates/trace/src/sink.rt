@@ -1,3 +1,4 @@
+//! The trait of what takes a text's bytes piece by piece and counts its failures, with its implementation over writers.
 ghost use Rattle.std.specs.Prelude.{◌≡◌, ◌+◌, ◌<◌, ◌≤◌, ◌^◌, ℕ, List, Option, length, take, IfOk, OnOk, OnErr};
 ghost use Rattle.std.specs.Io.KnownBytes.{Appends, Keeps};
 ghost use Rattle.trace.specs.Sinks.{AppendsBeginning, failures_of_put, failure_if_stopped};

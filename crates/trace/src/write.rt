@@ -1,3 +1,4 @@
+//! Writes the trace's header and rows into a sink, 512 lines at a time, and says why a text was not put whole.
 ghost use Rattle.std.specs.Prelude.{◌≡◌, ◌+◌, ◌*◌, ◌++◌, ◌<◌, ◌^◌, List, length, min, IfOk, OnOk, OnErr, IfErr, All};
 ghost use Rattle.scenario.specs.Setup.{Setup};
 ghost use Rattle.std.specs.Io.KnownBytes.{Appends};

@@ -13,8 +13,8 @@ use Rattle.base.specs.Order.{key_cmp, key_total, key_exact}
 use Rattle.base.specs.World.{IsPending, with_events}
 use Rattle.scenario.specs.Setup.{Setup, start_of, crash_of, leave_of}
 use Rattle.scenario.specs.Division.{Deal}
-use Rattle.member.specs.declared.content.Content.{Content}
-use Rattle.member.specs.declared.content.Content.TheVariants.{Start, Crash, Leave}
+use Rattle.member.specs.declared.event_kind.EventKind.{EventKind}
+use Rattle.member.specs.declared.event_kind.EventKind.TheVariants.{Start, Crash, Leave}
 use Rattle.member.specs.declared.event.Event.{Event}
 use Rattle.member.specs.Opening.{opening_state, script_key, ending_event, script_of}
 use Rattle.member.specs.State.{State}
@@ -26,7 +26,7 @@ use Rattle.windows.proofs.Cuts.{get_retained, retain_insert, retain_insert_other
 use Rattle.windows.specs.Admitting.{AreFromBelow, with_member, opened_below}
 use Rattle.windows.proofs.Admitting.{scripts_from_below, one_more_opened}
 use Rattle.windows.proofs.Wholes.{pending_kept}
-use Rattle.horizons.specs.Between.{part_number}
+use Rattle.lookahead.specs.Between.{part_number}
 use Rattle.windows.specs.Several.{numbers_of}
 use Rattle.turns.specs.Parts.{nobody, CountFrom, StandFor}
 use Rattle.turns.proofs.Coming.{same_count, at_place, elsewhere, same_numbers}
@@ -46,20 +46,20 @@ retain_none X {R = R} total exact own =
 pub nobody_in : (owns : ℕ → Bool) → part_of owns nobody ≡ nobody
 nobody_in owns =
     let members = retain_none State nat_cmp_total nat_cmp-IsAntisymmetric owns in
-    let pending = retain_none Content key_total key_exact (λ k. owns k.to) in
+    let pending = retain_none EventKind key_total key_exact (λ k. owns k.to) in
     λ i. record { members = members i; pending = pending i }
 
 abbrev own_keys : {C : Type 0} (owns : ℕ → Bool) → FinMap key_cmp C → FinMap key_cmp C
 own_keys owns pending = retain_keys pending (λ k. owns k.to)
 
 module _ (owns : ℕ → Bool) (m : ℕ) where
-  ending_own : (content : Content) (b : Bool) → owns m ≡ b → (ending : Option ℕ) → for_own owns (ending_event content m ending) ≡ cond b (ending_event content m ending) []
+  ending_own : (content : EventKind) (b : Bool) → owns m ≡ b → (ending : Option ℕ) → for_own owns (ending_event content m ending) ≡ cond b (ending_event content m ending) []
   ending_own content true is None = refl
   ending_own content false is None = refl
   ending_own content true is (Some at) = ap (λ b. cond b (ending_event content m (Some at)) []) is
   ending_own content false is (Some at) = ap (λ b. cond b (ending_event content m (Some at)) []) is
 
-  abbrev endings : Setup → List (Key × Content)
+  abbrev endings : Setup → List (Key × EventKind)
   endings s = ending_event Crash m (crash_of s m) ++ ending_event Leave m (leave_of s m)
 
   endings_in_two : (s : Setup) (b : Bool) → owns m ≡ b → for_own owns (endings s) ≡ cond b (ending_event Crash m (crash_of s m)) [] ++ cond b (ending_event Leave m (leave_of s m)) []

@@ -17,7 +17,7 @@ use Rattle.base.proofs.Rising.{all_weaker}
 use Rattle.scenario.specs.Setup.{Setup, IsSound, member_count}
 use Rattle.scenario.specs.Division.{Deal}
 use Rattle.trace.specs.declared.row.Row.{Row}
-use Rattle.member.specs.declared.content.Content.{Content}
+use Rattle.member.specs.declared.event_kind.EventKind.{EventKind}
 use Rattle.member.specs.declared.event.Event.{Event}
 use Rattle.member.specs.State.{State}
 use Rattle.member.specs.Step.{step}
@@ -36,7 +36,7 @@ use Rattle.windows.specs.WorldOf.{world_of}
 use Rattle.windows.specs.Window.{is_own}
 use Rattle.windows.specs.Several.{RanWindows}
 use Rattle.windows.proofs.PartRuns.{own_run}
-use Rattle.horizons.specs.Between.{part_number}
+use Rattle.lookahead.specs.Between.{part_number}
 use Rattle.turns.specs.Parts.{CountFrom, HaveTheirMembers, StandFor, MayTurn, HaveCome}
 use Rattle.turns.proofs.Coming.{behind}
 use Rattle.turns.proofs.Turning.{many, windows_from, rows_same, has_window, out_same, same_count, are_windows, fact_by_number, own_by_part, numbers_stay}
@@ -70,7 +70,7 @@ among_all test P (x ∷ xs) all = either (test x) refl all (among_all test P xs)
     either true e all rest = (λ passes. all.0, rest all.1)
     either false e all rest = (λ passes. absurd (false≢true (sym e ∙ passes)), rest all)
 
-pub of_events : (P : Key → Type 0) (es : List Event) → AllByRecursion (λ (e : Key × Content). P e.0) (map pair_of es) → AllByRecursion (λ (e : Event). P e.key) es
+pub of_events : (P : Key → Type 0) (es : List Event) → AllByRecursion (λ (e : Key × EventKind). P e.0) (map pair_of es) → AllByRecursion (λ (e : Event). P e.key) es
 of_events P [] all = tt
 of_events P (e ∷ es) all = (all.0, of_events P es all.1)
 
@@ -82,17 +82,17 @@ module _ {Q : Type 0} (set : Q → FinMap key_cmp Event) (s : Setup) (sound : Is
   abbrev pub bounds : ℕ → ℕ
   bounds = ready.horizons.bounds
 
-  abbrev windows : List (Window State Content Row)
+  abbrev windows : List (Window State EventKind Row)
   windows = windows_from set s 0 ps ds had
 
-  abbrev outs : List (Key × Content)
+  abbrev outs : List (Key × EventKind)
   outs = map pair_of (flat_map (λ (d : Done Q). d.out.items) ds)
 
   pub new_to_parts : (i : ℕ) (part : Part Q) → slice_get (map (λ (d : Done Q). d.part) ds) i ≡ Some part → AreNew (world_of set part).pending (for_own (is_in (part_number deal) i) outs)
   new_to_parts i part here =
       let done = behind (λ (d : Done Q). d.part) (slice_get ds i) part (sym (slice_get-map (λ (d : Done Q). d.part) ds i) ∙ here) in
       let are = are_windows set s deal divides ready.world ready.whole bounds ps ds had ready.stand ready.horizons.each in
-      let all = recursion_from_All (λ (d : Window State Content Row). AreNew d.after.pending (for_own (is_in (part_number deal) d.part) (all_out windows))) windows
+      let all = recursion_from_All (λ (d : Window State EventKind Row). AreNew d.after.pending (for_own (is_in (part_number deal) d.part) (all_out windows))) windows
       (sent_new s (part_number deal) bounds ready.world windows sound ready.whole.numbered are) in
       let new = fact_by_number set s (λ n after. AreNew after.pending (for_own (is_in (part_number deal) n) (all_out windows))) 0 ps ds had all i done.0 done.1 in
       let same : 0 + i ≡ i = omega arith in
@@ -114,8 +114,8 @@ module _ {Q : Type 0} (set : Q → FinMap key_cmp Event) (s : Setup) (sound : Is
       ∙ eq-eqb (part_number deal m) i is in
       ap (λ (p : Part Q). is_own (world_of set p) m) (sym done.2) ∙ subst (λ n. is_own (world_of set done.0.part) m ≡ is_own (part_of (is_in (part_number deal) n) ready.world) m) same stay ∙ before
     where
-      own_stay : (ws : List (Window State Content Row)) → AllByRecursion (IsWindowOfItsPart (step s) (part_number deal) bounds ready.world) ws
-          → AllByRecursion (λ (d : Window State Content Row). (q : ℕ) → is_own d.after q ≡ is_own (part_of (is_in (part_number deal) d.part) ready.world) q) ws
+      own_stay : (ws : List (Window State EventKind Row)) → AllByRecursion (IsWindowOfItsPart (step s) (part_number deal) bounds ready.world) ws
+          → AllByRecursion (λ (d : Window State EventKind Row). (q : ℕ) → is_own d.after q ≡ is_own (part_of (is_in (part_number deal) d.part) ready.world) q) ws
       own_stay ws are =
           all_weaker (IsWindowOfItsPart (step s) (part_number deal) bounds ready.world) _
           (λ d is q. own_run (step s) (is_in (part_number deal) d.part) (bounds d.part) d.keys (part_of (is_in (part_number deal) d.part) ready.world) d.after d.out d.rows is.run q) ws are
@@ -152,7 +152,7 @@ module _ {Q : Type 0} (set : Q → FinMap key_cmp Event) (s : Setup) (sound : Is
       let low = later (ap (λ o. unwrap_or o deal.parts) (slice_get_past deal.part_of to past)) in
       absurd (omega (arith, divides, low))
 
-  beyond : AllByRecursion (λ (e : Key × Content). part_number deal e.0.to ≡ deal.parts → e.0.to < member_count s) (all_out windows)
+  beyond : AllByRecursion (λ (e : Key × EventKind). part_number deal e.0.to ≡ deal.parts → e.0.to < member_count s) (all_out windows)
   beyond =
       let none : ¬ (IncludesPart windows deal.parts) = λ has. let below = no_window 0 deal.parts ps ds had has in omega (arith, ready.stand.count, many ps) in
       let there = led.2.others deal.parts none in
@@ -160,10 +160,10 @@ module _ {Q : Type 0} (set : Q → FinMap key_cmp Event) (s : Setup) (sound : Is
       let p = part_of (is_in (part_number deal) deal.parts) ready.world in
       let low : (k : Key) → contains_key (with_events p.pending own) k ≡ true → k.to < member_count s =
       λ k here. receiver_below k (pending_at k (subst (λ (x : Cluster). contains_key x.pending k ≡ true) (sym there) here)) in
-      all_weaker _ (λ (e : Key × Content). part_number deal e.0.to ≡ deal.parts → e.0.to < member_count s)
+      all_weaker _ (λ (e : Key × EventKind). part_number deal e.0.to ≡ deal.parts → e.0.to < member_count s)
       (λ e h same. h (eq-eqb (part_number deal e.0.to) deal.parts same)) (all_out windows)
-      (among_all (λ (e : Key × Content). is_in (part_number deal) deal.parts e.0.to) (λ (e : Key × Content). e.0.to < member_count s) (all_out windows)
-      (all_weaker _ (λ (e : Key × Content). e.0.to < member_count s) (λ e here. low e.0 here) own (all_pend own p.pending)))
+      (among_all (λ (e : Key × EventKind). is_in (part_number deal) deal.parts e.0.to) (λ (e : Key × EventKind). e.0.to < member_count s) (all_out windows)
+      (all_weaker _ (λ (e : Key × EventKind). e.0.to < member_count s) (λ e here. low e.0 here) own (all_pend own p.pending)))
     where
       pending_at : (k : Key) → IsPending (part_of (is_in (part_number deal) deal.parts) led.0) k → IsPending led.0 k
       pending_at k here = pending_kept (is_in (part_number deal) deal.parts) led.0 k here
@@ -171,15 +171,15 @@ module _ {Q : Type 0} (set : Q → FinMap key_cmp Event) (s : Setup) (sound : Is
       receiver_below : (k : Key) → IsPending led.0 k → k.to < member_count s
       receiver_below k here = by_value (get led.0.pending k) refl here
         where
-          by_value : (o : Option Content) → get led.0.pending k ≡ o → is_some o ≡ true → k.to < member_count s
+          by_value : (o : Option EventKind) → get led.0.pending k ≡ o → is_some o ≡ true → k.to < member_count s
           by_value None is here = absurd (false≢true here)
           by_value (Some c) is here = (sound_led.events k c is).receiver
 
   pub named_out : AllByRecursion (λ (e : Event). e.key.to < length deal.part_of) (flat_map (λ (d : Done Q). d.out.items) ds)
   named_out =
       of_events (λ k. k.to < length deal.part_of) (flat_map (λ (d : Done Q). d.out.items) ds)
-      (all_weaker _ (λ (e : Key × Content). e.0.to < length deal.part_of) (λ e later. is_named e.0.to (nat_lt e.0.to (length deal.part_of)) refl later) outs
-      (subst (AllByRecursion (λ (e : Key × Content). part_number deal e.0.to ≡ deal.parts → e.0.to < member_count s)) (out_same set s 0 ps ds had) beyond))
+      (all_weaker _ (λ (e : Key × EventKind). e.0.to < length deal.part_of) (λ e later. is_named e.0.to (nat_lt e.0.to (length deal.part_of)) refl later) outs
+      (subst (AllByRecursion (λ (e : Key × EventKind). part_number deal e.0.to ≡ deal.parts → e.0.to < member_count s)) (out_same set s 0 ps ds had) beyond))
 
   -- the parts stand for it once the events have come
   pub stand_after : (after : List (Part Q)) → HaveCome set (part_number deal) (map (λ (d : Done Q). d.part) ds) after outs → StandFor set deal after led.0

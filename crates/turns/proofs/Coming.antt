@@ -12,7 +12,7 @@ use Rattle.base.specs.Order.{key_cmp}
 use Rattle.base.specs.World.{with_events}
 use Rattle.base.specs.Run.{holds-with_events}
 use Rattle.base.specs.Rising.{AreNew}
-use Rattle.member.specs.declared.content.Content.{Content}
+use Rattle.member.specs.declared.event_kind.EventKind.{EventKind}
 use Rattle.member.specs.declared.event.Event.{Event}
 use Rattle.member.specs.StateOf.{pair_of}
 use Rattle.member_laws.specs.Runs.{Cluster}
@@ -78,7 +78,7 @@ module _ {Q : Type 0} (set : Q → FinMap key_cmp Event) (division : ℕ → ℕ
   pub none_come : (parts : List (Part Q)) → HaveCome set division parts parts []
   none_come parts = record { count = refl; worlds = λ i. refl; numbers = refl }
 
-  pub more_come : (a b c : List (Part Q)) (es fs : List (Key × Content)) → HaveCome set division a b es → HaveCome set division b c fs → HaveCome set division a c (es ++ fs)
+  pub more_come : (a b c : List (Part Q)) (es fs : List (Key × EventKind)) → HaveCome set division a b es → HaveCome set division b c fs → HaveCome set division a c (es ++ fs)
   more_come a b c es fs first second = record {
     count = second.count ∙ first.count;
     numbers = second.numbers ∙ first.numbers;
@@ -121,7 +121,7 @@ module _ {Q : Type 0} (set : Q → FinMap key_cmp Event) (division : ℕ → ℕ
     one_comes = record { count = same_count parts place after; worlds = λ i. at i (eqb i place) refl; numbers = same_numbers parts place part after here number }
 
   -- of new events that come, each is new when its turn comes
-  new_own : (pending : FinMap key_cmp Content) (es rest : List (Key × Content)) (e : Key × Content) (i : ℕ) (b : Bool) → is_in division i e.0.to ≡ b
+  new_own : (pending : FinMap key_cmp EventKind) (es rest : List (Key × EventKind)) (e : Key × EventKind) (i : ℕ) (b : Bool) → is_in division i e.0.to ≡ b
       → AreNew pending (for_own (is_in division i) es ++ cond b (e ∷ for_own (is_in division i) rest) (for_own (is_in division i) rest))
       → AreNew (with_events pending (for_own (is_in division i) es)) (cond b (e ∷ []) [])
   new_own pending es rest e i true mine new = record {
@@ -156,7 +156,7 @@ module _ {Q : Type 0} (set : Q → FinMap key_cmp Event) (division : ℕ → ℕ
       by_test false other new = absurd (false≢true (sym other ∙ eq-eqb (division event.key.to) i own))
 
   -- and each part still has the members that it had
-  pub members_stay : (before now : List (Part Q)) (es : List (Key × Content)) → HaveCome set division before now es → (i : ℕ) (part : Part Q) → slice_get now i ≡ Some part
+  pub members_stay : (before now : List (Part Q)) (es : List (Key × EventKind)) → HaveCome set division before now es → (i : ℕ) (part : Part Q) → slice_get now i ≡ Some part
       → (old : Part Q) × (slice_get before i ≡ Some old) × ((world_of set part).members ≡ (world_of set old).members)
   members_stay before now es come i part here =
       let was = behind (λ p. with_arrivals (world_of set p) (for_own (is_in division i) es)) (slice_get before i) (world_of set part)

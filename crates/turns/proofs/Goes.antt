@@ -21,7 +21,7 @@ use Rattle.links.specs.Least.{IsDelayOfAPair, IsNoGreater}
 use Rattle.scenario.specs.Setup.{Setup, IsSound, member_count}
 use Rattle.scenario.specs.Division.{Deal}
 use Rattle.trace.specs.declared.row.Row.{Row}
-use Rattle.member.specs.declared.content.Content.{Content}
+use Rattle.member.specs.declared.event_kind.EventKind.{EventKind}
 use Rattle.member.specs.declared.event.Event.{Event}
 use Rattle.member.specs.State.{State}
 use Rattle.member.specs.Places.{place_of}
@@ -38,15 +38,15 @@ use Rattle.windows.specs.Window.{is_own, IsConsistentPart}
 use Rattle.windows.proofs.Members.{receiver_low}
 use Rattle.windows.proofs.Horizons.{clear_met_in_part}
 use Rattle.windows.proofs.Released.{rising_mapped, rows_from, rows_in_time}
-use Rattle.member.specs.Worn.{IsWorn}
+use Rattle.member.specs.CounterOverflow.{IsOverflowed}
 use Rattle.windows.specs.Parts.{PartRun, part_of, is_in}
 use Rattle.windows.specs.Schedule.{MeetsState}
 use Rattle.windows.specs.Cluster.{link_delay, IsLeastDelay, IsRowOrder, IsWholeCluster}
 use Rattle.windows.specs.WorldOf.{world_of}
 use Rattle.windows.proofs.Cuts.{get_retained}
-use Rattle.member_laws.specs.Runs.{IsRunOf, WearsOut}
+use Rattle.member_laws.specs.Runs.{IsRunOf, CounterOverflows}
 use Rattle.windows.specs.Several.{RanWindows, OneWears, parts_of}
-use Rattle.horizons.specs.Between.{part_number}
+use Rattle.lookahead.specs.Between.{part_number}
 use Rattle.turns.specs.Parts.{is_before, IsUpTo, NonePendsBefore, StandFor, MayTurn, AreBounded, Came, HaveExchanged}
 use Rattle.turns.specs.Bounds.{IsFirstMoment}
 use Rattle.turns.specs.declared.turns.Course.{Course}
@@ -57,7 +57,7 @@ use Rattle.turns.proofs.Releasing.{IsAmong, AreItemsOf, at_one, own_items, items
 use Rattle.turns.proofs.Turning.{all_places, at_parts, many, of_parts, world_at, parts_consistent, own_by_part}
 use Rattle.turns.proofs.Lasting.{wears_nothing}
 use Rattle.windows.proofs.Wholes.{pending_kept}
-use Rattle.windows.proofs.Slots.{part_unworn}
+use Rattle.windows.proofs.Slots.{part_no_overflow}
 use Rattle.windows.proofs.WholeOpening.{opening_whole}
 use Rattle.turns.proofs.After.{led, sound_led, stand_after, whole_led, none_led, run_led, met_led}
 
@@ -196,7 +196,7 @@ module _ {Q : Type 0} (set : Q → FinMap key_cmp Event) (course : Course) (is :
   receiver_below : (q : Key) → IsPending so_far.world q → q.to < member_count s
   receiver_below q here = by_value (get so_far.world.pending q) refl here
     where
-      by_value : (o : Option Content) → get so_far.world.pending q ≡ o → is_some o ≡ true → q.to < member_count s
+      by_value : (o : Option EventKind) → get so_far.world.pending q ≡ o → is_some o ≡ true → q.to < member_count s
       by_value None same here = absurd (false≢true here)
       by_value (Some c) same here = (so_far.whole.sound.events q c same).receiver
 
@@ -258,7 +258,7 @@ module _ {Q : Type 0} (set : Q → FinMap key_cmp Event) (course : Course) (is :
         }
 
     -- a counter that a window wears out the run wears out
-    pub one_wears : OneWears set s bounded → WearsOut s
+    pub one_wears : OneWears set s bounded → CounterOverflows s
     one_wears one =
         let i = length one.before in
         let here : slice_get bounded i ≡ Some one.one = ap (λ l. slice_get l i) one.there ∙ after_front one.before one.one one.after in
@@ -274,7 +274,7 @@ module _ {Q : Type 0} (set : Q → FinMap key_cmp Event) (course : Course) (is :
         let met = so_far.met one.wears.number one.wears.member
         (clear_met_in_part s (part_number deal) may_turn.horizons.between is.sound may_turn.horizons.lies may_turn.horizons.bounds so_far.world so_far.whole.sound may_turn.horizons.are
         i one.wears.world one.wears.keys one.wears.out one.wears.rows one.wears.number one.wears.member run one.wears.there) in
-        record { keys = met.keys; rows = met.rows; world = met.world; reached = met.run; number = one.wears.number; member = one.wears.member; there = met.there; worn = one.wears.worn }
+        record { keys = met.keys; rows = met.rows; world = met.world; reached = met.run; number = one.wears.number; member = one.wears.member; there = met.there; overflow = one.wears.overflow }
       where
         after_front : {A : Type 0} (xs : List A) (x : A) (ys : List A) → slice_get (xs ++ x ∷ ys) (length xs) ≡ Some x
         after_front [] x ys = refl
@@ -298,27 +298,27 @@ module _ {Q : Type 0} (set : Q → FinMap key_cmp Event) (course : Course) (is :
       let nothing = none_kept all.1 (after_in_time s is.sound all.0 rows all.1 so_far.world all.2) all.3 (so_far.late (s.end + 1) none) in
       (all.0, subst (λ l. Run (step s) s.end (opening s) all.0 l so_far.world) (ap (λ l. rows ++ l) nothing ∙ append-nil rows) all.2)
 
-  all_unworn : (m : ℕ) (t : State) → get so_far.world.members m ≡ Some t → ¬ (IsWorn t)
-  all_unworn m t here =
+  all_no_overflow : (m : ℕ) (t : State) → get so_far.world.members m ≡ Some t → ¬ (IsOverflowed t)
+  all_no_overflow m t here =
       let low = ltb-true m (member_count s) (sym (so_far.whole.peopled m) ∙ ap is_some here) in
       let i = part_number deal m in
       let found = behind (world_of set) (slice_get parts i) (part_of (is_in (part_number deal) i) so_far.world) (so_far.stand.worlds i (is.below m low)) in
       let kept : get (part_of (is_in (part_number deal) i) so_far.world).members m ≡ Some t =
       get_retained nat_cmp_total nat_cmp-IsAntisymmetric (is_in (part_number deal) i) so_far.world.members m ∙ ap (λ b. cond b (get so_far.world.members m) None) (eq-eqb i i refl) ∙ here in
-      part_unworn set found.0 m t (ap (λ (x : Cluster). get x.members m) found.2 ∙ kept)
+      part_no_overflow set found.0 m t (ap (λ (x : Cluster). get x.members m) found.2 ∙ kept)
 
-  ends : NonePendsBefore set parts (s.end + 1) → IsRunOf s rows × (¬ (WearsOut s))
+  ends : NonePendsBefore set parts (s.end + 1) → IsRunOf s rows × (¬ (CounterOverflows s))
   ends none =
       let over = is_over none in
       let all = whole_run none over in
-      ((all.0, record { last = so_far.world; run = all.1; over = over }), wears_nothing s is.sound all.0 rows so_far.world all.1 over all_unworn)
+      ((all.0, record { last = so_far.world; run = all.1; over = over }), wears_nothing s is.sound all.0 rows so_far.world all.1 over all_no_overflow)
 
   -- it is where no next bound was found
-  pub ends_here : (slice : List (Part Q)) → slice ≡ parts → NonePendsBefore set slice (course.end + 1) → IsRunOf s rows × (¬ (WearsOut s))
+  pub ends_here : (slice : List (Part Q)) → slice ≡ parts → NonePendsBefore set slice (course.end + 1) → IsRunOf s rows × (¬ (CounterOverflows s))
   ends_here slice same none = ends (subst (λ e. NonePendsBefore set parts (e + 1)) is.end (subst (λ l. NonePendsBefore set l (course.end + 1)) same none))
 
   -- and past the end
-  pub ends_past : course.end < from → IsRunOf s rows × (¬ (WearsOut s))
+  pub ends_past : course.end < from → IsRunOf s rows × (¬ (CounterOverflows s))
   ends_past past = ends (none_of_parts set deal parts so_far.world so_far.stand (s.end + 1) (λ q here. let low = none_of_it from so_far.none q here in omega (arith, low, past, is.end)))
 
 -- ---- the first rows of a run

@@ -14,39 +14,39 @@ use Rattle.trace.specs.declared.row.Row.{Row}
 use Rattle.member.specs.State.{State}
 use Rattle.member.specs.Step.{step}
 use Rattle.member.specs.Opening.{opening}
-use Rattle.member.specs.Worn.{IsWorn}
+use Rattle.member.specs.CounterOverflow.{IsOverflowed}
 use Rattle.member.proofs.Fair.{steps_later}
-use Rattle.member_laws.specs.Runs.{Cluster, IsSoundCluster, WearsOut}
+use Rattle.member_laws.specs.Runs.{Cluster, IsSoundCluster, CounterOverflows}
 use Rattle.member_laws.proofs.Reached.{consistent_reached, pending_among}
 use Rattle.windows.proofs.Members.{sound_stays}
-use Rattle.turns.proofs.Wearing.{worn_stays}
+use Rattle.turns.proofs.Wearing.{overflow_stays}
 use Rattle.turns.proofs.Ends.{one_end, end_there, end_before}
 
 module _ (s : Setup) (sound : IsSound s) where
-  worn_next : (w v : Cluster) (k : Key) (made : List Row) (m : ℕ) (t : State) → IsSoundCluster s w → NextStep (step s) w k v made → get w.members m ≡ Some t → IsWorn t
-      → (u : State) × (get v.members m ≡ Some u) × IsWorn u
-  worn_next w v k made m t fact next here worn = subst (λ (x : Cluster). (u : State) × (get x.members m ≡ Some u) × IsWorn u) (sym next.world) (by_receiver (get w.members k.to) refl)
+  overflow_next : (w v : Cluster) (k : Key) (made : List Row) (m : ℕ) (t : State) → IsSoundCluster s w → NextStep (step s) w k v made → get w.members m ≡ Some t → IsOverflowed t
+      → (u : State) × (get v.members m ≡ Some u) × IsOverflowed u
+  overflow_next w v k made m t fact next here overflow = subst (λ (x : Cluster). (u : State) × (get x.members m ≡ Some u) × IsOverflowed u) (sym next.world) (by_receiver (get w.members k.to) refl)
     where
       by_test : (r : State) (b : Bool) → get w.members k.to ≡ Some r → eq_by_cmp nat_cmp m k.to ≡ b
-          → (u : State) × (cond b (Some (step s k next.content r).state) (get w.members m) ≡ Some u) × IsWorn u
+          → (u : State) × (cond b (Some (step s k next.content r).state) (get w.members m) ≡ Some u) × IsOverflowed u
       by_test r true receiver e =
           let same : t ≡ r = same_Some t r (sym here ∙ ap (get w.members) (tells_apart exact_unsigned m k.to e) ∙ receiver) in
-          ((step s k next.content r).state, refl, worn_stays s k next.content r (fact.states k.to r receiver).waits (subst IsWorn same worn))
-      by_test r false receiver e = (t, here, worn)
+          ((step s k next.content r).state, refl, overflow_stays s k next.content r (fact.states k.to r receiver).waits (subst IsOverflowed same overflow))
+      by_test r false receiver e = (t, here, overflow)
 
-      by_receiver : (o : Option State) → get w.members k.to ≡ o → (u : State) × (get (settled w k (option_map (step s k next.content) o)).members m ≡ Some u) × IsWorn u
-      by_receiver None none = (t, here, worn)
+      by_receiver : (o : Option State) → get w.members k.to ≡ o → (u : State) × (get (settled w k (option_map (step s k next.content) o)).members m ≡ Some u) × IsOverflowed u
+      by_receiver None none = (t, here, overflow)
       by_receiver (Some r) receiver =
           let is = by_test r (eq_by_cmp nat_cmp m k.to) receiver refl in
           (is.0, get-insert nat_cmp_total w.members k.to (step s k next.content r).state m ∙ is.1, is.2)
 
-  worn_to_end : (ks : List Key) (w v : Cluster) (rows : List Row) (m : ℕ) (t : State) → IsSoundCluster s w → Run (step s) s.end w ks rows v → get w.members m ≡ Some t → IsWorn t
-      → (u : State) × (get v.members m ≡ Some u) × IsWorn u
-  worn_to_end [] w v rows m t fact run here worn = (t, ap (λ (x : Cluster). get x.members m) run.0 ∙ here, worn)
-  worn_to_end (k ∷ ks) w v rows m t fact run here worn =
+  overflow_to_end : (ks : List Key) (w v : Cluster) (rows : List Row) (m : ℕ) (t : State) → IsSoundCluster s w → Run (step s) s.end w ks rows v → get w.members m ≡ Some t → IsOverflowed t
+      → (u : State) × (get v.members m ≡ Some u) × IsOverflowed u
+  overflow_to_end [] w v rows m t fact run here overflow = (t, ap (λ (x : Cluster). get x.members m) run.0 ∙ here, overflow)
+  overflow_to_end (k ∷ ks) w v rows m t fact run here overflow =
       let mid = subst (IsSoundCluster s) (sym run.4.world) (sound_stays s sound w k run.4.content fact run.4.here run.3) in
-      let next = worn_next w run.0 k run.1 m t fact run.4 here worn in
-      worn_to_end ks run.0 v run.2 m next.0 mid run.5 next.1 next.2
+      let next = overflow_next w run.0 k run.1 m t fact run.4 here overflow in
+      overflow_to_end ks run.0 v run.2 m next.0 mid run.5 next.1 next.2
 
   pub reached_sound : (keys : List Key) (rows : List Row) (w : Cluster) → Run (step s) s.end (opening s) keys rows w → IsSoundCluster s w
   reached_sound keys rows w run = record {
@@ -55,11 +55,11 @@ module _ (s : Setup) (sound : IsSound s) where
   }
 
   pub wears_nothing : (all : List Key) (rows : List Row) (world : Cluster) → Run (step s) s.end (opening s) all rows world → IsOver s.end world
-      → ((m : ℕ) (t : State) → get world.members m ≡ Some t → ¬ (IsWorn t)) → ¬ (WearsOut s)
-  wears_nothing all rows world run over unworn out =
+      → ((m : ℕ) (t : State) → get world.members m ≡ Some t → ¬ (IsOverflowed t)) → ¬ (CounterOverflows s)
+  wears_nothing all rows world run over no_overflow out =
       let later = steps_later s sound in
       let rest = end_there (step s) s.end later out.world in
       let same = one_end (step s) s.end later (opening s) rest.0 world (end_before (step s) s.end out.keys (opening s) out.world rest.0 out.rows out.reached rest.1)
       (record { keys = all; rows = rows; run = run; over = over }) in
-      let there = worn_to_end rest.1.keys out.world rest.0 rest.1.rows out.number out.member (reached_sound out.keys out.rows out.world out.reached) rest.1.run out.there out.worn in
-      unworn out.number there.0 (ap (λ (x : Cluster). get x.members out.number) (sym same) ∙ there.1) there.2
+      let there = overflow_to_end rest.1.keys out.world rest.0 rest.1.rows out.number out.member (reached_sound out.keys out.rows out.world out.reached) rest.1.run out.there out.overflow in
+      no_overflow out.number there.0 (ap (λ (x : Cluster). get x.members out.number) (sym same) ∙ there.1) there.2

@@ -18,7 +18,7 @@ use Rattle.windows.specs.Horizon.{AreHorizons}
 use Rattle.windows.specs.Cluster.{IsLeastDelay, IsPeopled, LiesBetween, IsWholeCluster}
 use Rattle.windows.specs.Several.{parts_of}
 use Rattle.windows.proofs.Members.{receiver_low, some_delay}
-use Rattle.horizons.specs.Between.{part_number}
+use Rattle.lookahead.specs.Between.{part_number}
 use Rattle.turns.specs.declared.turns.Course.{Course}
 use Rattle.turns.specs.Course.{IsCourse}
 use Rattle.turns.specs.Parts.{StandFor, AreBounded}

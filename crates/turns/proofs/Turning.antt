@@ -12,7 +12,7 @@ use Rattle.base.specs.Rising.{IsRising}
 use Rattle.scenario.specs.Setup.{Setup, member_count}
 use Rattle.scenario.specs.Division.{Deal}
 use Rattle.trace.specs.declared.row.Row.{Row}
-use Rattle.member.specs.declared.content.Content.{Content}
+use Rattle.member.specs.declared.event_kind.EventKind.{EventKind}
 use Rattle.member.specs.declared.event.Event.{Event}
 use Rattle.member.specs.State.{State}
 use Rattle.member.specs.Step.{step}
@@ -27,7 +27,7 @@ use Rattle.windows.specs.Window.{is_own, IsConsistentPart}
 use Rattle.windows.specs.Cluster.{IsWholeCluster}
 use Rattle.windows.proofs.Wholes.{part_consistent, own_here, window_by_number}
 use Rattle.windows.specs.Several.{RanWindow, RanWindows, parts_of, numbers_of}
-use Rattle.horizons.specs.Between.{part_number}
+use Rattle.lookahead.specs.Between.{part_number}
 use Rattle.turns.specs.Parts.{StandFor}
 
 pub all_places : {A : Type 0} (P : A → Type 0) (xs : List A) → ((i : ℕ) (x : A) → slice_get xs i ≡ Some x → P x) → AllByRecursion P xs
@@ -103,7 +103,7 @@ module _ {Q : Type 0} (set : Q → FinMap key_cmp Event) (s : Setup) where
   numbers_stay (p ∷ ps) (d ∷ ds) had = ap (λ n. n ∷ numbers_of (map (λ (d : Done Q). d.part) ds)) had.0.1 ∙ ap (λ ns. p.part.number ∷ ns) (numbers_stay ps ds had.1)
 
   -- the windows of the parts, numbered from a on
-  abbrev pub windows_from : (a : ℕ) (ps : List (Bounded Q)) (ds : List (Done Q)) → RanWindows set s ps ds → List (Window State Content Row)
+  abbrev pub windows_from : (a : ℕ) (ps : List (Bounded Q)) (ds : List (Done Q)) → RanWindows set s ps ds → List (Window State EventKind Row)
   windows_from a [] [] had = []
   windows_from a [] (d ∷ ds) had = absurd had
   windows_from a (p ∷ ps) [] had = absurd had
@@ -123,14 +123,14 @@ module _ {Q : Type 0} (set : Q → FinMap key_cmp Event) (s : Setup) where
   out_same a (p ∷ ps) (d ∷ ds) had =
       ap (λ l. map pair_of d.out.items ++ l) (out_same (a + 1) ps ds had.1) ∙ sym (map-append pair_of d.out.items (flat_map (λ d. d.out.items) ds))
 
-  numbers_past : (a b : ℕ) (ps : List (Bounded Q)) (ds : List (Done Q)) (had : RanWindows set s ps ds) → a < b → AllByRecursion (λ (e : Window State Content Row). a ≢ e.part) (windows_from b ps ds had)
+  numbers_past : (a b : ℕ) (ps : List (Bounded Q)) (ds : List (Done Q)) (had : RanWindows set s ps ds) → a < b → AllByRecursion (λ (e : Window State EventKind Row). a ≢ e.part) (windows_from b ps ds had)
   numbers_past a b [] [] had past = tt
   numbers_past a b [] (d ∷ ds) had past = absurd had
   numbers_past a b (p ∷ ps) [] had past = absurd had
   numbers_past a b (p ∷ ps) (d ∷ ds) had past = (λ same. omega arith, numbers_past a (b + 1) ps ds had.1 (omega arith))
 
   all_different : (a : ℕ) (ps : List (Bounded Q)) (ds : List (Done Q)) (had : RanWindows set s ps ds)
-      → IsRising (λ (d e : Window State Content Row). d.part ≢ e.part) (windows_from a ps ds had)
+      → IsRising (λ (d e : Window State EventKind Row). d.part ≢ e.part) (windows_from a ps ds had)
   all_different a [] [] had = tt
   all_different a [] (d ∷ ds) had = absurd had
   all_different a (p ∷ ps) [] had = absurd had
@@ -148,7 +148,7 @@ module _ {Q : Type 0} (set : Q → FinMap key_cmp Event) (s : Setup) where
 
   -- what is known of each window by its part's number is known of each part
   pub fact_by_number : (P : ℕ → Cluster → Type 0) (a : ℕ) (ps : List (Bounded Q)) (ds : List (Done Q)) (had : RanWindows set s ps ds)
-      → AllByRecursion (λ (d : Window State Content Row). P d.part d.after) (windows_from a ps ds had)
+      → AllByRecursion (λ (d : Window State EventKind Row). P d.part d.after) (windows_from a ps ds had)
       → (i : ℕ) (d : Done Q) → slice_get ds i ≡ Some d → P (a + i) (world_of set d.part)
   fact_by_number P a [] [] had all i d here = absurd (false≢true (ap is_some here))
   fact_by_number P a [] (e ∷ ds) had all i d here = absurd had
@@ -174,7 +174,7 @@ module _ {Q : Type 0} (set : Q → FinMap key_cmp Event) (s : Setup) where
         let same : a + suc i ≡ (a + 1) + i = omega arith in
         (let low = found.0 in omega arith, found.1 ∙ ap (λ n. part_of (owns n) w) same, ap bounds (sym same) ∙ found.2)
 
-    first_run : (a : ℕ) (p : Bounded Q) (ps : List (Bounded Q)) (keys : List Key) (out : List (Key × Content)) (rows : List Row) (after : Cluster) → Follow a (p ∷ ps)
+    first_run : (a : ℕ) (p : Bounded Q) (ps : List (Bounded Q)) (keys : List Key) (out : List (Key × EventKind)) (rows : List Row) (after : Cluster) → Follow a (p ∷ ps)
         → PartWindow (step s) (is_own (world_of set p.part)) p.bound (world_of set p.part) keys out rows after → PartWindow (step s) (owns a) (bounds a) (part_of (owns a) w) keys out rows after
     first_run a p ps keys out rows after follow is =
         let found = follow 0 p refl in

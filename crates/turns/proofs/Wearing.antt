@@ -12,204 +12,204 @@ use Rattle.incarnation.specs.declared.Update.{Update}
 use Rattle.lifeguard.specs.declared.probe.Probe.{Probe}
 use Rattle.member.specs.declared.member.Phase.{Phase}
 use Rattle.member.specs.declared.member.Phase.TheVariants.{Waiting, Joining, Running, Down}
-use Rattle.member.specs.declared.content.Content.{Content}
-use Rattle.member.specs.declared.content.Content.TheVariants.{Start, Crash, Leave, JoinTimer, PeriodTimer, TimeoutTimer, NackTimer, SuspicionTimer, Join, Welcome, Ping, PingReq, Ack, Nack, Bye, DeadlineTimer, GossipTimer, PushTimer, Call, Answer, Gossip, Push, Pull}
-use Rattle.member.specs.declared.telling.Telling.TheVariants.{Aloud, Quietly}
+use Rattle.member.specs.declared.event_kind.EventKind.{EventKind}
+use Rattle.member.specs.declared.event_kind.EventKind.TheVariants.{Start, Crash, Leave, JoinTimer, PeriodTimer, TimeoutTimer, NackTimer, SuspicionTimer, Join, Welcome, Ping, PingReq, Ack, Nack, Bye, DeadlineTimer, GossipTimer, PushTimer, Call, Answer, Gossip, Push, Pull}
+use Rattle.member.specs.declared.announce.Announce.TheVariants.{Aloud, Quietly}
 use Rattle.member.specs.State.{State}
 use Rattle.member.specs.Effects.{Effect, unchanged}
 use Rattle.member.specs.Send.{ping_req_sent, nack_sent, bye_sent, gossip_sent, answer_sent, push_sent, pull_sent}
 use Rattle.member.specs.Opening.{opening_state}
 use Rattle.member.specs.Step.{period_beaten, is_under_way, deadline_over, timed_ack_heard, sampled_help, timed_out_timed, answer_heard, is_told_out, gossip_spread, gossip_due, pushed, push_due, push_heard, timed_handled, handled_by, crashed, join_asked, join_handled, joined, period_begun, timed_out, help_asked, ping_heard, ping_req_heard, ack_heard, nack_due, nack_heard, confirmed, suspicion_over, withdrawn, byes_said, departed, plain_handled, handled, step}
-use Rattle.member.specs.Worn.{IsWorn}
-use Rattle.member.proofs.Worn.{kept_event, kept_posted, kept_gossip, kept_push, kept_merged, kept_in_turn, kept_waiting, kept_settled, kept_timed_taken, kept_called, kept_gossip_set_again, kept_row, kept_timer, kept_sent, kept_ping, kept_ping_req, kept_ack, kept_join, kept_welcome, kept_bye, kept_each, kept_applied, kept_all, kept_probe_ended, kept_next, kept_owed, kept_taken, kept_first_period}
+use Rattle.member.specs.CounterOverflow.{IsOverflowed}
+use Rattle.member.proofs.CounterOverflow.{kept_event, kept_posted, kept_gossip, kept_push, kept_merged, kept_in_turn, kept_waiting, kept_settled, kept_timed_taken, kept_called, kept_gossip_set_again, kept_row, kept_timer, kept_sent, kept_ping, kept_ping_req, kept_ack, kept_join, kept_welcome, kept_bye, kept_each, kept_applied, kept_all, kept_probe_ended, kept_next, kept_owed, kept_taken, kept_first_period}
 use Rattle.member_laws.specs.Words.{WaitsAsOpened}
 
-either_worn : (b : Bool) (o p : Effect) → IsWorn o.state → IsWorn p.state → IsWorn (cond b o p).state
-either_worn true o p first second = first
-either_worn false o p first second = second
+either_overflow : (b : Bool) (o p : Effect) → IsOverflowed o.state → IsOverflowed p.state → IsOverflowed (cond b o p).state
+either_overflow true o p first second = first
+either_overflow false o p first second = second
 
-kept_crashed : (k : Key) (o : Effect) → IsWorn o.state → IsWorn (crashed k o).state
+kept_crashed : (k : Key) (o : Effect) → IsOverflowed o.state → IsOverflowed (crashed k o).state
 unfolding crashed
-kept_crashed k o worn = kept_row k _ _ _ _ _ worn
+kept_crashed k o overflow = kept_row k _ _ _ _ _ overflow
 
-kept_join_asked : (s : Setup) (k : Key) (o : Effect) → IsWorn o.state → IsWorn (join_asked s k o).state
+kept_join_asked : (s : Setup) (k : Key) (o : Effect) → IsOverflowed o.state → IsOverflowed (join_asked s k o).state
 unfolding join_asked
-kept_join_asked s k o worn = kept_timer s k _ _ _ (kept_join s k o worn)
+kept_join_asked s k o overflow = kept_timer s k _ _ _ (kept_join s k o overflow)
 
-kept_join_handled : (s : Setup) (k : Key) (o : Effect) → IsWorn o.state → IsWorn (join_handled s k o).state
+kept_join_handled : (s : Setup) (k : Key) (o : Effect) → IsOverflowed o.state → IsOverflowed (join_handled s k o).state
 unfolding join_handled
-kept_join_handled s k o worn = kept_welcome s k _ _ (kept_applied s Aloud k _ o worn)
+kept_join_handled s k o overflow = kept_welcome s k _ _ (kept_applied s Aloud k _ o overflow)
 
-kept_joined : (s : Setup) (k : Key) (entries : List Update) (o : Effect) → IsWorn o.state → IsWorn (joined s k entries o).state
+kept_joined : (s : Setup) (k : Key) (entries : List Update) (o : Effect) → IsOverflowed o.state → IsOverflowed (joined s k entries o).state
 unfolding joined
-kept_joined s k entries o worn = kept_first_period s k _ (kept_all s Quietly k entries _ (kept_row k _ _ _ _ _ worn))
+kept_joined s k entries o overflow = kept_first_period s k _ (kept_all s Quietly k entries _ (kept_row k _ _ _ _ _ overflow))
 
-kept_period : (s : Setup) (k : Key) (o : Effect) → IsWorn o.state → IsWorn (period_begun s k o).state
+kept_period : (s : Setup) (k : Key) (o : Effect) → IsOverflowed o.state → IsOverflowed (period_begun s k o).state
 unfolding period_begun
-kept_period s k o worn = kept_timer s k _ _ _ (kept_next s k _ (kept_probe_ended s k _ o worn))
+kept_period s k o overflow = kept_timer s k _ _ _ (kept_next s k _ (kept_probe_ended s k _ o overflow))
 
-kept_help : (s : Setup) (k : Key) (probe : Probe) (o : Effect) → IsWorn o.state → IsWorn (help_asked s k probe o).state
+kept_help : (s : Setup) (k : Key) (probe : Probe) (o : Effect) → IsOverflowed o.state → IsOverflowed (help_asked s k probe o).state
 unfolding help_asked
-kept_help s k probe o worn =
-    either_worn s.lifeguard.probe _ _
-    (kept_each (ping_req_sent s k probe.target probe.seq) (kept_ping_req s k probe.target probe.seq) _ _ worn)
-    (kept_each (ping_req_sent s k probe.target probe.seq) (kept_ping_req s k probe.target probe.seq) _ _ worn)
+kept_help s k probe o overflow =
+    either_overflow s.lifeguard.probe _ _
+    (kept_each (ping_req_sent s k probe.target probe.seq) (kept_ping_req s k probe.target probe.seq) _ _ overflow)
+    (kept_each (ping_req_sent s k probe.target probe.seq) (kept_ping_req s k probe.target probe.seq) _ _ overflow)
 
-kept_timed_out : (s : Setup) (k : Key) (seq : ℕ) (probe : Option Probe) (o : Effect) → IsWorn o.state → IsWorn (timed_out s k seq probe o).state
+kept_timed_out : (s : Setup) (k : Key) (seq : ℕ) (probe : Option Probe) (o : Effect) → IsOverflowed o.state → IsOverflowed (timed_out s k seq probe o).state
 unfolding timed_out
-kept_timed_out s k seq None o worn = worn
-kept_timed_out s k seq (Some probe) o worn = either_worn _ _ _ (kept_help s k probe o worn) worn
+kept_timed_out s k seq None o overflow = overflow
+kept_timed_out s k seq (Some probe) o overflow = either_overflow _ _ _ (kept_help s k probe o overflow) overflow
 
-kept_ping_heard : (s : Setup) (k : Key) (initiator seq : ℕ) (updates : List Update) (o : Effect) → IsWorn o.state → IsWorn (ping_heard s k initiator seq updates o).state
+kept_ping_heard : (s : Setup) (k : Key) (initiator seq : ℕ) (updates : List Update) (o : Effect) → IsOverflowed o.state → IsOverflowed (ping_heard s k initiator seq updates o).state
 unfolding ping_heard
-kept_ping_heard s k initiator seq updates o worn = kept_ack s k _ _ _ _ (kept_all s Aloud k updates o worn)
+kept_ping_heard s k initiator seq updates o overflow = kept_ack s k _ _ _ _ (kept_all s Aloud k updates o overflow)
 
-kept_ping_req_heard : (s : Setup) (k : Key) (seq target : ℕ) (updates : List Update) (o : Effect) → IsWorn o.state → IsWorn (ping_req_heard s k seq target updates o).state
+kept_ping_req_heard : (s : Setup) (k : Key) (seq target : ℕ) (updates : List Update) (o : Effect) → IsOverflowed o.state → IsOverflowed (ping_req_heard s k seq target updates o).state
 unfolding ping_req_heard
-kept_ping_req_heard s k seq target updates o worn = kept_owed s k seq _ (kept_ping s k _ _ _ _ (kept_all s Aloud k updates o worn))
+kept_ping_req_heard s k seq target updates o overflow = kept_owed s k seq _ (kept_ping s k _ _ _ _ (kept_all s Aloud k updates o overflow))
 
-kept_ack_heard : (s : Setup) (k : Key) (initiator seq : ℕ) (updates : List Update) (o : Effect) → IsWorn o.state → IsWorn (ack_heard s k initiator seq updates o).state
+kept_ack_heard : (s : Setup) (k : Key) (initiator seq : ℕ) (updates : List Update) (o : Effect) → IsOverflowed o.state → IsOverflowed (ack_heard s k initiator seq updates o).state
 unfolding ack_heard
-kept_ack_heard s k initiator seq updates o worn = kept_taken s k _ _ _ (kept_all s Aloud k updates o worn)
+kept_ack_heard s k initiator seq updates o overflow = kept_taken s k _ _ _ (kept_all s Aloud k updates o overflow)
 
-kept_nack_due : (s : Setup) (k : Key) (initiator seq : ℕ) (o : Effect) → IsWorn o.state → IsWorn (nack_due s k initiator seq o).state
+kept_nack_due : (s : Setup) (k : Key) (initiator seq : ℕ) (o : Effect) → IsOverflowed o.state → IsOverflowed (nack_due s k initiator seq o).state
 unfolding nack_due nack_sent
-kept_nack_due s k initiator seq o worn = either_worn _ _ _ (kept_sent s k _ _ _ _ _ worn) worn
+kept_nack_due s k initiator seq o overflow = either_overflow _ _ _ (kept_sent s k _ _ _ _ _ overflow) overflow
 
-kept_nack_heard : (seq : ℕ) (o : Effect) → IsWorn o.state → IsWorn (nack_heard seq o).state
+kept_nack_heard : (seq : ℕ) (o : Effect) → IsOverflowed o.state → IsOverflowed (nack_heard seq o).state
 unfolding nack_heard
-kept_nack_heard seq o worn = worn
+kept_nack_heard seq o overflow = overflow
 
-kept_confirmed : (s : Setup) (k : Key) (subject : ℕ) (held : Option (Claim × ℕ)) (o : Effect) → IsWorn o.state → IsWorn (confirmed s k subject held o).state
-kept_confirmed s k subject None o worn = worn
-kept_confirmed s k subject (Some held) o worn = kept_applied s Aloud k _ o worn
+kept_confirmed : (s : Setup) (k : Key) (subject : ℕ) (held : Option (Claim × ℕ)) (o : Effect) → IsOverflowed o.state → IsOverflowed (confirmed s k subject held o).state
+kept_confirmed s k subject None o overflow = overflow
+kept_confirmed s k subject (Some held) o overflow = kept_applied s Aloud k _ o overflow
 
-kept_suspicion_over : (s : Setup) (k : Key) (subject : ℕ) (o : Effect) → IsWorn o.state → IsWorn (suspicion_over s k subject o).state
+kept_suspicion_over : (s : Setup) (k : Key) (subject : ℕ) (o : Effect) → IsOverflowed o.state → IsOverflowed (suspicion_over s k subject o).state
 unfolding suspicion_over
-kept_suspicion_over s k subject o worn = either_worn _ _ _ (kept_confirmed s k subject _ o worn) worn
+kept_suspicion_over s k subject o overflow = either_overflow _ _ _ (kept_confirmed s k subject _ o overflow) overflow
 
-kept_withdrawn : (k : Key) (o : Effect) → IsWorn o.state → IsWorn (withdrawn k o).state
+kept_withdrawn : (k : Key) (o : Effect) → IsOverflowed o.state → IsOverflowed (withdrawn k o).state
 unfolding withdrawn
-kept_withdrawn k o worn = kept_row k _ _ _ _ _ worn
+kept_withdrawn k o overflow = kept_row k _ _ _ _ _ overflow
 
-kept_byes : (s : Setup) (k : Key) (o : Effect) → IsWorn o.state → IsWorn (byes_said s k o).state
+kept_byes : (s : Setup) (k : Key) (o : Effect) → IsOverflowed o.state → IsOverflowed (byes_said s k o).state
 unfolding byes_said
-kept_byes s k o worn = kept_each (bye_sent s k) (kept_bye s k) _ _ worn
+kept_byes s k o overflow = kept_each (bye_sent s k) (kept_bye s k) _ _ overflow
 
-kept_departed : (s : Setup) (k : Key) (o : Effect) → IsWorn o.state → IsWorn (departed s k o).state
+kept_departed : (s : Setup) (k : Key) (o : Effect) → IsOverflowed o.state → IsOverflowed (departed s k o).state
 unfolding departed
-kept_departed s k o worn = kept_byes s k _ (kept_row k _ _ _ _ _ worn)
+kept_departed s k o overflow = kept_byes s k _ (kept_row k _ _ _ _ _ overflow)
 
-kept_plain : (s : Setup) (k : Key) (c : Content) (phase : Phase) (o : Effect) → (phase ≡ Waiting → ¬ (IsWorn o.state)) → IsWorn o.state → IsWorn (plain_handled s k c phase o).state
+kept_plain : (s : Setup) (k : Key) (c : EventKind) (phase : Phase) (o : Effect) → (phase ≡ Waiting → ¬ (IsOverflowed o.state)) → IsOverflowed o.state → IsOverflowed (plain_handled s k c phase o).state
 unfolding plain_handled
-kept_plain s k Start Waiting o waits worn = absurd (waits refl worn)
-kept_plain s k Crash Joining o waits worn = kept_crashed k o worn
-kept_plain s k Crash Running o waits worn = kept_crashed k o worn
-kept_plain s k JoinTimer Joining o waits worn = kept_join_asked s k o worn
-kept_plain s k PeriodTimer Running o waits worn = kept_period s k o worn
-kept_plain s k (TimeoutTimer seq) Running o waits worn = kept_timed_out s k seq o.state.probe o worn
-kept_plain s k (NackTimer initiator seq) Running o waits worn = kept_nack_due s k initiator seq o worn
-kept_plain s k (SuspicionTimer subject) Running o waits worn = kept_suspicion_over s k subject o worn
-kept_plain s k Join Running o waits worn = kept_join_handled s k o worn
-kept_plain s k (Welcome entries) Joining o waits worn = kept_joined s k entries o worn
-kept_plain s k (Ping initiator seq updates) Running o waits worn = kept_ping_heard s k initiator seq updates o worn
-kept_plain s k (PingReq target seq updates) Running o waits worn = kept_ping_req_heard s k seq target updates o worn
-kept_plain s k (Ack initiator seq updates) Running o waits worn = kept_ack_heard s k initiator seq updates o worn
-kept_plain s k (Nack seq) Running o waits worn = kept_nack_heard seq o worn
-kept_plain s k _ _ o waits worn = worn
+kept_plain s k Start Waiting o waits overflow = absurd (waits refl overflow)
+kept_plain s k Crash Joining o waits overflow = kept_crashed k o overflow
+kept_plain s k Crash Running o waits overflow = kept_crashed k o overflow
+kept_plain s k JoinTimer Joining o waits overflow = kept_join_asked s k o overflow
+kept_plain s k PeriodTimer Running o waits overflow = kept_period s k o overflow
+kept_plain s k (TimeoutTimer seq) Running o waits overflow = kept_timed_out s k seq o.state.probe o overflow
+kept_plain s k (NackTimer initiator seq) Running o waits overflow = kept_nack_due s k initiator seq o overflow
+kept_plain s k (SuspicionTimer subject) Running o waits overflow = kept_suspicion_over s k subject o overflow
+kept_plain s k Join Running o waits overflow = kept_join_handled s k o overflow
+kept_plain s k (Welcome entries) Joining o waits overflow = kept_joined s k entries o overflow
+kept_plain s k (Ping initiator seq updates) Running o waits overflow = kept_ping_heard s k initiator seq updates o overflow
+kept_plain s k (PingReq target seq updates) Running o waits overflow = kept_ping_req_heard s k seq target updates o overflow
+kept_plain s k (Ack initiator seq updates) Running o waits overflow = kept_ack_heard s k initiator seq updates o overflow
+kept_plain s k (Nack seq) Running o waits overflow = kept_nack_heard seq o overflow
+kept_plain s k _ _ o waits overflow = overflow
 
-kept_handled : (s : Setup) (k : Key) (c : Content) (phase : Phase) (o : Effect) → (phase ≡ Waiting → ¬ (IsWorn o.state)) → IsWorn o.state → IsWorn (handled s k c phase o).state
+kept_handled : (s : Setup) (k : Key) (c : EventKind) (phase : Phase) (o : Effect) → (phase ≡ Waiting → ¬ (IsOverflowed o.state)) → IsOverflowed o.state → IsOverflowed (handled s k c phase o).state
 unfolding handled
-kept_handled s k Leave Joining o waits worn = kept_withdrawn k o worn
-kept_handled s k Leave Running o waits worn = kept_departed s k o worn
-kept_handled s k Bye Running o waits worn = kept_confirmed s k k.from _ o worn
-kept_handled s k c phase o waits worn = kept_plain s k c phase o waits worn
+kept_handled s k Leave Joining o waits overflow = kept_withdrawn k o overflow
+kept_handled s k Leave Running o waits overflow = kept_departed s k o overflow
+kept_handled s k Bye Running o waits overflow = kept_confirmed s k k.from _ o overflow
+kept_handled s k c phase o waits overflow = kept_plain s k c phase o waits overflow
 
 -- ---- by memberlist's rules
 
-kept_beaten : (s : Setup) (k : Key) (o : Effect) → IsWorn o.state → IsWorn (period_beaten s k o).state
+kept_beaten : (s : Setup) (k : Key) (o : Effect) → IsOverflowed o.state → IsOverflowed (period_beaten s k o).state
 unfolding period_beaten
-kept_beaten s k o worn = kept_in_turn s k _ _ (kept_event s k _ _ _ o worn)
+kept_beaten s k o overflow = kept_in_turn s k _ _ (kept_event s k _ _ _ o overflow)
 
-kept_deadline : (s : Setup) (k : Key) (seq : ℕ) (o : Effect) → IsWorn o.state → IsWorn (deadline_over s k seq o).state
+kept_deadline : (s : Setup) (k : Key) (seq : ℕ) (o : Effect) → IsOverflowed o.state → IsOverflowed (deadline_over s k seq o).state
 unfolding deadline_over
-kept_deadline s k seq o worn = either_worn (is_under_way seq o.state.probe) _ _ (kept_waiting s k _ (kept_settled s k o.state.probe o worn)) worn
+kept_deadline s k seq o overflow = either_overflow (is_under_way seq o.state.probe) _ _ (kept_waiting s k _ (kept_settled s k o.state.probe o overflow)) overflow
 
-kept_timed_ack : (s : Setup) (k : Key) (initiator seq : ℕ) (updates : List Update) (o : Effect) → IsWorn o.state → IsWorn (timed_ack_heard s k initiator seq updates o).state
+kept_timed_ack : (s : Setup) (k : Key) (initiator seq : ℕ) (updates : List Update) (o : Effect) → IsOverflowed o.state → IsOverflowed (timed_ack_heard s k initiator seq updates o).state
 unfolding timed_ack_heard
-kept_timed_ack s k initiator seq updates o worn = kept_timed_taken s k initiator seq _ (kept_all s Aloud k updates o worn)
+kept_timed_ack s k initiator seq updates o overflow = kept_timed_taken s k initiator seq _ (kept_all s Aloud k updates o overflow)
 
-kept_sampled : (s : Setup) (k : Key) (probe : Probe) (o : Effect) → IsWorn o.state → IsWorn (sampled_help s k probe o).state
+kept_sampled : (s : Setup) (k : Key) (probe : Probe) (o : Effect) → IsOverflowed o.state → IsOverflowed (sampled_help s k probe o).state
 unfolding sampled_help
-kept_sampled s k probe o worn =
-    either_worn s.lifeguard.probe _ _
-    (kept_each (ping_req_sent s k probe.target probe.seq) (kept_ping_req s k probe.target probe.seq) _ _ worn)
-    (kept_each (ping_req_sent s k probe.target probe.seq) (kept_ping_req s k probe.target probe.seq) _ _ worn)
+kept_sampled s k probe o overflow =
+    either_overflow s.lifeguard.probe _ _
+    (kept_each (ping_req_sent s k probe.target probe.seq) (kept_ping_req s k probe.target probe.seq) _ _ overflow)
+    (kept_each (ping_req_sent s k probe.target probe.seq) (kept_ping_req s k probe.target probe.seq) _ _ overflow)
 
-kept_timed_out_timed : (s : Setup) (k : Key) (seq : ℕ) (probe : Option Probe) (o : Effect) → IsWorn o.state → IsWorn (timed_out_timed s k seq probe o).state
+kept_timed_out_timed : (s : Setup) (k : Key) (seq : ℕ) (probe : Option Probe) (o : Effect) → IsOverflowed o.state → IsOverflowed (timed_out_timed s k seq probe o).state
 unfolding timed_out_timed
-kept_timed_out_timed s k seq None o worn = worn
-kept_timed_out_timed s k seq (Some probe) o worn =
-    either_worn (nat_eq probe.seq seq) _ _ (kept_called s k probe _ (either_worn (nat_lt 0 s.swim.helpers) _ _ (kept_sampled s k probe o worn) worn)) worn
+kept_timed_out_timed s k seq None o overflow = overflow
+kept_timed_out_timed s k seq (Some probe) o overflow =
+    either_overflow (nat_eq probe.seq seq) _ _ (kept_called s k probe _ (either_overflow (nat_lt 0 s.swim.helpers) _ _ (kept_sampled s k probe o overflow) overflow)) overflow
 
-kept_answered : (s : Setup) (k : Key) (to seq : ℕ) (o : Effect) → IsWorn o.state → IsWorn (answer_sent s k to seq o).state
+kept_answered : (s : Setup) (k : Key) (to seq : ℕ) (o : Effect) → IsOverflowed o.state → IsOverflowed (answer_sent s k to seq o).state
 unfolding answer_sent
-kept_answered s k to seq o worn = kept_posted s k _ _ _ _ _ o worn
+kept_answered s k to seq o overflow = kept_posted s k _ _ _ _ _ o overflow
 
-kept_answer_heard : (seq : ℕ) (o : Effect) → IsWorn o.state → IsWorn (answer_heard seq o).state
+kept_answer_heard : (seq : ℕ) (o : Effect) → IsOverflowed o.state → IsOverflowed (answer_heard seq o).state
 unfolding answer_heard
-kept_answer_heard seq o worn = worn
+kept_answer_heard seq o overflow = overflow
 
-kept_spread : (s : Setup) (k : Key) (gossip : settings.Gossip) (o : Effect) → IsWorn o.state → IsWorn (gossip_spread s k gossip o).state
+kept_spread : (s : Setup) (k : Key) (gossip : settings.Gossip) (o : Effect) → IsOverflowed o.state → IsOverflowed (gossip_spread s k gossip o).state
 unfolding gossip_spread
-kept_spread s k gossip o worn = kept_each (gossip_sent s k) (kept_gossip s k) _ _ worn
+kept_spread s k gossip o overflow = kept_each (gossip_sent s k) (kept_gossip s k) _ _ overflow
 
-kept_gossip_due : (s : Setup) (k : Key) (gossip : Option settings.Gossip) (o : Effect) → IsWorn o.state → IsWorn (gossip_due s k gossip o).state
-kept_gossip_due s k None o worn = worn
-kept_gossip_due s k (Some gossip) o worn = either_worn (is_told_out o.state) _ _ worn (kept_gossip_set_again s k _ (kept_spread s k gossip _ worn))
+kept_gossip_due : (s : Setup) (k : Key) (gossip : Option settings.Gossip) (o : Effect) → IsOverflowed o.state → IsOverflowed (gossip_due s k gossip o).state
+kept_gossip_due s k None o overflow = overflow
+kept_gossip_due s k (Some gossip) o overflow = either_overflow (is_told_out o.state) _ _ overflow (kept_gossip_set_again s k _ (kept_spread s k gossip _ overflow))
 
-kept_pushed : (s : Setup) (k : Key) (push : ℕ) (o : Effect) → IsWorn o.state → IsWorn (pushed s k push o).state
+kept_pushed : (s : Setup) (k : Key) (push : ℕ) (o : Effect) → IsOverflowed o.state → IsOverflowed (pushed s k push o).state
 unfolding pushed
-kept_pushed s k push o worn = kept_each (push_sent s k) (kept_push s k) _ _ (kept_timer s k _ _ _ worn)
+kept_pushed s k push o overflow = kept_each (push_sent s k) (kept_push s k) _ _ (kept_timer s k _ _ _ overflow)
 
-kept_push_due : (s : Setup) (k : Key) (gossip : Option settings.Gossip) (o : Effect) → IsWorn o.state → IsWorn (push_due s k gossip o).state
-kept_push_due s k None o worn = worn
-kept_push_due s k (Some gossip) o worn = either_worn (nat_eq gossip.push 0) _ _ worn (kept_pushed s k gossip.push o worn)
+kept_push_due : (s : Setup) (k : Key) (gossip : Option settings.Gossip) (o : Effect) → IsOverflowed o.state → IsOverflowed (push_due s k gossip o).state
+kept_push_due s k None o overflow = overflow
+kept_push_due s k (Some gossip) o overflow = either_overflow (nat_eq gossip.push 0) _ _ overflow (kept_pushed s k gossip.push o overflow)
 
-kept_push_heard : (s : Setup) (k : Key) (entries : List Update) (o : Effect) → IsWorn o.state → IsWorn (push_heard s k entries o).state
+kept_push_heard : (s : Setup) (k : Key) (entries : List Update) (o : Effect) → IsOverflowed o.state → IsOverflowed (push_heard s k entries o).state
 unfolding push_heard pull_sent
-kept_push_heard s k entries o worn = kept_merged s k entries _ (kept_posted s k _ _ _ _ _ o worn)
+kept_push_heard s k entries o overflow = kept_merged s k entries _ (kept_posted s k _ _ _ _ _ o overflow)
 
-kept_timed : (s : Setup) (k : Key) (c : Content) (o : Effect) → IsWorn o.state → IsWorn (timed_handled s k c o).state
+kept_timed : (s : Setup) (k : Key) (c : EventKind) (o : Effect) → IsOverflowed o.state → IsOverflowed (timed_handled s k c o).state
 unfolding timed_handled
-kept_timed s k PeriodTimer o worn = kept_beaten s k o worn
-kept_timed s k (TimeoutTimer seq) o worn = kept_timed_out_timed s k seq o.state.probe o worn
-kept_timed s k (DeadlineTimer seq) o worn = kept_deadline s k seq o worn
-kept_timed s k (Ack initiator seq updates) o worn = kept_timed_ack s k initiator seq updates o worn
-kept_timed s k (Call seq) o worn = kept_answered s k k.from seq o worn
-kept_timed s k (Answer seq) o worn = kept_answer_heard seq o worn
-kept_timed s k GossipTimer o worn = kept_gossip_due s k s.gossip o worn
-kept_timed s k (Gossip updates) o worn = kept_all s Aloud k updates o worn
-kept_timed s k PushTimer o worn = kept_push_due s k s.gossip o worn
-kept_timed s k (Push entries) o worn = kept_push_heard s k entries o worn
-kept_timed s k (Pull entries) o worn = kept_merged s k entries o worn
-kept_timed s k c o worn = kept_handled s k c Running o (λ is. absurd (let e = is in cc)) worn
+kept_timed s k PeriodTimer o overflow = kept_beaten s k o overflow
+kept_timed s k (TimeoutTimer seq) o overflow = kept_timed_out_timed s k seq o.state.probe o overflow
+kept_timed s k (DeadlineTimer seq) o overflow = kept_deadline s k seq o overflow
+kept_timed s k (Ack initiator seq updates) o overflow = kept_timed_ack s k initiator seq updates o overflow
+kept_timed s k (Call seq) o overflow = kept_answered s k k.from seq o overflow
+kept_timed s k (Answer seq) o overflow = kept_answer_heard seq o overflow
+kept_timed s k GossipTimer o overflow = kept_gossip_due s k s.gossip o overflow
+kept_timed s k (Gossip updates) o overflow = kept_all s Aloud k updates o overflow
+kept_timed s k PushTimer o overflow = kept_push_due s k s.gossip o overflow
+kept_timed s k (Push entries) o overflow = kept_push_heard s k entries o overflow
+kept_timed s k (Pull entries) o overflow = kept_merged s k entries o overflow
+kept_timed s k c o overflow = kept_handled s k c Running o (λ is. absurd (let e = is in cc)) overflow
 
-kept_by : (s : Setup) (k : Key) (c : Content) (phase : Phase) (profile : Profile) (o : Effect) → (phase ≡ Waiting → ¬ (IsWorn o.state)) → IsWorn o.state → IsWorn (handled_by phase profile s k c o).state
-kept_by s k c Running Memberlist o waits worn = kept_timed s k c o worn
-kept_by s k c Running Papers o waits worn = kept_handled s k c Running o waits worn
-kept_by s k c Waiting profile o waits worn = kept_handled s k c Waiting o waits worn
-kept_by s k c Joining profile o waits worn = kept_handled s k c Joining o waits worn
-kept_by s k c Down profile o waits worn = kept_handled s k c Down o waits worn
+kept_by : (s : Setup) (k : Key) (c : EventKind) (phase : Phase) (profile : Profile) (o : Effect) → (phase ≡ Waiting → ¬ (IsOverflowed o.state)) → IsOverflowed o.state → IsOverflowed (handled_by phase profile s k c o).state
+kept_by s k c Running Memberlist o waits overflow = kept_timed s k c o overflow
+kept_by s k c Running Papers o waits overflow = kept_handled s k c Running o waits overflow
+kept_by s k c Waiting profile o waits overflow = kept_handled s k c Waiting o waits overflow
+kept_by s k c Joining profile o waits overflow = kept_handled s k c Joining o waits overflow
+kept_by s k c Down profile o waits overflow = kept_handled s k c Down o waits overflow
 
 fresh_number : (ending : Option ℕ) → option_map_or (λ at. 2) ending 1 < 3
 fresh_number None = omega arith
 fresh_number (Some at) = omega arith
 
-opened_unworn : (s : Setup) (m : ℕ) → ¬ (IsWorn (opening_state s m))
+opened_no_overflow : (s : Setup) (m : ℕ) → ¬ (IsOverflowed (opening_state s m))
 unfolding opening_state
-opened_unworn s m worn = let few = fresh_number (option_or (crash_of s m) (leave_of s m)) in elim worn [ inl h ↦ omega arith | inr more ↦ elim more [ inl h ↦ omega arith | inr h ↦ omega arith ] ]
+opened_no_overflow s m overflow = let few = fresh_number (option_or (crash_of s m) (leave_of s m)) in elim overflow [ inl h ↦ omega arith | inr more ↦ elim more [ inl h ↦ omega arith | inr h ↦ omega arith ] ]
 
-pub worn_stays : (s : Setup) (k : Key) (c : Content) (t : State) → WaitsAsOpened s k.to t → IsWorn t → IsWorn (step s k c t).state
+pub overflow_stays : (s : Setup) (k : Key) (c : EventKind) (t : State) → WaitsAsOpened s k.to t → IsOverflowed t → IsOverflowed (step s k c t).state
 unfolding step
-worn_stays s k c t waits worn = kept_by s k c t.phase (profile_of s) (unchanged t) (λ is h. opened_unworn s k.to (subst IsWorn (waits is) h)) worn
+overflow_stays s k c t waits overflow = kept_by s k c t.phase (profile_of s) (unchanged t) (λ is h. opened_no_overflow s k.to (subst IsOverflowed (waits is) h)) overflow

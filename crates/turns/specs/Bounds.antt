@@ -6,8 +6,8 @@ use Rattle.member.specs.declared.event.Event.{Event}
 use Rattle.windows.specs.declared.part.Part.{Part}
 use Rattle.scenario.specs.Setup.{Setup}
 use Rattle.scenario.specs.Division.{Deal}
-use Rattle.horizons.specs.Between.{part_number, IsLeastBetween}
-use Rattle.horizons.specs.Walks.{Table, AreWalksOf}
+use Rattle.lookahead.specs.Between.{part_number, IsLeastBetween}
+use Rattle.lookahead.specs.Walks.{Table, AreWalksOf}
 use Rattle.turns.specs.Parts.{NonePendsBefore}
 
 -- the first moment at which something pends in these parts, no later than the end

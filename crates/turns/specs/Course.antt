@@ -2,7 +2,7 @@
 use Rattle.std.specs.Prelude.{◌≡◌, ℕ, ◌<◌, length}
 use Rattle.scenario.specs.Setup.{IsSound, member_count}
 use Rattle.turns.specs.declared.turns.Course.{Course}
-use Rattle.horizons.specs.Between.{part_number}
+use Rattle.lookahead.specs.Between.{part_number}
 
 -- The end and the division are those of the scenario, and each member has a part.
 pub record IsCourse (course : Course) : Type 0 where

@@ -12,7 +12,7 @@ use Rattle.scenario.specs.Setup.{Setup, IsSound, member_count}
 use Rattle.scenario.specs.Division.{Deal}
 use Rattle.trace.specs.declared.row.Row.{Row}
 use Rattle.worker_queue.specs.Queue.{NoneIsBelow}
-use Rattle.member.specs.declared.content.Content.{Content}
+use Rattle.member.specs.declared.event_kind.EventKind.{EventKind}
 use Rattle.member.specs.declared.event.Event.{Event}
 use Rattle.member.specs.Places.{place_of}
 use Rattle.member.specs.StateOf.{pair_of}
@@ -26,7 +26,7 @@ use Rattle.windows.specs.Horizon.{AreHorizons}
 use Rattle.windows.specs.WorldOf.{world_of}
 use Rattle.windows.specs.Window.{is_own}
 use Rattle.windows.specs.Several.{RanWindows, parts_of, numbers_of}
-use Rattle.horizons.specs.Between.{part_number}
+use Rattle.lookahead.specs.Between.{part_number}
 
 -- a cluster of nobody, in which nothing pends
 abbrev pub nobody : Cluster
@@ -98,7 +98,7 @@ module _ {Q : Type 0} (set : Q → FinMap key_cmp Event) where
     pub horizons : (w : Cluster) → StandFor deal parts w → IsWholeCluster s w → HaveHorizons s deal bounded w
 
   -- these events have come to the parts of their receivers, which keep their numbers
-  pub record HaveCome (division : ℕ → ℕ) (before after : List (Part Q)) (events : List (Key × Content)) : Type 0 where
+  pub record HaveCome (division : ℕ → ℕ) (before after : List (Part Q)) (events : List (Key × EventKind)) : Type 0 where
     pub count : length after ≡ length before
     pub worlds : (i : ℕ) → option_map (world_of set) (slice_get after i) ≡ option_map (λ p. with_arrivals (world_of set p) (for_own (is_in division i) events)) (slice_get before i)
     pub numbers : numbers_of after ≡ numbers_of before

@@ -1,3 +1,4 @@
+//! Builds the parts in which a divided run begins, with a tree or a timer wheel for the pending events of each.
 ghost use Rattle.std.specs.Prelude.{◌≡◌, ◌+◌, ◌<◌, length, IfOk, OnOk, vec_len};
 ghost use Rattle.std.specs.List.{AllByRecursion};
 ghost use Rattle.scenario.specs.Setup.{member_count};
@@ -5,7 +6,7 @@ ghost use Rattle.member.specs.Opening.{opening};
 ghost use Rattle.worker_queue.specs.SetOf.{set_of};
 ghost use Rattle.windows.specs.WorldOf.{world_of};
 ghost use Rattle.windows.specs.Admitting.{opened_below};
-ghost use Rattle.horizons.specs.Between.{part_number};
+ghost use Rattle.lookahead.specs.Between.{part_number};
 ghost use Rattle.windows.specs.Several.{numbers_of};
 ghost use Rattle.turns.specs.Parts.{nobody, CountFrom, StandFor};
 ghost use Rattle.turns.specs.Wheels.{wheel_set};

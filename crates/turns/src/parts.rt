@@ -1,3 +1,4 @@
+//! What concerns all parts between two rounds: the first pending moment, and events that go to their receivers' parts.
 ghost use Rattle.std.specs.Prelude.{◌≡◌, ◌<◌, [], ◌∷◌, map, length, OnOk, All, Some};
 ghost use Rattle.std.specs.List.{slice_get};
 ghost use Rattle.base.specs.Rising.{AreNew};
@@ -8,7 +9,7 @@ ghost use Rattle.windows.specs.Parts.{for_own, is_in};
 ghost use Rattle.windows.specs.WorldOf.{world_of};
 ghost use Rattle.std.specs.Option.{option_map};
 ghost use Rattle.links.specs.Least.{lesser_of};
-ghost use Rattle.horizons.specs.Between.{part_number};
+ghost use Rattle.lookahead.specs.Between.{part_number};
 ghost use Rattle.turns.specs.Parts.{IsLeastMoment, HaveTheirMembers, HaveCome};
 
 use base::{Key, Memory, Moment};
@@ -23,13 +24,13 @@ pub(crate) fn least_moment<Q: EventQueue<Event> + Drop>(parts: &[Part<Q>]) -> Op
 {
     let mut least = None;
     for part in parts {
-        least = lesser(least, part.least());
+        least = lesser_moment(least, part.least());
     }
     least
 }
 
 /// The lesser of a moment and that of a key, where there are both.
-fn lesser(moment: Option<Moment>, key: Option<Key>) -> Option<Moment>
+fn lesser_moment(moment: Option<Moment>, key: Option<Key>) -> Option<Moment>
     ensures { result ≡ lesser_of moment (option_map (λ k. k.at) key) }
 {
     let Some(key) = key else {

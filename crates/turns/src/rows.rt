@@ -1,3 +1,4 @@
+//! Puts the rows of a turn into row order, releases those before the first pending moment, and keeps the others back.
 ghost use Rattle.std.specs.Prelude.{◌≡◌, ◌<◌, ◌==◌, ◌++◌, ◌∷◌, [], true, not, map, count_by, IfOk, OnOk, OnErr};
 ghost use Rattle.std.specs.Bool.{OnTrue};
 ghost use Rattle.std.specs.List.{filter, list_all};

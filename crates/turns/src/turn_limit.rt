@@ -1,3 +1,4 @@
+//! How far a turn's windows go past the first pending moment: twice as far after few rows, half as far after many.
 ghost use Rattle.std.specs.Prelude.{◌<◌, ◌≤◌, ◌^◌};
 
 use base::Moment;

@@ -1,7 +1,9 @@
+//! How a round ends: events for other parts reach their queues, and the rows before all that pends are released
+//! in row order.
 ghost use Rattle.std.specs.Prelude.{◌≡◌, ◌<◌, ◌++◌, map, flat_map, length, IfOk};
 ghost use Rattle.scenario.specs.Setup.{member_count};
 ghost use Rattle.windows.specs.declared.part.Done.{Done as ADone};
-ghost use Rattle.horizons.specs.Between.{part_number};
+ghost use Rattle.lookahead.specs.Between.{part_number};
 ghost use Rattle.turns.specs.Parts.{Came, HaveExchanged};
 ghost use Rattle.turns.specs.Course.{IsCourse};
 

@@ -19,9 +19,9 @@ use Rattle.scenario_reader.specs.Reading.{version_numbered, version_of, plain_gr
 use Rattle.scenario_reader.specs.Rules.{has_lost_contact, names_no_member, names_no_group, breaks_names, breaks_references, breaks_added_references, breaks_pairs, breaks_departures, breaks_pauses, breaks_times, breaks_added_times, breaks_size, least_of, least_broken_by, least_broken, unless_broken, document_verdict, tree_of, verdict}
 use Rattle.scenario_reader.proofs.Chain.{version_is, accepted, answered_as_document}
 use Rattle.scenario_reader.proofs.First.{plain_of}
-use Rattle.cases.specs.Document.{data_of, with_value_in, with_values}
-use Rattle.cases.specs.declared.choice.Choice.{Choice}
-use Rattle.cases.specs.declared.values.SettingValue.TheVariants.{Whole}
+use Rattle.sweep_plan.specs.Document.{data_of, with_value_in, with_values}
+use Rattle.sweep_plan.specs.declared.choice.Choice.{Choice}
+use Rattle.sweep_plan.specs.declared.values.SettingValue.TheVariants.{Whole}
 use Rattle.version_laws.specs.Versions.{in_version_2, given_version_2}
 use Rattle.version_laws.proofs.Entries.{left_off, both_off}
 use Rattle.version_laws.proofs.Shapes.{given, values, same_values, version_there, SaysNoMore, no_more_by_shape, shape_stays}

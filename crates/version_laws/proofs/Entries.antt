@@ -8,7 +8,7 @@ use Rattle.std.specs.List.{list_any}
 use Rattle.std.specs.Ordering.{match_ordering}
 use Rattle.toml.specs.Data.{Data, Members, no_members, member, get_member}
 use Rattle.schema.specs.Tree.{keys_in}
-use Rattle.cases.specs.Document.{put}
+use Rattle.sweep_plan.specs.Document.{put}
 
 -- ---- what holds of two doesn't hold of one
 

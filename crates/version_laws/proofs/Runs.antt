@@ -9,7 +9,7 @@ use Rattle.trace.specs.declared.row.Row.{Row}
 use Rattle.trace.specs.Text.{line_of, trace_text}
 use Rattle.member.specs.Opening.{opening}
 use Rattle.member.specs.Step.{step}
-use Rattle.member_laws.specs.Runs.{Cluster, IsRunOf, WearsOut}
+use Rattle.member_laws.specs.Runs.{Cluster, IsRunOf, CounterOverflows}
 use Rattle.version_laws.specs.Versions.{in_version_2}
 use Rattle.version_laws.proofs.Steps.{in_version_1, same_opening, same_step}
 
@@ -36,7 +36,7 @@ module _ (s : Setup) (first : s.version ≡ One) where
   pub run_was : (rows : List Row) → IsRunOf (in_version_2 s) rows → IsRunOf s rows
   run_was rows run = subst (λ (A : Type 0). A) (sym (runs_alike rows)) run
 
-  pub wears : WearsOut s → WearsOut (in_version_2 s)
+  pub wears : CounterOverflows s → CounterOverflows (in_version_2 s)
   wears w = record {
     keys = w.keys;
     rows = w.rows;
@@ -45,10 +45,10 @@ module _ (s : Setup) (first : s.version ≡ One) where
     number = w.number;
     member = w.member;
     there = w.there;
-    worn = w.worn;
+    overflow = w.overflow;
   }
 
-  pub wore : WearsOut (in_version_2 s) → WearsOut s
+  pub wore : CounterOverflows (in_version_2 s) → CounterOverflows s
   wore w = record {
     keys = w.keys;
     rows = w.rows;
@@ -57,7 +57,7 @@ module _ (s : Setup) (first : s.version ≡ One) where
     number = w.number;
     member = w.member;
     there = w.there;
-    worn = w.worn;
+    overflow = w.overflow;
   }
 
 pub same_trace : (s : Setup) (rows : List Row) → trace_text (in_version_2 s) rows ≡ trace_text s rows

@@ -25,7 +25,7 @@ use Rattle.schema.specs.declared.shape.Check.{Check}
 use Rattle.schema.specs.declared.shape.Check.TheVariants.{Missing, Unknown, WrongKind, OutOfRange}
 use Rattle.schema.proofs.Trees.{any-map, any-flat_map}
 use Rattle.scenario_reader.proofs.Trees.{any_same}
-use Rattle.cases.specs.Document.{put}
+use Rattle.sweep_plan.specs.Document.{put}
 use Rattle.version_laws.proofs.Entries.{left_off, right_off, both_off, put_here, put_elsewhere, put_keys, not_there}
 
 -- ---- the values at keys

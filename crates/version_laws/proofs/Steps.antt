@@ -8,7 +8,7 @@ use Rattle.scenario.specs.Setup.{Setup, awake}
 use Rattle.links.specs.Arrival.{arrival_of, uncut_arrival_of}
 use Rattle.member.specs.declared.member.Phase.{Phase}
 use Rattle.member.specs.declared.member.Phase.TheVariants.{Waiting, Joining, Running, Down}
-use Rattle.member.specs.declared.content.Content.{Content}
+use Rattle.member.specs.declared.event_kind.EventKind.{EventKind}
 use Rattle.member.specs.Effects.{Effect, unchanged, with_event, with_timer}
 use Rattle.member.specs.Send.{posted, buddy_of, ping_sent, ping_req_sent, ack_sent, nack_sent, join_sent, welcome_sent, bye_sent}
 use Rattle.member.specs.Apply.{with_put, passed_on, refuted, suspect_heard, news_heard, accusation_heard, applied, all_applied}
@@ -28,7 +28,7 @@ same_handled : (s : Setup) → handled (in_version_1 s) ≡ handled (in_version_
 unfolding handled plain_handled started began first_period_set first_others push_begun joining_begun join_asked join_handled joined period_begun next_probed probe_ended probe_failed probe_begun timed_out help_asked ping_heard ping_req_heard ack_heard ack_taken nack_due suspicion_over departed byes_said all_applied applied refuted accusation_heard news_heard suspect_heard passed_on with_put ping_sent ping_req_sent ack_sent nack_sent join_sent welcome_sent bye_sent buddy_of posted arrival_of uncut_arrival_of with_event with_timer awake
 same_handled s = refl
 
-same_by_papers : (s : Setup) (phase : Phase) (k : Key) (c : Content) (o : Effect) → handled_by phase Papers (in_version_1 s) k c o ≡ handled_by phase Papers (in_version_2 s) k c o
+same_by_papers : (s : Setup) (phase : Phase) (k : Key) (c : EventKind) (o : Effect) → handled_by phase Papers (in_version_1 s) k c o ≡ handled_by phase Papers (in_version_2 s) k c o
 same_by_papers s Waiting k c o = ap (λ h. h k c Waiting o) (same_handled s)
 same_by_papers s Joining k c o = ap (λ h. h k c Joining o) (same_handled s)
 same_by_papers s Running k c o = ap (λ h. h k c Running o) (same_handled s)

@@ -4,7 +4,7 @@ use Rattle.toml.specs.Data.{Data, integer}
 use Rattle.schema.specs.declared.schema.Version.TheVariants.{Two}
 use Rattle.schema.specs.declared.schema.FormatKey.TheVariants as key
 use Rattle.scenario.specs.Setup.{Setup}
-use Rattle.cases.specs.Document.{with_entry}
+use Rattle.sweep_plan.specs.Document.{with_entry}
 
 -- the scenario, by version 2
 abbrev pub in_version_2 : Setup → Setup

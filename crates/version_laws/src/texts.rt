@@ -10,9 +10,9 @@ ghost use Rattle.trace.specs.declared.row.Row.{Row};
 ghost use Rattle.reports.specs.Text.{report_text};
 ghost use Rattle.member_laws.specs.Runs.{IsRunOf};
 ghost use Rattle.scenario_reader.specs.Rules.{document_verdict, tree_of, verdict};
-ghost use Rattle.cases.specs.Document.{with_values};
-ghost use Rattle.cases.specs.declared.choice.Choice.{Choice};
-ghost use Rattle.cases.specs.declared.values.SettingValue.TheVariants.{Whole};
+ghost use Rattle.sweep_plan.specs.Document.{with_values};
+ghost use Rattle.sweep_plan.specs.declared.choice.Choice.{Choice};
+ghost use Rattle.sweep_plan.specs.declared.values.SettingValue.TheVariants.{Whole};
 ghost use Rattle.version_laws.specs.Versions.{in_version_2, given_version_2};
 
 /// A document of version 1 that is accepted is accepted with `version = 2` too, and says the same

@@ -1,4 +1,4 @@
-pub mod Conditions
-pub mod Told
 pub mod About
+pub mod Conditions
 pub mod Findings
+pub mod Told

@@ -1,3 +1,4 @@
+//! What each warning is about (a key, a table or an item of a list), and how its place in the scenario's text is given.
 ghost use Rattle.std.specs.Prelude.{◌≡◌};
 ghost use Rattle.warnings.specs.About.{about_of};
 

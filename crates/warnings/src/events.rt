@@ -1,3 +1,4 @@
+//! Warnings about a scenario's crashes, leaves and cuts, such as a crash too late for its death to be declared.
 ghost use Rattle.std.specs.Prelude.{◌≡◌, ◌++◌, ◌<◌, OnOk};
 ghost use Rattle.scenario.specs.Setup.{member_count, crash_of};
 ghost use Rattle.meaning.specs.Each.{made_at, made_of_each};

@@ -1,3 +1,4 @@
+//! Collects all warnings of a scenario in their fixed order: first settings and the whole run, then the items of lists.
 ghost use Rattle.std.specs.Prelude.{◌≡◌, ◌++◌, ◌≤◌, ◌^◌, IfOk, OnOk};
 ghost use Rattle.warnings.specs.Told.{warnings_of, told_if};
 

@@ -1,3 +1,4 @@
+//! Conditions that several warnings share: whether there are two members, a moment is past the end, a member is down.
 ghost use Rattle.std.specs.Prelude.{◌≡◌};
 ghost use Rattle.warnings.specs.Conditions.{are_several, is_past, is_down, has_come, is_unconfirmed};
 

@@ -1,3 +1,4 @@
+//! Warnings about paths: hidden by a later path, within a group of a single member, or losing every message.
 ghost use Rattle.std.specs.Prelude.{◌≡◌, ◌++◌, OnOk};
 ghost use Rattle.warnings.specs.Conditions.{is_lonely, is_lost};
 ghost use Rattle.meaning.specs.Each.{made_at, made_of_each};

@@ -1,3 +1,4 @@
+//! Warnings about pauses: past the end, of a member that is down, or longer than the least time that a suspicion lasts.
 ghost use Rattle.std.specs.Prelude.{◌≡◌, ◌++◌, OnOk};
 ghost use Rattle.meaning.specs.Each.{made_at, made_of_each};
 ghost use Rattle.warnings.specs.Conditions.{is_pause_long};

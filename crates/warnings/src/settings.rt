@@ -1,3 +1,5 @@
+//! Warnings about single settings: the probe's timeout, the period, the end, accusers, helpers, loss on the link,
+//! Lifeguard's switches, the spread.
 ghost use Rattle.std.specs.Prelude.{◌≡◌, ◌++◌, ◌≤◌, ◌^◌, OnOk};
 ghost use Rattle.warnings.specs.Conditions.{is_answer_late, is_relay_late, is_end_early, are_accusers_few, are_helpers_many, loses_all, is_lost, is_in_part, is_spread_long};
 ghost use Rattle.warnings.specs.Told.{told_of_settings};

@@ -1,3 +1,4 @@
+//! Warnings about slow times: past the end, of a member that is down, or so slow that its ack comes after the timeout.
 ghost use Rattle.std.specs.Prelude.{◌≡◌, ◌++◌, ◌≤◌, ◌^◌, OnOk};
 ghost use Rattle.warnings.specs.Conditions.{is_slow_answer_late};
 ghost use Rattle.meaning.specs.Each.{made_at, made_of_each};

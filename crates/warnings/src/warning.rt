@@ -1,3 +1,5 @@
+//! The kinds of warnings about a lawful scenario, such as an ack after the timeout or a path that loses all messages.
+
 /// What a scenario is warned of, in the order in which warnings stand. A number is that of the item
 /// in its list, or the member's, from 0.
 #[derive(Clone, Copy, Debug, PartialEq, Eq)]

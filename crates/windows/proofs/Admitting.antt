@@ -13,8 +13,8 @@ use Rattle.base.specs.World.{World, with_events}
 use Rattle.base.specs.Run.{holds-with_events}
 use Rattle.base.proofs.Rising.{all_append}
 use Rattle.scenario.specs.Setup.{Setup, crash_of, leave_of}
-use Rattle.member.specs.declared.content.Content.{Content}
-use Rattle.member.specs.declared.content.Content.TheVariants.{Crash, Leave}
+use Rattle.member.specs.declared.event_kind.EventKind.{EventKind}
+use Rattle.member.specs.declared.event_kind.EventKind.TheVariants.{Crash, Leave}
 use Rattle.member.specs.declared.event.Event.{Event}
 use Rattle.member.specs.State.{State}
 use Rattle.member.specs.Opening.{opening_state, script_of, ending_event}
@@ -31,7 +31,7 @@ pub none_asked : (events : FinMap key_cmp Event) (least : Option Key) → IfNone
 none_asked events None none = ap contents_in none ∙ contents_by-empty content_of
 none_asked events (Some k) none = tt
 
-pub with_pending : (members : FinMap nat_cmp State) (p q : FinMap key_cmp Content) → p ≡ q → ◌≡◌ {A = World State Content} (record { members = members; pending = p }) (record { members = members; pending = q })
+pub with_pending : (members : FinMap nat_cmp State) (p q : FinMap key_cmp EventKind) → p ≡ q → ◌≡◌ {A = World State EventKind} (record { members = members; pending = p }) (record { members = members; pending = q })
 with_pending members p q same = λ i. record { members = members; pending = same i }
 
 -- ---- keys that no event has
@@ -48,18 +48,18 @@ module _ {C : Type 0} where
 -- ---- the script
 
 -- first these events, then those
-pub with_events_append : (es fs : List (Key × Content)) (pending : FinMap key_cmp Content) → with_events pending (es ++ fs) ≡ with_events (with_events pending es) fs
+pub with_events_append : (es fs : List (Key × EventKind)) (pending : FinMap key_cmp EventKind) → with_events pending (es ++ fs) ≡ with_events (with_events pending es) fs
 with_events_append [] fs pending = refl
 with_events_append (e ∷ es) fs pending = with_events_append es fs _
 
-flat_append : (f : ℕ → List (Key × Content)) (a n : ℕ) → flat_map f (range_with_len a (n + 1)) ≡ flat_map f (range_with_len a n) ++ f (a + n)
+flat_append : (f : ℕ → List (Key × EventKind)) (a n : ℕ) → flat_map f (range_with_len a (n + 1)) ≡ flat_map f (range_with_len a n) ++ f (a + n)
 flat_append f a zero = append-nil (f a) ∙ ap f (let e : a ≡ a + 0 = omega arith in e)
 flat_append f a (suc n) =
     ap (λ k. flat_map f (range_with_len a k)) (let e : suc n + 1 ≡ suc (n + 1) = omega arith in e) ∙ ap (λ l. f a ++ l) (flat_append f (a + 1) n) ∙ sym (append_assoc (f a) (flat_map f (range_with_len (a + 1) n)) (f (a + 1 + n)))
     ∙ ap (λ k. (f a ++ flat_map f (range_with_len (a + 1) n)) ++ f k) (let e : a + 1 + n ≡ a + suc n = omega arith in e)
 
 -- the script of one more member
-pub one_more_script : (s : Setup) (i : ℕ) (before after : FinMap key_cmp Content) → before ≡ with_events empty (flat_map (script_of s) (range_with_len 0 i))
+pub one_more_script : (s : Setup) (i : ℕ) (before after : FinMap key_cmp EventKind) → before ≡ with_events empty (flat_map (script_of s) (range_with_len 0 i))
     → after ≡ with_events before (script_of s i) → after ≡ with_events empty (flat_map (script_of s) (range_with_len 0 (i + 1)))
 one_more_script s i before after so_far more =
     more ∙ ap (λ p. with_events p (script_of s i)) so_far
@@ -68,31 +68,31 @@ one_more_script s i before after so_far more =
 
 -- ---- senders
 
-ending_from : (content : Content) (m bound : ℕ) (ending : Option ℕ) → m < bound → AllByRecursion {X = Key × Content} (λ e. e.0.from < bound) (ending_event content m ending)
+ending_from : (content : EventKind) (m bound : ℕ) (ending : Option ℕ) → m < bound → AllByRecursion {X = Key × EventKind} (λ e. e.0.from < bound) (ending_event content m ending)
 ending_from content m bound None below = tt
 ending_from content m bound (Some at) below = (below, tt)
 
-endings_from : (s : Setup) (m bound : ℕ) → m < bound → AllByRecursion {X = Key × Content} (λ e. e.0.from < bound) (ending_event Crash m (crash_of s m) ++ ending_event Leave m (leave_of s m))
+endings_from : (s : Setup) (m bound : ℕ) → m < bound → AllByRecursion {X = Key × EventKind} (λ e. e.0.from < bound) (ending_event Crash m (crash_of s m) ++ ending_event Leave m (leave_of s m))
 endings_from s m bound below =
     all_append (λ e. e.0.from < bound) (ending_event Crash m (crash_of s m)) (ending_event Leave m (leave_of s m)) (ending_from Crash m bound (crash_of s m) below) (ending_from Leave m bound (leave_of s m) below)
 
-scripts_from : (s : Setup) (a n bound : ℕ) → a + n ≤ bound → AllByRecursion {X = Key × Content} (λ e. e.0.from < bound) (flat_map (script_of s) (range_with_len a n))
+scripts_from : (s : Setup) (a n bound : ℕ) → a + n ≤ bound → AllByRecursion {X = Key × EventKind} (λ e. e.0.from < bound) (flat_map (script_of s) (range_with_len a n))
 scripts_from s a zero bound h = tt
 scripts_from s a (suc n) bound h =
     let own : a < bound = omega arith in
     all_append (λ e. e.0.from < bound) (script_of s a) (flat_map (script_of s) (range_with_len (a + 1) n)) (own, endings_from s a bound own) (scripts_from s (a + 1) n bound (omega arith))
 
 -- the scripts of the first members are from these alone
-pub scripts_from_below : (s : Setup) (n : ℕ) (events : FinMap key_cmp Content) → events ≡ with_events empty (flat_map (script_of s) (range_with_len 0 n)) → AreFromBelow events n
+pub scripts_from_below : (s : Setup) (n : ℕ) (events : FinMap key_cmp EventKind) → events ≡ with_events empty (flat_map (script_of s) (range_with_len 0 n)) → AreFromBelow events n
 scripts_from_below s n events is q here =
     holds-with_events (λ (r : Key). r.from < n) (flat_map (script_of s) (range_with_len 0 n)) empty
     (λ r there. absurd (false≢true (ap is_some (sym (get-empty key_cmp r)) ∙ there))) (scripts_from s 0 n n (omega arith)) q (subst (λ m. contains_key m q ≡ true) is here)
 
 -- so the script of the next has new keys
-pub start_is_new : (events : FinMap key_cmp Content) (m : ℕ) (k : Key) → AreFromBelow events m → k.from ≡ m → contains_key events k ≡ false
+pub start_is_new : (events : FinMap key_cmp EventKind) (m : ℕ) (k : Key) → AreFromBelow events m → k.from ≡ m → contains_key events k ≡ false
 start_is_new events m k earlier own = absent events k (λ q here same. let below = earlier q here in let one : q.from ≡ k.from = ap (λ (r : Key). r.from) same in omega arith)
 
-pub ending_is_new : (events after : FinMap key_cmp Content) (m : ℕ) (start ending : Key) (c : Content) → AreFromBelow events m → after ≡ insert events start c → ending.from ≡ m → start.number < ending.number
+pub ending_is_new : (events after : FinMap key_cmp EventKind) (m : ℕ) (start ending : Key) (c : EventKind) → AreFromBelow events m → after ≡ insert events start c → ending.from ≡ m → start.number < ending.number
     → contains_key after ending ≡ false
 ending_is_new events after m start ending c earlier is own later =
     ap (λ p. contains_key p ending) is

@@ -9,7 +9,7 @@ use Rattle.base.specs.World.{World, Outcome, with_events, settled, rows_of, even
 use Rattle.base.specs.Run.{IsFirst}
 use Rattle.scenario.specs.Setup.{Setup}
 use Rattle.trace.specs.declared.row.Row.{Row}
-use Rattle.member.specs.declared.content.Content.{Content}
+use Rattle.member.specs.declared.event_kind.EventKind.{EventKind}
 use Rattle.member.specs.declared.event.Event.{Event}
 use Rattle.member.specs.declared.event.Effects.{Effects}
 use Rattle.member.specs.State.{State}
@@ -17,9 +17,9 @@ use Rattle.member.specs.Step.{step}
 use Rattle.member.specs.StateOf.{pair_of}
 use Rattle.windows.specs.Parts.{PartStep, for_own, for_others, kept_by}
 use Rattle.windows.specs.Window.{is_own}
-use Rattle.windows.specs.Wears.{WearsInWindow}
+use Rattle.windows.specs.Wears.{OverflowsInWindow}
 use Rattle.windows.proofs.PartRuns.{same_own, one_step_run}
-use Rattle.windows.specs.Handling.{Handles, HandlesTaken, WearsReceiver, Advances, made_of, members_after}
+use Rattle.windows.specs.Handling.{Handles, HandlesTaken, OverflowsReceiver, Advances, made_of, members_after}
 
 module _ (s : Setup) (event : Event) (members : FinMap nat_cmp State) where
   own_either : (o : Option State) → get members event.key.to ≡ o → (q : ℕ) → contains_key (members_after members event (option_map (step s event.key event.content) o)) q ≡ contains_key members q
@@ -31,7 +31,7 @@ module _ (s : Setup) (event : Event) (members : FinMap nat_cmp State) where
   own_after after is = λ i q. (ap (λ m. contains_key m q) is ∙ own_either (get members event.key.to) refl q) i
 
 -- what the receiver made of the event, alone on its lists, is delivered behind what was sent before
-pub taken_handled : (s : Setup) (event : Event) (p : World State Content) (n : FinMap nat_cmp State) (q : FinMap key_cmp Content) (before alone made after : Effects)
+pub taken_handled : (s : Setup) (event : Event) (p : World State EventKind) (n : FinMap nat_cmp State) (q : FinMap key_cmp EventKind) (before alone made after : Effects)
     → alone.events.items ≡ [] → alone.rows.items ≡ [] → Handles s event p.members n alone made
     → q ≡ with_events p.pending (for_own (contains_key n) (map pair_of made.events.items))
     → map pair_of after.events.items ≡ map pair_of before.events.items ++ for_others (contains_key n) (map pair_of made.events.items)
@@ -50,18 +50,18 @@ taken_handled s event p n q before alone made after no_events no_rows handles de
 
 -- ---- a step
 
-module _ (s : Setup) (bound : ℕ) (p : World State Content) (event : Event) (first : IsFirst p.pending event.key event.content) (early : event.key.at < bound) where
-  abbrev made : Option (Outcome State Content Row)
+module _ (s : Setup) (bound : ℕ) (p : World State EventKind) (event : Event) (first : IsFirst p.pending event.key event.content) (early : event.key.at < bound) where
+  abbrev made : Option (Outcome State EventKind Row)
   made = made_of s p.members event
 
-  world_after : (o : Option (Outcome State Content Row)) (n : FinMap nat_cmp State) (q : FinMap key_cmp Content) → n ≡ members_after p.members event o
+  world_after : (o : Option (Outcome State EventKind Row)) (n : FinMap nat_cmp State) (q : FinMap key_cmp EventKind) → n ≡ members_after p.members event o
       → q ≡ with_events (remove p.pending event.key) (for_own (is_own p) (events_of o))
-      → ◌≡◌ {A = World State Content} (record { members = n; pending = q }) (settled p event.key (option_map (kept_by (is_own p)) o))
+      → ◌≡◌ {A = World State EventKind} (record { members = n; pending = q }) (settled p event.key (option_map (kept_by (is_own p)) o))
   world_after None n q members pending = λ i. record { members = members i; pending = pending i }
   world_after (Some o) n q members pending = λ i. record { members = members i; pending = pending i }
 
   -- the least event is taken out and handled
-  pub advanced : (taken : FinMap key_cmp Content) (v : World State Content) (before after : Effects) → taken ≡ remove p.pending event.key
+  pub advanced : (taken : FinMap key_cmp EventKind) (v : World State EventKind) (before after : Effects) → taken ≡ remove p.pending event.key
       → HandlesTaken s event (record { members = p.members; pending = taken }) v before after → Advances s (is_own p) bound p v before after
   advanced taken v before after is_taken handled = record {
     key = event.key;
@@ -81,11 +81,11 @@ module _ (s : Setup) (bound : ℕ) (p : World State Content) (event : Event) (fi
   }
 
   -- a counter has no room
-  pub event_wears : WearsReceiver s event p.members → WearsInWindow s bound p
+  pub event_wears : OverflowsReceiver s event p.members → OverflowsInWindow s bound p
   event_wears wears =
-      let o : Outcome State Content Row = step s event.key event.content wears.member in
+      let o : Outcome State EventKind Row = step s event.key event.content wears.member in
       let is : made ≡ Some o = ap (option_map (step s event.key event.content)) wears.there in
-      let after : World State Content = settled p event.key (Some (kept_by (is_own p) o)) in
+      let after : World State EventKind = settled p event.key (Some (kept_by (is_own p) o)) in
       let next : PartStep (step s) (is_own p) bound p event.key (for_others (is_own p) o.events) o.rows after = record {
         content = event.content;
         here = first.here;
@@ -104,5 +104,5 @@ module _ (s : Setup) (bound : ℕ) (p : World State Content) (event : Event) (fi
         number = event.key.to;
         member = o.state;
         there = get-insert nat_cmp_total p.members event.key.to o.state event.key.to ∙ ap (λ r. cond (is_eq r) (Some o.state) (get p.members event.key.to)) (tied_itself nat_cmp_total event.key.to);
-        worn = wears.worn;
+        overflow = wears.overflow;
       }

@@ -20,7 +20,7 @@ use Rattle.scenario.specs.Setup.{Setup, IsSound, member_count}
 use Rattle.links.specs.declared.table.Links.{Links}
 use Rattle.links.specs.Arrival.{AreLinksOf}
 use Rattle.trace.specs.declared.row.Row.{Row}
-use Rattle.member.specs.declared.content.Content.{Content}
+use Rattle.member.specs.declared.event_kind.EventKind.{EventKind}
 use Rattle.member.specs.Here.{IsSoundSetting, HoldsMembers}
 use Rattle.member.specs.State.{State, is_probed}
 use Rattle.lifeguard.specs.declared.probe.Probe.{Probe}
@@ -49,24 +49,24 @@ pub holds_members : (s : Setup) (m : ℕ) (t : State) → IsConsistent s m t →
 holds_members s m t h = record { others = h.others; listed = λ q absent. h.probes q ∙ none_living (get t.table q) absent; sound = h.order; target = aimed (member_count s) t.probe h.target }
 
 -- the event may be handled here
-pub event_here : (s : Setup) (l : Links) (bound : ℕ) (k : Key) (c : Content) → IsSound s → AreLinksOf l s → bound ≤ s.end + 1 → k.at < bound → IsAmongMembers s k c → IsSoundSetting s l k
+pub event_here : (s : Setup) (l : Links) (bound : ℕ) (k : Key) (c : EventKind) → IsSound s → AreLinksOf l s → bound ≤ s.end + 1 → k.at < bound → IsAmongMembers s k c → IsSoundSetting s l k
 event_here s l bound k c sound links in_time early among =
     record { sound = sound; links = links; early = omega (arith, in_time, early, sound.end); receiver = among.receiver; sender = among.sender }
 
 -- ---- numbers
 
 -- the sender, where it is one of the part, has used the number
-abbrev Numbered : World State Content → Key → Type 0
+abbrev Numbered : World State EventKind → Key → Type 0
 Numbered p q = (t : State) → get p.members q.from ≡ Some t → q.number < t.next_number
 
-differ : (e f : Key × Content) → e.0.number < f.0.number → e.0 ≢ f.0
+differ : (e f : Key × EventKind) → e.0.number < f.0.number → e.0 ≢ f.0
 differ e f h same = let n : e.0.number ≡ f.0.number = ap (λ (q : Key). q.number) same in omega arith
 
-all_differ : (es : List (Key × Content)) → IsRising (λ e f. e.0.number < f.0.number) es → IsRising (λ e f. e.0 ≢ f.0) es
+all_differ : (es : List (Key × EventKind)) → IsRising (λ e f. e.0.number < f.0.number) es → IsRising (λ e f. e.0 ≢ f.0) es
 all_differ [] is = tt
 all_differ (e ∷ es) is = (all_weaker (λ f. e.0.number < f.0.number) (λ f. e.0 ≢ f.0) (differ e) es is.0, all_differ es is.1)
 
-module _ (s : Setup) (sound : IsSound s) (p : World State Content) (k : Key) (c : Content) where
+module _ (s : Setup) (sound : IsSound s) (p : World State EventKind) (k : Key) (c : EventKind) where
   unused : (t : State) → get p.members k.to ≡ Some t → (q : Key) → ((q : Key) → IsPending p q → Numbered p q) → q.from ≡ k.to → t.next_number ≤ q.number
       → (b : Bool) → contains_key (remove p.pending k) q ≡ b → b ≡ false
   unused t receiver q all from h true here =
@@ -84,13 +84,13 @@ module _ (s : Setup) (sound : IsSound s) (p : World State Content) (k : Key) (c 
   }
 
   -- the events that are made of an event of the part are new to it
-  pub new_made : (taken : FinMap key_cmp Content) (made : List (Key × Content)) → taken ≡ remove p.pending k → made ≡ events_of (outcome (step s) p k c) → IsConsistentPart s p → AreNew taken made
+  pub new_made : (taken : FinMap key_cmp EventKind) (made : List (Key × EventKind)) → taken ≡ remove p.pending k → made ≡ events_of (outcome (step s) p k c) → IsConsistentPart s p → AreNew taken made
   new_made taken made is_taken is_made is =
       subst (λ m. AreNew m made) (sym is_taken) (subst (AreNew (remove p.pending k)) (sym is_made) (new_either is.numbered (get p.members k.to) refl))
 
   module _ (owns : ℕ → Bool) where
     module _ (t : State) (receiver : get p.members k.to ≡ Some t) where
-      abbrev after : World State Content
+      abbrev after : World State EventKind
       after = settled p k (Some (kept_by owns (step s k c t)))
 
       old_number : (q : Key) (b : Bool) (u : State) → eq_by_cmp nat_cmp q.from k.to ≡ b → Numbered p q → cond b (Some (step s k c t).state) (get p.members q.from) ≡ Some u → q.number < u.next_number
@@ -119,7 +119,7 @@ module _ (s : Setup) (sound : IsSound s) (p : World State Content) (k : Key) (c 
           (all_filter (λ e. Numbered after e.0) (λ e. owns e.0.to) (step s k c t).events
           (all_weaker _ (λ e. Numbered after e.0) (λ e made. in_after e.0 (λ u at. new_number e.0 u made.0 made.2 at)) (step s k c t).events ((steps_numbered s sound).made k c t)))
 
-    numbered_either : ((q : Key) → IsPending p q → Numbered p q) → (o : Option State) → get p.members k.to ≡ o → (v : World State Content)
+    numbered_either : ((q : Key) → IsPending p q → Numbered p q) → (o : Option State) → get p.members k.to ≡ o → (v : World State EventKind)
         → v ≡ settled p k (option_map (kept_by owns) (option_map (step s k c) o)) → (q : Key) → IsPending v q → Numbered v q
     numbered_either all None none v is = subst (λ v. (q : Key) → IsPending v q → Numbered v q) (sym is) (λ q here. all q (contains-remove p.pending k q here).0)
     numbered_either all (Some t) here v is = subst (λ v. (q : Key) → IsPending v q → Numbered v q) (sym is) (numbered_after t here all)
@@ -127,39 +127,39 @@ module _ (s : Setup) (sound : IsSound s) (p : World State Content) (k : Key) (c 
 -- ---- a window
 
 module _ (s : Setup) (sound : IsSound s) (owns : ℕ → Bool) (bound : ℕ) (in_time : bound ≤ s.end + 1) where
-  keeps_own : (k : Key) (c : Content) (t : State) → k.at ≤ s.end → IsAmongMembers s k c → IsMember s k.to t
+  keeps_own : (k : Key) (c : EventKind) (t : State) → k.at ≤ s.end → IsAmongMembers s k c → IsMember s k.to t
       → IsMember s k.to (step s k c t).state × AllByRecursion (λ e. IsAmongMembers s e.0 e.1) (for_own owns (step s k c t).events)
   keeps_own k c t early among is =
       let kept = kept_step s sound k c t early among is in
       (kept.0, all_filter (λ e. IsAmongMembers s e.0 e.1) (λ e. owns e.0.to) (step s k c t).events kept.1)
 
   -- who is one of these is a member of the part
-  abbrev Owned : World State Content → Type 0
+  abbrev Owned : World State EventKind → Type 0
   Owned p = (q : ℕ) → owns q ≡ true → is_own p q ≡ true
 
-  owned_still : (p v : World State Content) (k : Key) (out : List (Key × Content)) (rows : List Row) → PartStep (step s) owns bound p k out rows v → Owned p → Owned v
+  owned_still : (p v : World State EventKind) (k : Key) (out : List (Key × EventKind)) (rows : List Row) → PartStep (step s) owns bound p k out rows v → Owned p → Owned v
   owned_still p v k out rows is owned q h = own_step (step s) owns bound p v k out rows is q ∙ owned q h
 
   -- what pends for its members pends for them after a step too
-  module _ (p : World State Content) (k : Key) (owned : Owned p) (before : (q : Key) → IsPending p q → is_own p q.to ≡ true) where
-    one_owned : (e : Key × Content) (rest : List (Key × Content)) (b : Bool) → owns e.0.to ≡ b → AllByRecursion (λ e. is_own p e.0.to ≡ true) rest → AllByRecursion (λ e. is_own p e.0.to ≡ true) (cond b (e ∷ rest) rest)
+  module _ (p : World State EventKind) (k : Key) (owned : Owned p) (before : (q : Key) → IsPending p q → is_own p q.to ≡ true) where
+    one_owned : (e : Key × EventKind) (rest : List (Key × EventKind)) (b : Bool) → owns e.0.to ≡ b → AllByRecursion (λ e. is_own p e.0.to ≡ true) rest → AllByRecursion (λ e. is_own p e.0.to ≡ true) (cond b (e ∷ rest) rest)
     one_owned e rest true h all = (owned e.0.to h, all)
     one_owned e rest false h all = all
 
-    all_owned : (es : List (Key × Content)) → AllByRecursion (λ e. is_own p e.0.to ≡ true) (for_own owns es)
+    all_owned : (es : List (Key × EventKind)) → AllByRecursion (λ e. is_own p e.0.to ≡ true) (for_own owns es)
     all_owned [] = tt
     all_owned (e ∷ es) = one_owned e (for_own owns es) (owns e.0.to) refl (all_owned es)
 
-    own_either : (v : World State Content) → ((q : ℕ) → is_own v q ≡ is_own p q) → (c : Content) (o : Option State)
+    own_either : (v : World State EventKind) → ((q : ℕ) → is_own v q ≡ is_own p q) → (c : EventKind) (o : Option State)
         → v ≡ settled p k (option_map (kept_by owns) (option_map (step s k c) o)) → (q : Key) → IsPending v q → is_own v q.to ≡ true
-    own_either v same c None is q here = same q.to ∙ before q (contains-remove p.pending k q (subst (λ (w : World State Content). IsPending w q) is here)).0
+    own_either v same c None is q here = same q.to ∙ before q (contains-remove p.pending k q (subst (λ (w : World State EventKind). IsPending w q) is here)).0
     own_either v same c (Some t) is q here =
         same q.to
         ∙ holds-with_events (λ (r : Key). is_own p r.to ≡ true) (for_own owns (step s k c t).events) (remove p.pending k)
         (λ r there. before r (contains-remove p.pending k r there).0) (all_owned (step s k c t).events) q
-        (subst (λ (w : World State Content). IsPending w q) is here)
+        (subst (λ (w : World State EventKind). IsPending w q) is here)
 
-  pub consistent_step : (p v : World State Content) (k : Key) (out : List (Key × Content)) (rows : List Row) → PartStep (step s) owns bound p k out rows v → Owned p → IsConsistentPart s p → IsConsistentPart s v
+  pub consistent_step : (p v : World State EventKind) (k : Key) (out : List (Key × EventKind)) (rows : List Row) → PartStep (step s) owns bound p k out rows v → Owned p → IsConsistentPart s p → IsConsistentPart s v
   consistent_step p v k out rows is owned before =
       let early : k.at ≤ s.end = omega (arith, is.early, in_time) in
       let run : Run (Kept (step s) owns) s.end p (k ∷ []) rows v = (v, rows, [], early, next_of (step s) owns bound p v k out rows is, (refl, refl), sym (append-nil rows)) in
@@ -173,19 +173,19 @@ module _ (s : Setup) (sound : IsSound s) (owns : ℕ → Bool) (bound : ℕ) (in
       }
 
   -- a part that was consistent before a window is so wherever the window comes
-  pub consistent_run : (ks : List Key) (p v : World State Content) (out : List (Key × Content)) (rows : List Row) → PartRun (step s) owns bound p ks out rows v → Owned p → IsConsistentPart s p → IsConsistentPart s v
+  pub consistent_run : (ks : List Key) (p v : World State EventKind) (out : List (Key × EventKind)) (rows : List Row) → PartRun (step s) owns bound p ks out rows v → Owned p → IsConsistentPart s p → IsConsistentPart s v
   consistent_run [] p v out rows run owned before = subst (IsConsistentPart s) (sym run.0) before
   consistent_run (k ∷ ks) p v out rows run owned before =
       consistent_run ks run.0 v run.2 run.4 run.6 (owned_still p run.0 k run.1 run.3 run.5 owned) (consistent_step p run.0 k run.1 run.3 run.5 owned before)
 
-  sent_among : (p : World State Content) (k : Key) (c : Content) (o : Option State) → get p.members k.to ≡ o → k.at ≤ s.end → IsAmongMembers s k c → IsConsistentPart s p
+  sent_among : (p : World State EventKind) (k : Key) (c : EventKind) (o : Option State) → get p.members k.to ≡ o → k.at ≤ s.end → IsAmongMembers s k c → IsConsistentPart s p
       → AllByRecursion (λ e. IsAmongMembers s e.0 e.1) (for_others owns (events_of (option_map (step s k c) o)))
   sent_among p k c None none early among before = tt
   sent_among p k c (Some t) here early among before =
       all_filter (λ e. IsAmongMembers s e.0 e.1) (λ e. not (owns e.0.to)) (step s k c t).events (kept_step s sound k c t early among (before.members k.to t here)).1
 
   -- and what it sends out is among members of the scenario
-  pub among_run : (ks : List Key) (p v : World State Content) (out : List (Key × Content)) (rows : List Row) → PartRun (step s) owns bound p ks out rows v → Owned p → IsConsistentPart s p
+  pub among_run : (ks : List Key) (p v : World State EventKind) (out : List (Key × EventKind)) (rows : List Row) → PartRun (step s) owns bound p ks out rows v → Owned p → IsConsistentPart s p
       → AllByRecursion (λ e. IsAmongMembers s e.0 e.1) out
   among_run [] p v out rows run owned before = subst (AllByRecursion (λ e. IsAmongMembers s e.0 e.1)) (sym run.1) tt
   among_run (k ∷ ks) p v out rows run owned before =

@@ -9,7 +9,7 @@ use Rattle.std.proofs.lemmas.List.Elements.{filter-append}
 use Rattle.member_laws.proofs.Carried.{all_filter}
 use Rattle.windows.proofs.Swaps.{NoneIs, with_events-insert}
 use Rattle.windows.proofs.Cuts.{joined_joined}
-use Rattle.member.specs.declared.content.Content.{Content}
+use Rattle.member.specs.declared.event_kind.EventKind.{EventKind}
 use Rattle.base.specs.declared.key.Key.{Key}
 use Rattle.base.specs.Order.{key_cmp, key_total}
 use Rattle.base.specs.World.{World, with_events, events_of, rows_of}
@@ -86,16 +86,16 @@ module _ {C : Type 0} where
 
 module _ (owns : ℕ → Bool) where
   -- one event more pends
-  pub one_more_own : (pending now after : FinMap key_cmp Content) (events : List Event) (event : Event) → now ≡ with_events pending (for_own owns (map pair_of events))
+  pub one_more_own : (pending now after : FinMap key_cmp EventKind) (events : List Event) (event : Event) → now ≡ with_events pending (for_own owns (map pair_of events))
       → after ≡ with_events now (for_own owns (pair_of event ∷ [])) → after ≡ with_events pending (for_own owns (map pair_of (events ++ event ∷ [])))
   one_more_own pending now after events event so_far one =
       one ∙ ap (λ m. with_events m (for_own owns (pair_of event ∷ []))) so_far
-      ∙ ap (λ (w : World State Content). w.pending) (joined_joined (record { members = empty; pending = pending }) (for_own owns (map pair_of events)) (for_own owns (pair_of event ∷ [])))
+      ∙ ap (λ (w : World State EventKind). w.pending) (joined_joined (record { members = empty; pending = pending }) (for_own owns (map pair_of events)) (for_own owns (pair_of event ∷ [])))
       ∙ ap (with_events pending) (sym (filter-append (λ e. owns e.0.to) (map pair_of events) (pair_of event ∷ [])))
       ∙ ap (λ l. with_events pending (for_own owns l)) (sym (map-append pair_of events (event ∷ [])))
 
   -- one event more goes out
-  pub one_more_other : (out now after : List (Key × Content)) (events : List Event) (event : Event) → now ≡ out ++ for_others owns (map pair_of events)
+  pub one_more_other : (out now after : List (Key × EventKind)) (events : List Event) (event : Event) → now ≡ out ++ for_others owns (map pair_of events)
       → after ≡ now ++ for_others owns (pair_of event ∷ []) → after ≡ out ++ for_others owns (map pair_of (events ++ event ∷ []))
   one_more_other out now after events event so_far one =
       one ∙ ap (λ l. l ++ for_others owns (pair_of event ∷ [])) so_far
@@ -104,7 +104,7 @@ module _ (owns : ℕ → Bool) where
       ∙ ap (λ l. out ++ for_others owns l) (sym (map-append pair_of events (event ∷ [])))
 
 -- an event that pends where it is for one of these members
-pub kept_if_own : {E : Type 0} (result : Result (Unit {0}) E) (own : Bool) (pending after : FinMap key_cmp Content) (event : Event) → own ≡ true → OnOk result (after ≡ insert pending event.key event.content)
+pub kept_if_own : {E : Type 0} (result : Result (Unit {0}) E) (own : Bool) (pending after : FinMap key_cmp EventKind) (event : Event) → own ≡ true → OnOk result (after ≡ insert pending event.key event.content)
     → OnOk result (after ≡ with_events pending (cond own (pair_of event ∷ []) []))
 kept_if_own (Ok _) own pending after event is pushed = pushed ∙ ap (λ b. with_events pending (cond b (pair_of event ∷ []) [])) (sym is)
 kept_if_own (Err _) own pending after event is pushed = tt
@@ -121,19 +121,19 @@ none_is k [] all = tt
 none_is k (e ∷ es) all = (λ same. all.0 (sym same), none_is k es all.1)
 
 -- of all these events the last ones pend, and these are left
-pub record HavePended (pending now : FinMap key_cmp Content) (all left : List Event) : Type 0 where
+pub record HavePended (pending now : FinMap key_cmp EventKind) (all left : List Event) : Type 0 where
   pub after : List Event
   pub split : all ≡ left ++ after
   pub pend : now ≡ with_events pending (map pair_of after)
 
-pub none_pended : (pending : FinMap key_cmp Content) (all : List Event) → HavePended pending pending all all
+pub none_pended : (pending : FinMap key_cmp EventKind) (all : List Event) → HavePended pending pending all all
 none_pended pending all = record { after = []; split = sym (append-nil all); pend = refl }
 
-pub all_pended : (pending now : FinMap key_cmp Content) (all left : List Event) → HavePended pending now all left → left ≡ [] → now ≡ with_events pending (map pair_of all)
+pub all_pended : (pending now : FinMap key_cmp EventKind) (all left : List Event) → HavePended pending now all left → left ≡ [] → now ≡ with_events pending (map pair_of all)
 all_pended pending now all left have none =
     have.pend ∙ ap (λ es. with_events pending (map pair_of es)) (sym (have.split ∙ ap (λ l. l ++ have.after) none))
 
-module _ (pending now : FinMap key_cmp Content) (all left rest : List Event) (event : Event) (have : HavePended pending now all left) (last : left ≡ rest ++ event ∷ []) (new : AreNew pending (map pair_of all)) where
+module _ (pending now : FinMap key_cmp EventKind) (all left rest : List Event) (event : Event) (have : HavePended pending now all left) (last : left ≡ rest ++ event ∷ []) (new : AreNew pending (map pair_of all)) where
   pairs : map pair_of all ≡ map pair_of rest ++ pair_of event ∷ map pair_of have.after
   pairs = ap (map pair_of) (have.split ∙ ap (λ l. l ++ have.after) last ∙ append_assoc rest (event ∷ []) have.after) ∙ map-append pair_of rest (event ∷ have.after)
 
@@ -150,7 +150,7 @@ module _ (pending now : FinMap key_cmp Content) (all left rest : List Event) (ev
       (all_at (λ f. contains_key pending f.0 ≡ false) (map pair_of rest) (map pair_of have.after) (pair_of event) (subst (AllByRecursion (λ f. contains_key pending f.0 ≡ false)) pairs new.unlike_pending))
 
   -- it pends too
-  pub last_pended : (next : FinMap key_cmp Content) → next ≡ insert now event.key event.content → HavePended pending next all rest
+  pub last_pended : (next : FinMap key_cmp EventKind) → next ≡ insert now event.key event.content → HavePended pending next all rest
   last_pended next one =
       record {
         after = event ∷ have.after;

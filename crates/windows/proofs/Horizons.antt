@@ -10,7 +10,7 @@ use Rattle.base.specs.World.{IsPending, events_of}
 use Rattle.base.proofs.Rising.{all_weaker}
 use Rattle.scenario.specs.Setup.{Setup, IsSound, member_count}
 use Rattle.trace.specs.declared.row.Row.{Row}
-use Rattle.member.specs.declared.content.Content.{Content}
+use Rattle.member.specs.declared.event_kind.EventKind.{EventKind}
 use Rattle.member.specs.State.{State}
 use Rattle.member.specs.Step.{step}
 use Rattle.member.specs.Places.{place_of}
@@ -44,12 +44,12 @@ module _ (s : Setup) (sound : IsSound s) (division : ℕ → ℕ) (between : ℕ
         omega arith,
   )
 
-  made_comes : (k : Key) (c : Content) (o : Option State) → IsAmongMembers s k c → ((t : State) → o ≡ Some t → IsConsistent s k.to t) → AllByRecursion (λ e. Comes k e.0) (events_of (option_map (step s k c) o))
+  made_comes : (k : Key) (c : EventKind) (o : Option State) → IsAmongMembers s k c → ((t : State) → o ≡ Some t → IsConsistent s k.to t) → AllByRecursion (λ e. Comes k e.0) (events_of (option_map (step s k c) o))
   made_comes k c None among h = tt
   made_comes k c (Some t) among h =
       all_weaker _ (λ e. Comes k e.0) (λ e is. comes k e.0 among.receiver is.0.receiver is.1) (step s k c t).events
       (all_both (λ e. IsAmongMembers s e.0 e.1) (λ e. e.0.to ≢ k.to → k.at + link_delay s k.to e.0.to ≤ e.0.at) (step s k c t).events
-      (recursion_from_All (λ (e : Key × Content). IsAmongMembers s e.0 e.1) (step s k c t).events (step_among s k c t sound among (h t refl))) (steps_linked s sound k c t))
+      (recursion_from_All (λ (e : Key × EventKind). IsAmongMembers s e.0 e.1) (step s k c t).events (step_among s k c t sound among (h t refl))) (steps_linked s sound k c t))
 
   keeps_between : KeepsBetween s.end division (IsPeopled s division) between (IsSoundCluster s) (step s)
   keeps_between = record {
@@ -66,7 +66,7 @@ clear_early s division between w v k made sound lies fact is =
     (clear_offers (step s) (steps_later s sound) s.end division (IsPeopled s division) between (IsSoundCluster s) keeps) w v k made
     (weaker_step (step s) _ (IsClearIn s.end division (IsPeopled s division) between (IsSoundCluster s)) w v k made (is.passes, fact) is)
 
-pub clear_windows : (s : Setup) (division : ℕ → ℕ) (between : ℕ → ℕ → ℕ) (bounds : ℕ → ℕ) (w : Cluster) (windows : List (Window State Content Row)) → IsSound s → LiesBetween s division between
+pub clear_windows : (s : Setup) (division : ℕ → ℕ) (between : ℕ → ℕ → ℕ) (bounds : ℕ → ℕ) (w : Cluster) (windows : List (Window State EventKind Row)) → IsSound s → LiesBetween s division between
     → IsSoundCluster s w → AreHorizons s.end division (IsPeopled s division) between bounds w → AreWindowsOfDifferentParts (step s) division bounds w windows
     → (v : Cluster) × Schedule (step s) (IsClearOf s division between) w (all_keys windows) (all_rows windows) v × StandsAfter division w windows v × IsSoundCluster s v
 clear_windows s division between bounds w windows sound lies fact horizons are =
@@ -126,7 +126,7 @@ module _ (s : Setup) (division : ℕ → ℕ) (between : ℕ → ℕ → ℕ) (s
 
   module _ (bounds : ℕ → ℕ) (w : Cluster) (fact : IsSoundCluster s w) (horizons : AreHorizons s.end division (IsPeopled s division) between bounds w) where
     -- and so is a state in which the steps of a part below its bound leave a member
-    pub clear_met_in_part : (part : ℕ) (after : Cluster) (keys : List Key) (out : List (Key × Content)) (rows : List Row) (m : ℕ) (t : State)
+    pub clear_met_in_part : (part : ℕ) (after : Cluster) (keys : List Key) (out : List (Key × EventKind)) (rows : List Row) (m : ℕ) (t : State)
         → PartRun (step s) (is_in division part) (bounds part) (part_of (is_in division part) w) keys out rows after → get after.members m ≡ Some t → MeetsState (step s) s.end w m t
     clear_met_in_part part after keys out rows m t =
         met_by_part (step s) (steps_later s sound) (sends_as_itself s sound) s.end Clear early_offers division bounds (Ready bounds)
@@ -134,7 +134,7 @@ module _ (s : Setup) (division : ℕ → ℕ) (between : ℕ → ℕ → ℕ) (s
         part w after keys out rows m t (fact, horizons)
 
     -- nothing is left below its bound for a part that had its window
-    pub clear_none_left : (windows : List (Window State Content Row)) (v : Cluster) → AreWindowsOfDifferentParts (step s) division bounds w windows → StandsAfter division w windows v
+    pub clear_none_left : (windows : List (Window State EventKind Row)) (v : Cluster) → AreWindowsOfDifferentParts (step s) division bounds w windows → StandsAfter division w windows v
         → (q : Key) → IsPending v q → IncludesPart windows (division q.to) → bounds (division q.to) ≤ q.at
     clear_none_left windows v are stands q here has =
         let offers = horizons_offer (step s) (steps_later s sound) s.end division (IsPeopled s division) between (IsSoundCluster s) (keeps_between s sound division between lies) bounds in

@@ -13,7 +13,7 @@ use Rattle.base.specs.Rising.{AreNew}
 use Rattle.base.proofs.Rising.{all_weaker}
 use Rattle.scenario.specs.Setup.{Setup, IsSound, member_count}
 use Rattle.trace.specs.declared.row.Row.{Row}
-use Rattle.member.specs.declared.content.Content.{Content}
+use Rattle.member.specs.declared.event_kind.EventKind.{EventKind}
 use Rattle.member.specs.State.{State}
 use Rattle.member.specs.Opening.{opening}
 use Rattle.member.specs.Places.{place_of}
@@ -43,10 +43,10 @@ module _ (s : Setup) (sound : IsSound s) where
   pub keeps_delays : KeepsDelays (link_delay s) (step s)
   keeps_delays = record { later = steps_later s sound; own = sends_as_itself; delayed = steps_linked s sound }
 
-  step_keeps : (k : Key) (c : Content) (t : State) → k.at ≤ s.end → IsAmongMembers s k c → IsConsistent s k.to t
+  step_keeps : (k : Key) (c : EventKind) (t : State) → k.at ≤ s.end → IsAmongMembers s k c → IsConsistent s k.to t
       → IsConsistent s k.to (step s k c t).state × AllByRecursion (λ e. IsAmongMembers s e.0 e.1) (step s k c t).events
   step_keeps k c t in_time among h =
-      (step_consistent s k c t sound among h, recursion_from_All (λ (e : Key × Content). IsAmongMembers s e.0 e.1) (step s k c t).events (step_among s k c t sound among h))
+      (step_consistent s k c t sound among h, recursion_from_All (λ (e : Key × EventKind). IsAmongMembers s e.0 e.1) (step s k c t).events (step_among s k c t sound among h))
 
   -- the run begins in a sound cluster
   pub sound_opening : IsSoundCluster s (opening s)
@@ -59,16 +59,16 @@ module _ (s : Setup) (sound : IsSound s) where
   no_more None alone = λ i j i_low j_low. omega (arith, alone)
   no_more (Some d) is = λ i j i_low j_low other. is.1 i j (record { sender = i_low; receiver = j_low; different = other })
 
-  far_from : (least_delay : Option ℕ) → IsLeastDelay s least_delay → (k : Key) (c : Content) (o : Option State) → IsAmongMembers s k c → ((t : State) → o ≡ Some t → IsConsistent s k.to t)
+  far_from : (least_delay : Option ℕ) → IsLeastDelay s least_delay → (k : Key) (c : EventKind) (o : Option State) → IsAmongMembers s k c → ((t : State) → o ≡ Some t → IsConsistent s k.to t)
       → AllByRecursion (λ e. ComesFar least_delay k e.0) (events_of (option_map (step s k c) o))
   far_from least_delay least k c None among h = tt
   far_from least_delay least k c (Some t) among h =
-      let made = recursion_from_All (λ (e : Key × Content). IsAmongMembers s e.0 e.1) (step s k c t).events (step_among s k c t sound among (h t refl)) in
+      let made = recursion_from_All (λ (e : Key × EventKind). IsAmongMembers s e.0 e.1) (step s k c t).events (step_among s k c t sound among (h t refl)) in
       far_made (λ m. m < member_count s) (link_delay s) (step s) keeps_delays least_delay (no_more least_delay least) k c t among.receiver
       (all_weaker _ (λ e. e.0.to < member_count s) (λ e is. is.receiver) (step s k c t).events made)
 
   -- a sound cluster stays so
-  pub sound_stays : (w : Cluster) (k : Key) (c : Content) → IsSoundCluster s w → get w.pending k ≡ Some c → k.at ≤ s.end → IsSoundCluster s (settled w k (outcome (step s) w k c))
+  pub sound_stays : (w : Cluster) (k : Key) (c : EventKind) → IsSoundCluster s w → get w.pending k ≡ Some c → k.at ≤ s.end → IsSoundCluster s (settled w k (outcome (step s) w k c))
   sound_stays w k c fact here in_time =
       let kept = kept_after (step s) (IsConsistent s) (IsAmongMembers s) s.end step_keeps w k c (get w.members k.to) refl in_time (fact.events k c here)
       (record { members = fact.states; events = fact.events }) in
@@ -118,7 +118,7 @@ pub met_here : (s : Setup) (least_delay : Option ℕ) (w v : Cluster) (keys : Li
 met_here s d w v keys rows m t sound least fact is met =
     safe_met (step s) (steps_later s sound) (sends_as_itself s sound) s.end d (IsSoundCluster s) (sound_keeps s sound d least) w v keys rows m t fact is met
 
-pub met_in_part : (s : Setup) (least_delay : Option ℕ) (division : ℕ → ℕ) (part bound : ℕ) (w after : Cluster) (keys : List Key) (out : List (Key × Content)) (rows : List Row) (m : ℕ) (t : State)
+pub met_in_part : (s : Setup) (least_delay : Option ℕ) (division : ℕ → ℕ) (part bound : ℕ) (w after : Cluster) (keys : List Key) (out : List (Key × EventKind)) (rows : List Row) (m : ℕ) (t : State)
     → IsSound s → IsLeastDelay s least_delay → IsSoundCluster s w → IsCommonBound s.end least_delay w bound
     → PartRun (step s) (is_in division part) bound (part_of (is_in division part) w) keys out rows after → get after.members m ≡ Some t → MeetsState (step s) s.end w m t
 met_in_part s d division part bound w after keys out rows m t sound least fact common run there =
@@ -128,7 +128,7 @@ met_in_part s d division part bound w after keys out rows m t sound least fact c
 pub numbered_by : (s : Setup) (Test : Cluster → Key → Type 0) (w v : Cluster) (keys : List Key) (rows : List Row) → IsSound s → UsesUpTo w → Schedule (step s) Test w keys rows v → UsesUpTo v
 numbered_by s Test w v keys rows sound numbered is = numbered_schedule (λ (t : State). t.next_number) (step s) (steps_numbered s sound) Test keys w v rows numbered is
 
-pub new_here : (s : Setup) (least_delay : Option ℕ) (division : ℕ → ℕ) (part bound : ℕ) (w p : Cluster) (keys : List Key) (out : List (Key × Content)) (rows : List Row) (k : Key) (c : Content)
+pub new_here : (s : Setup) (least_delay : Option ℕ) (division : ℕ → ℕ) (part bound : ℕ) (w p : Cluster) (keys : List Key) (out : List (Key × EventKind)) (rows : List Row) (k : Key) (c : EventKind)
     → IsSound s → IsLeastDelay s least_delay → IsSoundCluster s w → UsesUpTo w → IsCommonBound s.end least_delay w bound
     → PartRun (step s) (is_in division part) bound (part_of (is_in division part) w) keys out rows p → get p.pending k ≡ Some c
     → AreNew (remove p.pending k) (for_own (is_in division part) (events_of (outcome (step s) p k c)))
@@ -136,17 +136,17 @@ new_here s d division part bound w p keys out rows k c sound least fact numbered
     part_new (step s) (steps_later s sound) (sends_as_itself s sound) s.end d (IsSoundCluster s) (sound_keeps s sound d least)
     (λ (t : State). t.next_number) (steps_numbered s sound) division part bound w p keys out rows k c (fact, common) numbered run here
 
-pub sent_new : (s : Setup) (division bounds : ℕ → ℕ) (w : Cluster) (windows : List (Window State Content Row)) → IsSound s → UsesUpTo w → AreWindowsOfDifferentParts (step s) division bounds w windows
-    → All (λ (d : Window State Content Row). AreNew d.after.pending (for_own (is_in division d.part) (all_out windows))) windows
+pub sent_new : (s : Setup) (division bounds : ℕ → ℕ) (w : Cluster) (windows : List (Window State EventKind Row)) → IsSound s → UsesUpTo w → AreWindowsOfDifferentParts (step s) division bounds w windows
+    → All (λ (d : Window State EventKind Row). AreNew d.after.pending (for_own (is_in division d.part) (all_out windows))) windows
 sent_new s division bounds w windows sound numbered are =
-    All-from_recursion (λ (d : Window State Content Row). AreNew d.after.pending (for_own (is_in division d.part) (all_out windows))) windows
+    All-from_recursion (λ (d : Window State EventKind Row). AreNew d.after.pending (for_own (is_in division d.part) (all_out windows))) windows
     (all_new (link_delay s) (step s) (keeps_delays s sound) (λ (t : State). t.next_number) (steps_numbered s sound) division bounds w numbered windows are)
 
-pub sent_late : (s : Setup) (owns : ℕ → Bool) (bound from : ℕ) (p after : Cluster) (keys : List Key) (out : List (Key × Content)) (rows : List Row) → IsSound s
+pub sent_late : (s : Setup) (owns : ℕ → Bool) (bound from : ℕ) (p after : Cluster) (keys : List Key) (out : List (Key × EventKind)) (rows : List Row) → IsSound s
     → ((q : Key) → IsPending p q → (owns q.to ≡ true) × (from ≤ q.at)) → PartRun (step s) owns bound p keys out rows after
-    → All (λ (e : Key × Content). from + link_delay s e.0.from e.0.to ≤ e.0.at) out
+    → All (λ (e : Key × EventKind). from + link_delay s e.0.from e.0.to ≤ e.0.at) out
 sent_late s owns bound from p after keys out rows sound all run =
-    All-from_recursion (λ (e : Key × Content). from + link_delay s e.0.from e.0.to ≤ e.0.at) out (out_late (link_delay s) (step s) (keeps_delays s sound) owns bound from keys p after out rows all run)
+    All-from_recursion (λ (e : Key × EventKind). from + link_delay s e.0.from e.0.to ≤ e.0.at) out (out_late (link_delay s) (step s) (keeps_delays s sound) owns bound from keys p after out rows all run)
 
 pub some_delay : (s : Setup) → IsSound s → (least_delay : Option ℕ) → IsLeastDelay s least_delay → IfSome least_delay (λ d. 0 < d)
 some_delay s sound None alone = tt
@@ -163,7 +163,7 @@ next_rows s d bound w v keys run_keys left_keys rows sorted run left cmp sound l
     safe_released (step s) (steps_later s sound) (sends_as_itself s sound) s.end d (IsSoundCluster s) (sound_keeps s sound d least) w v keys run_keys left_keys rows run left fact is whole rest
     place_of (steps_counted s sound) cmp order.total order.agrees bound sorted (recursion_from_All (λ (k : Key). k.at < bound) keys below) from items up
 
-module _ (s : Setup) (d : Option ℕ) (division : ℕ → ℕ) (bound : ℕ) (w : Cluster) (windows : List (Window State Content Row)) (sound : IsSound s) (least : IsLeastDelay s d)
+module _ (s : Setup) (d : Option ℕ) (division : ℕ → ℕ) (bound : ℕ) (w : Cluster) (windows : List (Window State EventKind Row)) (sound : IsSound s) (least : IsLeastDelay s d)
     (fact : IsSoundCluster s w) (common : IsCommonBound s.end d w bound) (are : AreWindowsOfDifferentParts (step s) division (λ part. bound) w windows) where
   lead : (v : Cluster) × SafeSchedule s d w (all_keys windows) (all_rows windows) v × StandsAfter division w windows v × IsSoundCluster s v
       × ((q : Key) → IsPending v q → IncludesPart windows (division q.to) → bound ≤ q.at)
@@ -173,11 +173,11 @@ module _ (s : Setup) (d : Option ℕ) (division : ℕ → ℕ) (bound : ℕ) (w 
   windows_here = (lead.0, lead.1, lead.2)
 
 -- the receiver of an event that pends in a sound cluster is a member
-pub receiver_low : (s : Setup) (v : Cluster) (q : Key) (o : Option Content) → IsSoundCluster s v → get v.pending q ≡ o → is_some o ≡ true → q.to < member_count s
+pub receiver_low : (s : Setup) (v : Cluster) (q : Key) (o : Option EventKind) → IsSoundCluster s v → get v.pending q ≡ o → is_some o ≡ true → q.to < member_count s
 receiver_low s v q None fact is here = absurd (false≢true here)
 receiver_low s v q (Some c) fact is here = (fact.events q c is).receiver
 
-module _ (s : Setup) (d : Option ℕ) (division : ℕ → ℕ) (bound : ℕ) (w v : Cluster) (windows : List (Window State Content Row)) (sound : IsSound s) (least : IsLeastDelay s d)
+module _ (s : Setup) (d : Option ℕ) (division : ℕ → ℕ) (bound : ℕ) (w v : Cluster) (windows : List (Window State EventKind Row)) (sound : IsSound s) (least : IsLeastDelay s d)
     (fact : IsSoundCluster s w) (common : IsCommonBound s.end d w bound) (are : AreWindowsOfDifferentParts (step s) division (λ part. bound) w windows) (parts : IsWhole s division windows)
     (stands : StandsAfter division w windows v) where
   sound_there : IsSoundCluster s v
@@ -194,7 +194,7 @@ module _ (s : Setup) (d : Option ℕ) (division : ℕ → ℕ) (bound : ℕ) (w 
       let same = stands_once division w led.0 v windows led.2 stands in
       subst (λ u. (r : Key) → IsPending u r → IncludesPart windows (division r.to) → bound ≤ r.at) same led.4 q here (has_window q here)
 
-pub windows_rows : (s : Setup) (least_delay : Option ℕ) (division : ℕ → ℕ) (bound : ℕ) (w v : Cluster) (windows : List (Window State Content Row)) (run_keys left_keys : List Key)
+pub windows_rows : (s : Setup) (least_delay : Option ℕ) (division : ℕ → ℕ) (bound : ℕ) (w v : Cluster) (windows : List (Window State EventKind Row)) (run_keys left_keys : List Key)
     (sorted run left : List Row) (cmp : Row → Row → Ordering) → IsSound s → IsLeastDelay s least_delay → IsSoundCluster s w → IsRowOrder cmp → IsCommonBound s.end least_delay w bound
     → AreWindowsOfDifferentParts (step s) division (λ part. bound) w windows → IsWhole s division windows → StandsAfter division w windows v → IsRunFrom s w run_keys run → IsRunFrom s v left_keys left
     → IsPermutation (all_rows windows) sorted → IsSorted cmp sorted → run ≡ sorted ++ left

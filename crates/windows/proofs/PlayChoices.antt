@@ -14,7 +14,7 @@ use Rattle.scenario.specs.Setup.{Setup, IsSound, member_count}
 use Rattle.links.specs.declared.table.Links.{Links}
 use Rattle.links.specs.Arrival.{AreLinksOf}
 use Rattle.trace.specs.declared.row.Row.{Row}
-use Rattle.member.specs.declared.content.Content.{Content}
+use Rattle.member.specs.declared.event_kind.EventKind.{EventKind}
 use Rattle.member.specs.declared.event.Event.{Event}
 use Rattle.member.specs.declared.event.Effects.{Effects}
 use Rattle.member.specs.Here.{IsSoundSetting, HoldsMembers, MentionsMembers}
@@ -23,18 +23,18 @@ use Rattle.member.specs.State.{State}
 use Rattle.member.specs.Step.{step}
 use Rattle.member.proofs.Fair.{steps_numbered}
 use Rattle.member_laws.specs.Words.{IsAmongMembers}
-use Rattle.member_laws.specs.Runs.{Cluster, IsSoundCluster, WearsOut}
+use Rattle.member_laws.specs.Runs.{Cluster, IsSoundCluster, CounterOverflows}
 use Rattle.member_laws.proofs.Reached.{step_among}
 use Rattle.windows.specs.Safe.{IsSafe}
 use Rattle.windows.specs.Cluster.{IsLeastDelay, SafeStep}
 use Rattle.windows.specs.Parts.{for_own}
 use Rattle.windows.specs.Window.{is_own}
-use Rattle.windows.specs.Handling.{HandlesTaken, WearsReceiver, made_of, members_after}
+use Rattle.windows.specs.Handling.{HandlesTaken, OverflowsReceiver, made_of, members_after}
 use Rattle.windows.specs.Play.{NonePasses, Chooses, Plays}
 use Rattle.windows.specs.Choosing.{IsPlayed, HasChosen, HasPlayed}
 use Rattle.windows.proofs.Consistent.{event_here, holds_members}
 use Rattle.windows.proofs.Plays.{one_chosen_more}
-use Rattle.windows.proofs.Playing.{sound_there, numbered_there, peopled_there, worn_there}
+use Rattle.windows.proofs.Playing.{sound_there, numbered_there, peopled_there, overflow_there}
 
 -- where all are for own members, all stay
 kept_own : {C : Type 0} (owns : ℕ → Bool) (e : Key × C) (es : List (Key × C)) (b : Bool) → b ≡ true → for_own owns es ≡ es → cond b (e ∷ for_own owns es) (for_own owns es) ≡ e ∷ es
@@ -76,9 +76,9 @@ module _ (s : Setup) (sound : IsSound s) (d : Option ℕ) (least : IsLeastDelay 
   made_own None none = tt
   made_own (Some t) at =
       all_weaker _ (λ e. contains_key w.members e.0.to ≡ true) (λ e is. peopled_there s d played.0 played.1 played.2 w sound least played.3 e.0.to is.receiver) (step s event.key event.content t).events
-      (recursion_from_All (λ (e : Key × Content). IsAmongMembers s e.0 e.1) (step s event.key event.content t).events (step_among s event.key event.content t sound among (fact.states event.key.to t at)))
+      (recursion_from_All (λ (e : Key × EventKind). IsAmongMembers s e.0 e.1) (step s event.key event.content t).events (step_among s event.key event.content t sound among (fact.states event.key.to t at)))
 
-  settled_by : (o : Option (Outcome State Content Row)) (v : Cluster) → v.members ≡ members_after w.members event o → v.pending ≡ with_events (remove w.pending event.key) (events_of o) → v ≡ settled w event.key o
+  settled_by : (o : Option (Outcome State EventKind Row)) (v : Cluster) → v.members ≡ members_after w.members event o → v.pending ≡ with_events (remove w.pending event.key) (events_of o) → v ≡ settled w event.key o
   settled_by None v members pending = λ i. record { members = members i; pending = pending i }
   settled_by (Some o) v members pending = λ i. record { members = members i; pending = pending i }
 
@@ -106,9 +106,9 @@ module _ (s : Setup) (sound : IsSound s) (d : Option ℕ) (least : IsLeastDelay 
   }
 
   -- a counter that has no room there has none in the run
-  pub event_wears_out : WearsReceiver s event w.members → WearsOut s
+  pub event_wears_out : OverflowsReceiver s event w.members → CounterOverflows s
   event_wears_out wears =
-      let o : Outcome State Content Row = step s event.key event.content wears.member in
+      let o : Outcome State EventKind Row = step s event.key event.content wears.member in
       let made : made_of s w.members event ≡ Some o = ap (option_map (step s event.key event.content)) wears.there in
       let v : Cluster = settled w event.key (made_of s w.members event) in
       let one : SafeStep s d w event.key v (rows_of (made_of s w.members event)) = record { content = event.content; here = here; passes = safe; world = refl; made = refl } in
@@ -117,7 +117,7 @@ module _ (s : Setup) (sound : IsSound s) (d : Option ℕ) (least : IsLeastDelay 
       let there : get v.members event.key.to ≡ Some o.state =
       ap (λ m. get (settled w event.key m).members event.key.to) made ∙ get-insert nat_cmp_total w.members event.key.to o.state event.key.to
       ∙ ap (λ r. cond (is_eq r) (Some o.state) (get w.members event.key.to)) (tied_itself nat_cmp_total event.key.to) in
-      worn_there s d _ _ _ v sound least all event.key.to o.state (record { keys = []; rows = []; world = v; run = (refl, refl); there = there }) wears.worn
+      overflow_there s d _ _ _ v sound least all event.key.to o.state (record { keys = []; rows = []; world = v; run = (refl, refl); there = there }) wears.overflow
 
   -- ---- the event was taken out first
 
@@ -128,8 +128,8 @@ module _ (s : Setup) (sound : IsSound s) (d : Option ℕ) (least : IsLeastDelay 
     pub new_taken : AreNew p.pending (events_of (made_of s p.members event))
     new_taken = subst (λ m. AreNew p.pending (events_of (made_of s m event))) (sym members) (subst (λ m. AreNew m (events_of (made_of s w.members event))) (sym pending) new_there)
 
-    pub taken_wears_out : WearsReceiver s event p.members → WearsOut s
-    taken_wears_out wears = event_wears_out (subst (WearsReceiver s event) members wears)
+    pub taken_wears_out : OverflowsReceiver s event p.members → CounterOverflows s
+    taken_wears_out wears = event_wears_out (subst (OverflowsReceiver s event) members wears)
 
     pub taken_handled_here : (m : ℕ) (v : Cluster) (before after : Effects) → event.key.to ≡ m → HandlesTaken s event p v before after → HasChosen s d m true w v before.rows.items after.rows.items
     taken_handled_here m v before after own handles =

@@ -15,9 +15,9 @@ use Rattle.member.specs.State.{State}
 use Rattle.member.specs.Opening.{opening}
 use Rattle.member.specs.Places.{place_of}
 use Rattle.member.specs.Step.{step}
-use Rattle.member.specs.Worn.{IsWorn}
+use Rattle.member.specs.CounterOverflow.{IsOverflowed}
 use Rattle.member.proofs.Fair.{steps_later, steps_counted}
-use Rattle.member_laws.specs.Runs.{Cluster, IsSoundCluster, IsRunOf, WearsOut}
+use Rattle.member_laws.specs.Runs.{Cluster, IsSoundCluster, IsRunOf, CounterOverflows}
 use Rattle.member_laws.proofs.Opened.{member_there, opening_numbered}
 use Rattle.windows.specs.Safe.{IsSafe}
 use Rattle.windows.specs.Schedule.{MeetsState, rows_by}
@@ -46,10 +46,10 @@ module _ (s : Setup) (d : Option ℕ) (choices : List ℕ) (keys : List Key) (ma
   peopled_there m there = still_has (step s) (IsSafe s.end d) keys (opening s) v made steps m ∙ ap is_some (member_there s m there)
 
   -- a counter past its limit there is one of the run
-  pub worn_there : (m : ℕ) (t : State) → MeetsState (step s) s.end v m t → IsWorn t → WearsOut s
-  worn_there m t met worn =
+  pub overflow_there : (m : ℕ) (t : State) → MeetsState (step s) s.end v m t → IsOverflowed t → CounterOverflows s
+  overflow_there m t met overflow =
       let is = met_here s d (opening s) v keys made m t sound least (sound_opening s sound) steps met in
-      record { keys = is.keys; rows = is.rows; world = is.world; reached = is.run; number = m; member = t; there = is.there; worn = worn }
+      record { keys = is.keys; rows = is.rows; world = is.world; reached = is.run; number = m; member = t; there = is.there; overflow = overflow }
 
   module _ (cmp : Row → Row → Ordering) (order : IsRowOrder cmp) (sorted : List Row) (same : IsPermutation made sorted) (up : IsSorted cmp sorted) where
     -- where nothing is left the rows are the run's

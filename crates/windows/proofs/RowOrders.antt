@@ -12,7 +12,7 @@ use Rattle.base.specs.Rising.{IsRising, IsPlaceBefore}
 use Rattle.base.proofs.Rising.{all_weaker, rows_rise}
 use Rattle.scenario.specs.Setup.{Setup, IsSound}
 use Rattle.trace.specs.declared.row.Row.{Row}
-use Rattle.member.specs.declared.content.Content.{Content}
+use Rattle.member.specs.declared.event_kind.EventKind.{EventKind}
 use Rattle.member.specs.Places.{place_of}
 use Rattle.member.specs.Step.{step}
 use Rattle.member.proofs.Fair.{steps_later, steps_counted}
@@ -23,14 +23,14 @@ use Rattle.windows.proofs.PartRuns.{Kept, kept_later, next_of}
 
 module _ (s : Setup) (sound : IsSound s) (owns : ℕ → Bool) (bound : ℕ) where
   -- the steps of a part as a run of the machine that keeps only own events
-  kept_run : (ks : List Key) (p v : Cluster) (out : List (Key × Content)) (rows : List Row) → PartRun (step s) owns bound p ks out rows v → Run (Kept (step s) owns) bound p ks rows v
+  kept_run : (ks : List Key) (p v : Cluster) (out : List (Key × EventKind)) (rows : List Row) → PartRun (step s) owns bound p ks out rows v → Run (Kept (step s) owns) bound p ks rows v
   kept_run [] p v out rows run = (run.0, run.2)
   kept_run (k ∷ ks) p v out rows run =
       let is = run.5 in
       let early = is.early in
       (run.0, run.3, run.4, omega arith, next_of (step s) owns bound p run.0 k run.1 run.3 is, kept_run ks run.0 v run.2 run.4 run.6, run.8)
 
-  pub part_rows_rise : (ks : List Key) (p v : Cluster) (out : List (Key × Content)) (rows : List Row) → PartRun (step s) owns bound p ks out rows v → IsRising IsPlaceBefore (map place_of rows)
+  pub part_rows_rise : (ks : List Key) (p v : Cluster) (out : List (Key × EventKind)) (rows : List Row) → PartRun (step s) owns bound p ks out rows v → IsRising IsPlaceBefore (map place_of rows)
   part_rows_rise ks p v out rows run =
       rows_rise (Kept (step s) owns) (kept_later (step s) owns (steps_later s sound)) bound place_of (steps_counted s sound) ks p v rows (kept_run ks p v out rows run)
 

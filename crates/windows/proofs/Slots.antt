@@ -13,8 +13,8 @@ use Rattle.member.specs.State.{State}
 use Rattle.member.specs.StateOf.{state_of}
 use Rattle.base.specs.Order.{key_cmp}
 use Rattle.member.specs.declared.event.Event.{Event}
-use Rattle.member.specs.Worn.{IsWorn}
-use Rattle.member.proofs.Worn.{not_worn}
+use Rattle.member.specs.CounterOverflow.{IsOverflowed}
+use Rattle.member.proofs.CounterOverflow.{not_overflow}
 use Rattle.windows.specs.declared.part.Part.{Part}
 use Rattle.windows.specs.WorldOf.{states_from, world_of}
 
@@ -122,10 +122,10 @@ not_less i n over = by_test (nat_lt i n) refl
     by_test true h = let low = ltb-true i n h in absurd (omega arith)
     by_test false h = refl
 
-unworn_slot : (slot : Option Member) (t : State) → option_map state_of slot ≡ Some t → ¬ (IsWorn t)
-unworn_slot None t is = absurd (false≢true (ap is_some is))
-unworn_slot (Some x) t is = subst (λ u. ¬ (IsWorn u)) (same_Some (state_of x) t is) (not_worn x)
+no_overflow_slot : (slot : Option Member) (t : State) → option_map state_of slot ≡ Some t → ¬ (IsOverflowed t)
+no_overflow_slot None t is = absurd (false≢true (ap is_some is))
+no_overflow_slot (Some x) t is = subst (λ u. ¬ (IsOverflowed u)) (same_Some (state_of x) t is) (not_overflow x)
 
 -- no member in memory has a counter past its limit
-pub part_unworn : {Q : Type 0} (set : Q → FinMap key_cmp Event) (part : Part Q) (m : ℕ) (t : State) → get (world_of set part).members m ≡ Some t → ¬ (IsWorn t)
-part_unworn set part m t is = unworn_slot (slot_at part.members.slots.items m) t (sym (state_at part.members.slots.items m) ∙ is)
+pub part_no_overflow : {Q : Type 0} (set : Q → FinMap key_cmp Event) (part : Part Q) (m : ℕ) (t : State) → get (world_of set part).members m ≡ Some t → ¬ (IsOverflowed t)
+part_no_overflow set part m t is = no_overflow_slot (slot_at part.members.slots.items m) t (sym (state_at part.members.slots.items m) ∙ is)

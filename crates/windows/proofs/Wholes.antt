@@ -10,7 +10,7 @@ use Rattle.base.specs.Order.{key_total, key_exact}
 use Rattle.base.specs.World.{IsPending}
 use Rattle.scenario.specs.Setup.{Setup, member_count}
 use Rattle.trace.specs.declared.row.Row.{Row}
-use Rattle.member.specs.declared.content.Content.{Content}
+use Rattle.member.specs.declared.event_kind.EventKind.{EventKind}
 use Rattle.member.specs.State.{State}
 use Rattle.member.specs.Step.{step}
 use Rattle.member_laws.specs.Runs.{Cluster}
@@ -32,7 +32,7 @@ module _ (s : Setup) (w : Cluster) (whole : IsWholeCluster s w) (owns : ℕ → 
   pub member_in : (m : ℕ) (t : State) → get (part_of owns w).members m ≡ Some t → (owns m ≡ true) × (get w.members m ≡ Some t)
   member_in m t here = kept_value (get w.members m) t (owns m) (owns m) refl (sym (get_retained nat_cmp_total nat_cmp-IsAntisymmetric owns w.members m) ∙ here)
 
-  event_in : (k : Key) (c : Content) → get (part_of owns w).pending k ≡ Some c → (owns k.to ≡ true) × (get w.pending k ≡ Some c)
+  event_in : (k : Key) (c : EventKind) → get (part_of owns w).pending k ≡ Some c → (owns k.to ≡ true) × (get w.pending k ≡ Some c)
   event_in k c here = kept_value (get w.pending k) c (owns k.to) (owns k.to) refl (sym (get_retained key_total key_exact (λ q. owns q.to) w.pending k) ∙ here)
 
   lower : (m : ℕ) → nat_lt m (member_count s) ≡ true → m < member_count s
@@ -48,7 +48,7 @@ module _ (s : Setup) (w : Cluster) (whole : IsWholeCluster s w) (owns : ℕ → 
   pub pending_in : (k : Key) → IsPending (part_of owns w) k → (owns k.to ≡ true) × (k.to < member_count s) × IsPending w k
   pending_in k here = by_value (get (part_of owns w).pending k) refl here
     where
-      by_value : (o : Option Content) → get (part_of owns w).pending k ≡ o → is_some o ≡ true → (owns k.to ≡ true) × (k.to < member_count s) × IsPending w k
+      by_value : (o : Option EventKind) → get (part_of owns w).pending k ≡ o → is_some o ≡ true → (owns k.to ≡ true) × (k.to < member_count s) × IsPending w k
       by_value None is here = absurd (false≢true here)
       by_value (Some c) is here = let found = event_in k c is in (found.0, (whole.sound.events k c found.1).receiver, ap is_some found.1)
 
@@ -75,7 +75,7 @@ module _ (s : Setup) (w : Cluster) (whole : IsWholeCluster s w) (owns : ℕ → 
   own_here below = λ j m. (ap is_some (get_retained nat_cmp_total nat_cmp-IsAntisymmetric owns w.members m) ∙ own_at below m (owns m) refl) j
 
 -- so a part's window goes by its number alone
-pub window_by_number : (s : Setup) (division : ℕ → ℕ) (part bound : ℕ) (w after : Cluster) (keys : List Key) (out : List (Key × Content)) (rows : List Row) → IsWholeCluster s w
+pub window_by_number : (s : Setup) (division : ℕ → ℕ) (part bound : ℕ) (w after : Cluster) (keys : List Key) (out : List (Key × EventKind)) (rows : List Row) → IsWholeCluster s w
     → ((m : ℕ) → division m ≡ part → m < member_count s) → PartWindow (step s) (is_own (part_of (is_in division part) w)) bound (part_of (is_in division part) w) keys out rows after
     → PartWindow (step s) (is_in division part) bound (part_of (is_in division part) w) keys out rows after
 window_by_number s division part bound w after keys out rows whole below window =

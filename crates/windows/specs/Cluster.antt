@@ -10,7 +10,7 @@ use Rattle.base.specs.Rising.{IsPlaceBefore, IsNumbered}
 use Rattle.scenario.specs.Setup.{Setup, member_count, link_between}
 use Rattle.trace.specs.declared.row.Row.{Row}
 use Rattle.links.specs.Least.{IsDelayOfAPair, IsNoGreater}
-use Rattle.member.specs.declared.content.Content.{Content}
+use Rattle.member.specs.declared.event_kind.EventKind.{EventKind}
 use Rattle.member.specs.State.{State}
 use Rattle.member.specs.Places.{place_of}
 use Rattle.member.specs.Step.{step}
@@ -60,7 +60,7 @@ pub record IsRowOrder (cmp : Row → Row → Ordering) : Type 0 where
   pub agrees : (a b : Row) → IsPlaceBefore (place_of a) (place_of b) → cmp a b ≡ Less
 
 -- these windows are of all parts
-abbrev pub IsWhole : Setup → (ℕ → ℕ) → List (Window State Content Row) → Type 0
+abbrev pub IsWhole : Setup → (ℕ → ℕ) → List (Window State EventKind Row) → Type 0
 IsWhole s division windows = (m : ℕ) → m < member_count s → IncludesPart windows (division m)
 
 -- a part that has a member of the scenario

@@ -9,7 +9,7 @@ use Rattle.windows.specs.declared.part.Part.{Part}
 use Rattle.windows.specs.declared.part.Done.{Done}
 use Rattle.windows.specs.WorldOf.{world_of}
 use Rattle.windows.specs.Window.{RunsWindow}
-use Rattle.windows.specs.Wears.{WearsInWindow}
+use Rattle.windows.specs.Wears.{OverflowsInWindow}
 
 -- the parts, without how far their windows go
 abbrev pub parts_of : {Q : Type 0} → List (Bounded Q) → List (Part Q)
@@ -36,4 +36,4 @@ module _ {Q : Type 0} (set : Q → FinMap key_cmp Event) where
     pub one : Bounded Q
     pub after : List (Bounded Q)
     pub there : parts ≡ before ++ one ∷ after
-    pub wears : WearsInWindow s one.bound (world_of set one.part)
+    pub wears : OverflowsInWindow s one.bound (world_of set one.part)

@@ -4,7 +4,7 @@ use Rattle.std.specs.Ordering.{nat_cmp}
 use Rattle.std.specs.FinMap.{FinMap, from_entries}
 use Rattle.base.specs.Order.{key_cmp}
 use Rattle.base.specs.World.{World}
-use Rattle.member.specs.declared.content.Content.{Content}
+use Rattle.member.specs.declared.event_kind.EventKind.{EventKind}
 use Rattle.member.specs.declared.event.Event.{Event}
 use Rattle.member.specs.declared.member.Member.{Member}
 use Rattle.member.specs.State.{State}
@@ -23,13 +23,13 @@ states_from place (Some member ∷ slots) = (place, state_of member) ∷ states_
 abbrev pub states_in : OwnMembers → FinMap nat_cmp State
 states_in members = from_entries (states_from 0 members.slots.items)
 
-abbrev pub content_of : Event → Content
+abbrev pub content_of : Event → EventKind
 content_of event = event.content
 
 -- what events ask, by their keys
-abbrev pub contents_in : FinMap key_cmp Event → FinMap key_cmp Content
+abbrev pub contents_in : FinMap key_cmp Event → FinMap key_cmp EventKind
 contents_in events = contents_by content_of events
 
 -- a part as a world: its members, and the events that pend for them
-abbrev pub world_of : {Q : Type 0} → (Q → FinMap key_cmp Event) → Part Q → World State Content
+abbrev pub world_of : {Q : Type 0} → (Q → FinMap key_cmp Event) → Part Q → World State EventKind
 world_of set part = record { members = states_in part.members; pending = contents_in (set part.queue) }

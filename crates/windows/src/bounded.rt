@@ -1,3 +1,4 @@
+//! Pairs a part with its window's bound: the window handles only the part's events before that moment.
 use crate::part::Part;
 use base::Moment;
 use member::Event;

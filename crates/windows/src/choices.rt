@@ -1,3 +1,5 @@
+//! Runs a scenario by a list of chosen members: each choice handles that member's least pending event if it is safe,
+//! and is skipped otherwise.
 ghost use Rattle.std.specs.Prelude.{◌≡◌, ◌⊎◌, ◌+◌, ◌<◌, ◌≤◌, ◌^◌, ℕ, [], List, Option, Some, IfOk, IfErr, IfSome, IfNone, IsErrOf, length};
 ghost use Rattle.std.specs.List.Sorted.{IsSorted};
 ghost use Rattle.std.specs.FinMap.{get, remove, empty};
@@ -5,7 +7,7 @@ ghost use Rattle.base.specs.declared.key.Key.{Key};
 ghost use Rattle.scenario.specs.Setup.{Setup, IsSound};
 ghost use Rattle.trace.specs.declared.row.Row.{Row as ARow};
 ghost use Rattle.member.specs.Opening.{opening};
-ghost use Rattle.member_laws.specs.Runs.{Cluster as World, IsRunOf, WearsOut};
+ghost use Rattle.member_laws.specs.Runs.{Cluster as World, IsRunOf, CounterOverflows};
 ghost use Rattle.worker_queue.specs.SetOf.{set_of};
 ghost use Rattle.windows.specs.Safe.{IsSafe};
 ghost use Rattle.windows.specs.Schedule.{rows_by};
@@ -44,7 +46,7 @@ pub struct Played {
 /// is safe if it is the least that pends for its receiver, its moment is at most the end, and, where there
 /// are two members or more, less than the least moment that pends and the least delay of a link.
 ///
-/// Faults: `Memory`; `Worn` where a counter of the scenario's run would pass 2^63.
+/// Faults: `Memory`; `CounterOverflow` where a counter of the scenario's run would pass 2^63.
 pub fn play(alloc: Global, scenario: &Scenario, choices: &[MemberId]) -> Result<Played, Fault>
     // Just the safe events were handled, each when its member was chosen.
     ensures played { IfOk result (IsPlayOf scenario.now choices.now) }
@@ -56,8 +58,8 @@ pub fn play(alloc: Global, scenario: &Scenario, choices: &[MemberId]) -> Result<
     ensures whole { IfOk result (λ played. IfNone played.left (IsRunOf scenario.now played.rows.items)) }
 
     // No fault comes without its cause.
-    ensures worn { IsErrOf result Fault.Worn → WearsOut scenario.now }
-    ensures faults { IfErr result (λ fault. (fault ≡ Fault.Memory) ⊎ (fault ≡ Fault.Worn)) }
+    ensures overflow { IsErrOf result Fault.CounterOverflow → CounterOverflows scenario.now }
+    ensures faults { IfErr result (λ fault. (fault ≡ Fault.Memory) ⊎ (fault ≡ Fault.CounterOverflow)) }
 {
     let mut played = match with_run_fault(play_out(alloc, scenario, choices)) {
         Ok(played) => played,
@@ -79,7 +81,7 @@ pub fn a_play_is_a_schedule()
 fn play_out(alloc: Global, scenario: &Scenario, choices: &[MemberId]) -> Result<Played, StepError>
     ensures sound { IsSound scenario.now }
     ensures played { IfOk result (IsPlayOf scenario.now choices.now) }
-    ensures worn { IsErrOf result StepError.Worn → WearsOut scenario.now }
+    ensures overflow { IsErrOf result StepError.CounterOverflow → CounterOverflows scenario.now }
 {
     let end = scenario.end();
     let links = &Links::of(alloc, scenario)?;
@@ -113,7 +115,7 @@ fn choose_all(
     requires none { made.old.rows.items ≡ [] }
     ensures ok { IfOk result (λ handled. HasPlayed cluster.entry.scenario.now least_delay choices.now handled made.new.rows.items (world_of set_of part.new)) }
     ensures no_more { IfOk result (λ handled. handled ≤ length choices.now) }
-    ensures worn { IsErrOf result StepError.Worn → WearsOut cluster.entry.scenario.now }
+    ensures overflow { IsErrOf result StepError.CounterOverflow → CounterOverflows cluster.entry.scenario.now }
 {
     let mut handled = 0;
     for member in choices {
@@ -137,7 +139,7 @@ fn choose(
     requires played { IsPlayed cluster.scenario.now least_delay (world_of set_of part.old) }
     ensures ok { IfOk result (λ went. HasChosen cluster.entry.scenario.now least_delay member went (world_of set_of part.old) (world_of set_of part.new)
         made.old.rows.items made.new.rows.items) }
-    ensures worn { IsErrOf result StepError.Worn → WearsOut cluster.entry.scenario.now }
+    ensures overflow { IsErrOf result StepError.CounterOverflow → CounterOverflows cluster.entry.scenario.now }
 {
     let end = cluster.scenario.end();
     let event = match take_safe(part, end, least_delay, member) {

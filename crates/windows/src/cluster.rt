@@ -1,3 +1,4 @@
+//! Pairs a scenario with the links that are computed from it, with the proof that they fit.
 ghost use Rattle.links.specs.Arrival.{AreLinksOf};
 
 use links::Links;

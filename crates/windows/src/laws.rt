@@ -9,7 +9,7 @@ ghost use Rattle.base.specs.World.{IsPending, IsOver, Run, events_of, outcome};
 ghost use Rattle.base.specs.Rising.{IsRising, IsPlaceBefore, AreNew};
 ghost use Rattle.scenario.specs.Setup.{Setup, IsSound, member_count};
 ghost use Rattle.trace.specs.declared.row.Row.{Row};
-ghost use Rattle.member.specs.declared.content.Content.{Content};
+ghost use Rattle.member.specs.declared.event_kind.EventKind.{EventKind};
 ghost use Rattle.member.specs.State.{State};
 ghost use Rattle.member.specs.Opening.{opening};
 ghost use Rattle.member.specs.Places.{place_of};
@@ -80,7 +80,7 @@ pub fn a_schedule_meets_the_states_of_the_run()
         → IsSound s → IsLeastDelay s least_delay → IsSoundCluster s w → SafeSchedule s least_delay w keys rows v
         → MeetsState (step s) s.end v m t → MeetsState (step s) s.end w m t }
     ensures part { (s : Setup) (least_delay : Option ℕ) (division : ℕ → ℕ) (part bound : ℕ) (w after : Cluster) (keys : List Key)
-        (out : List (Key × Content)) (rows : List Row) (m : ℕ) (t : State)
+        (out : List (Key × EventKind)) (rows : List Row) (m : ℕ) (t : State)
         → IsSound s → IsLeastDelay s least_delay → IsSoundCluster s w → IsCommonBound s.end least_delay w bound
         → PartRun (step s) (is_in division part) bound (part_of (is_in division part) w) keys out rows after → get after.members m ≡ Some t
         → MeetsState (step s) s.end w m t }
@@ -104,35 +104,35 @@ pub fn events_stay_new()
     ensures numbers { (s : Setup) (least_delay : Option ℕ) (w v : Cluster) (keys : List Key) (rows : List Row)
         → IsSound s → UsesUpTo w → SafeSchedule s least_delay w keys rows v → UsesUpTo v }
     ensures part { (s : Setup) (least_delay : Option ℕ) (division : ℕ → ℕ) (part bound : ℕ) (w p : Cluster) (keys : List Key)
-        (out : List (Key × Content)) (rows : List Row) (k : Key) (c : Content)
+        (out : List (Key × EventKind)) (rows : List Row) (k : Key) (c : EventKind)
         → IsSound s → IsLeastDelay s least_delay → IsSoundCluster s w → UsesUpTo w → IsCommonBound s.end least_delay w bound
         → PartRun (step s) (is_in division part) bound (part_of (is_in division part) w) keys out rows p → get p.pending k ≡ Some c
         → AreNew (remove p.pending k) (for_own (is_in division part) (events_of (outcome (step s) p k c))) }
-    ensures sent { (s : Setup) (division bounds : ℕ → ℕ) (w : Cluster) (windows : List (Window State Content Row))
+    ensures sent { (s : Setup) (division bounds : ℕ → ℕ) (w : Cluster) (windows : List (Window State EventKind Row))
         → IsSound s → UsesUpTo w → AreWindowsOfDifferentParts (step s) division bounds w windows
-        → All (λ (d : Window State Content Row). AreNew d.after.pending (for_own (is_in division d.part) (all_out windows))) windows }
+        → All (λ (d : Window State EventKind Row). AreNew d.after.pending (for_own (is_in division d.part) (all_out windows))) windows }
 {}
 
 /// What a part sends out comes at least its pair's delay after any moment before which nothing pends in
 /// the part.
 pub fn a_part_sends_out_late()
-    ensures { (s : Setup) (owns : ℕ → Bool) (bound from : ℕ) (p after : Cluster) (keys : List Key) (out : List (Key × Content)) (rows : List Row)
+    ensures { (s : Setup) (owns : ℕ → Bool) (bound from : ℕ) (p after : Cluster) (keys : List Key) (out : List (Key × EventKind)) (rows : List Row)
         → IsSound s → ((q : Key) → IsPending p q → (owns q.to ≡ true) × (from ≤ q.at))
         → PartRun (step s) owns bound p keys out rows after
-        → All (λ (e : Key × Content). from + link_delay s e.0.from e.0.to ≤ e.0.at) out }
+        → All (λ (e : Key × EventKind). from + link_delay s e.0.from e.0.to ≤ e.0.at) out }
 {}
 
 /// The windows of different parts below a common bound, in any order, are a schedule of safe steps.
 /// It leads to a world, and to one alone, of which each part is as its window leaves it and as the
 /// events find it that went out of the others; nothing is left there below the bound.
 pub fn windows_are_safe_steps()
-    ensures schedule { (s : Setup) (least_delay : Option ℕ) (division : ℕ → ℕ) (bound : ℕ) (w : Cluster) (windows : List (Window State Content Row))
+    ensures schedule { (s : Setup) (least_delay : Option ℕ) (division : ℕ → ℕ) (bound : ℕ) (w : Cluster) (windows : List (Window State EventKind Row))
         → IsSound s → IsLeastDelay s least_delay → IsSoundCluster s w → IsCommonBound s.end least_delay w bound
         → AreWindowsOfDifferentParts (step s) division (λ part. bound) w windows
         → (v : Cluster) × SafeSchedule s least_delay w (all_keys windows) (all_rows windows) v × StandsAfter division w windows v }
-    ensures one { (division : ℕ → ℕ) (w u v : Cluster) (windows : List (Window State Content Row))
+    ensures one { (division : ℕ → ℕ) (w u v : Cluster) (windows : List (Window State EventKind Row))
         → StandsAfter division w windows u → StandsAfter division w windows v → u ≡ v }
-    ensures none_left { (s : Setup) (least_delay : Option ℕ) (division : ℕ → ℕ) (bound : ℕ) (w v : Cluster) (windows : List (Window State Content Row))
+    ensures none_left { (s : Setup) (least_delay : Option ℕ) (division : ℕ → ℕ) (bound : ℕ) (w v : Cluster) (windows : List (Window State EventKind Row))
         → IsSound s → IsLeastDelay s least_delay → IsSoundCluster s w → IsCommonBound s.end least_delay w bound
         → AreWindowsOfDifferentParts (step s) division (λ part. bound) w windows → IsWhole s division windows → StandsAfter division w windows v
         → (q : Key) → IsPending v q → bound ≤ q.at }
@@ -140,7 +140,7 @@ pub fn windows_are_safe_steps()
 
 /// The rows of the windows of all parts below a common bound, sorted, are the next rows of the run.
 pub fn windows_write_the_next_rows()
-    ensures { (s : Setup) (least_delay : Option ℕ) (division : ℕ → ℕ) (bound : ℕ) (w v : Cluster) (windows : List (Window State Content Row))
+    ensures { (s : Setup) (least_delay : Option ℕ) (division : ℕ → ℕ) (bound : ℕ) (w v : Cluster) (windows : List (Window State EventKind Row))
         (run_keys left_keys : List Key) (sorted run left : List Row) (cmp : Row → Row → Ordering)
         → IsSound s → IsLeastDelay s least_delay → IsSoundCluster s w → IsRowOrder cmp → IsCommonBound s.end least_delay w bound
         → AreWindowsOfDifferentParts (step s) division (λ part. bound) w windows → IsWhole s division windows → StandsAfter division w windows v
@@ -158,12 +158,12 @@ pub fn parts_may_run_to_their_horizons()
     ensures early { (s : Setup) (division : ℕ → ℕ) (between : ℕ → ℕ → ℕ) (w v : Cluster) (k : Key) (made : List Row)
         → IsSound s → LiesBetween s division between → IsSoundCluster s w
         → TestedStep (step s) (IsClearOf s division between) w k v made → CatchesUp (step s) s.end w v k made }
-    ensures windows { (s : Setup) (division : ℕ → ℕ) (between : ℕ → ℕ → ℕ) (bounds : ℕ → ℕ) (w : Cluster) (windows : List (Window State Content Row))
+    ensures windows { (s : Setup) (division : ℕ → ℕ) (between : ℕ → ℕ → ℕ) (bounds : ℕ → ℕ) (w : Cluster) (windows : List (Window State EventKind Row))
         → IsSound s → LiesBetween s division between → IsSoundCluster s w
         → AreHorizons s.end division (IsPeopled s division) between bounds w → AreWindowsOfDifferentParts (step s) division bounds w windows
         → (v : Cluster) × Schedule (step s) (IsClearOf s division between) w (all_keys windows) (all_rows windows) v
         × StandsAfter division w windows v × IsSoundCluster s v }
-    ensures none_left { (s : Setup) (division : ℕ → ℕ) (between : ℕ → ℕ → ℕ) (bounds : ℕ → ℕ) (w v : Cluster) (windows : List (Window State Content Row))
+    ensures none_left { (s : Setup) (division : ℕ → ℕ) (between : ℕ → ℕ → ℕ) (bounds : ℕ → ℕ) (w v : Cluster) (windows : List (Window State EventKind Row))
         → IsSound s → LiesBetween s division between → IsSoundCluster s w
         → AreHorizons s.end division (IsPeopled s division) between bounds w → AreWindowsOfDifferentParts (step s) division bounds w windows
         → StandsAfter division w windows v → (q : Key) → IsPending v q → IncludesPart windows (division q.to) → bounds (division q.to) ≤ q.at }
@@ -192,7 +192,7 @@ pub fn rows_are_in_order_of_places()
 /// (`RunsWindow`) is that of the division's part of that number (`IsWindowOfItsPart`).
 pub fn a_part_owns_the_members_of_its_number()
     ensures consistent { (s : Setup) (owns : ℕ → Bool) (w : Cluster) → IsWholeCluster s w → IsConsistentPart s (part_of owns w) }
-    ensures window { (s : Setup) (division : ℕ → ℕ) (part bound : ℕ) (w after : Cluster) (keys : List Key) (out : List (Key × Content)) (rows : List Row)
+    ensures window { (s : Setup) (division : ℕ → ℕ) (part bound : ℕ) (w after : Cluster) (keys : List Key) (out : List (Key × EventKind)) (rows : List Row)
         → IsWholeCluster s w → ((m : ℕ) → division m ≡ part → m < member_count s)
         → PartWindow (step s) (is_own (part_of (is_in division part) w)) bound (part_of (is_in division part) w) keys out rows after
         → PartWindow (step s) (is_in division part) bound (part_of (is_in division part) w) keys out rows after }
@@ -200,6 +200,6 @@ pub fn a_part_owns_the_members_of_its_number()
 
 /// The rows of a part's steps stand in row order as they are: by their places, of which no two agree.
 pub fn a_part_writes_in_row_order()
-    ensures { (s : Setup) (owns : ℕ → Bool) (bound : ℕ) (p after : Cluster) (keys : List Key) (out : List (Key × Content)) (rows : List Row)
+    ensures { (s : Setup) (owns : ℕ → Bool) (bound : ℕ) (p after : Cluster) (keys : List Key) (out : List (Key × EventKind)) (rows : List Row)
         → IsSound s → PartRun (step s) owns bound p keys out rows after → IsRising IsPlaceBefore (map place_of rows) }
 {}

@@ -1,3 +1,4 @@
+//! A part's own members, stored by member number, so that an event finds its receiver without a search.
 ghost use Rattle.std.specs.Prelude.{◌≡◌, ◌<◌, Some, OnOk, IsErrOf, vec_len};
 ghost use Rattle.std.specs.FinMap.{get, contains_key, insert, empty};
 ghost use Rattle.scenario.specs.Setup.{member_count};
@@ -5,7 +6,7 @@ ghost use Rattle.member.specs.Here.{IsSoundSetting, HoldsMembers, MentionsMember
 ghost use Rattle.member.specs.State.{State};
 ghost use Rattle.member.specs.StateOf.{state_of};
 ghost use Rattle.windows.specs.WorldOf.{states_in};
-ghost use Rattle.windows.specs.Handling.{Handles, WearsReceiver};
+ghost use Rattle.windows.specs.Handling.{Handles, OverflowsReceiver};
 
 use crate::cluster::Cluster;
 use crate::steps::in_parts;
@@ -71,7 +72,7 @@ impl OwnMembers {
         requires known { (t : State) → get (states_in self.old) event.key.to ≡ Some t → HoldsMembers cluster.scenario.now event.key.to t }
         requires names { MentionsMembers (member_count cluster.scenario.now) event.content }
         ensures ok { OnOk result (Handles cluster.entry.scenario.now event (states_in self.old) (states_in self.new) out.old out.new) }
-        ensures worn { IsErrOf result StepError.Worn → WearsReceiver cluster.entry.scenario.now event (states_in self.old) }
+        ensures overflow { IsErrOf result StepError.CounterOverflow → OverflowsReceiver cluster.entry.scenario.now event (states_in self.old) }
     {
         let receiver = receiver_of(&event);
         if self.slots.len() <= receiver {

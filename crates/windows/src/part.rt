@@ -1,10 +1,11 @@
+//! A part of a cluster: its members and the queue of their pending events, and how it runs a window up to a bound.
 ghost use Rattle.std.specs.Prelude.{◌≡◌, ◌+◌, ◌<◌, ◌++◌, ◌∷◌, [], true, false, All, IfOk, OnOk, IfSome, IfNone, IsErrOf, min};
 ghost use Rattle.std.specs.Option.{option_map_or};
 ghost use Rattle.std.specs.FinMap.{empty, contains_key, insert};
 ghost use Rattle.scenario.specs.Setup.{IsSound, member_count, crash_of, leave_of};
 ghost use Rattle.member.specs.Opening.{opening, script_key, ending_event};
 ghost use Rattle.member.specs.StateOf.{pair_of};
-ghost use Rattle.member.specs.declared.content.Content.TheVariants.{Crash, Leave};
+ghost use Rattle.member.specs.declared.event_kind.EventKind.TheVariants.{Crash, Leave};
 ghost use Rattle.member.specs.declared.event.Event.{Event as AnEvent};
 ghost use Rattle.member_laws.specs.Words.{IsAmongMembers};
 ghost use Rattle.worker_queue.specs.Queue.{IsLeastKey};
@@ -12,14 +13,14 @@ ghost use Rattle.windows.specs.Admitting.{AreFromBelow, with_member};
 ghost use Rattle.windows.specs.Parts.{with_arrivals};
 ghost use Rattle.windows.specs.WorldOf.{world_of, contents_in};
 ghost use Rattle.windows.specs.Window.{IsConsistentPart, RunsWindow, TakeTheirLinks, is_own};
-ghost use Rattle.windows.specs.Wears.{WearsInWindow};
+ghost use Rattle.windows.specs.Wears.{OverflowsInWindow};
 
 use crate::cluster::Cluster;
 use crate::own_members::OwnMembers;
 use crate::setting::Setting;
 use crate::steps::{in_parts, run_from};
 use base::{Key, MemberId, Memory, Moment};
-use member::{Content, Event, Member, StepError};
+use member::{Event, EventKind, Member, StepError};
 use scenario::Scenario;
 use std::alloc::Global;
 use trace::Row;
@@ -86,7 +87,7 @@ impl<Q: EventQueue<Event> + Drop> Part<Q> {
     {
         let waiting = Member::of(alloc, scenario, member)?;
         self.members.insert(member, waiting)?;
-        let start = script_event(member, scenario.start(member), 0, Content::Start);
+        let start = script_event(member, scenario.start(member), 0, EventKind::Start);
         push(&mut self.queue, start)?;
         match ending_of(scenario, member) {
             Some(ending) => push(&mut self.queue, ending),
@@ -117,7 +118,7 @@ impl<Q: EventQueue<Event> + Drop> Part<Q> {
     /// made for a member of the part pends in it, and is handled too where it is early enough; one for any
     /// other member goes out.
     ///
-    /// Refusals: `Memory`; `Worn` where a counter of the window would pass 2^63.
+    /// Refusals: `Memory`; `CounterOverflow` where a counter of the window would pass 2^63.
     #[inline(always)]
     pub fn run(self, alloc: Global, bound: Moment, cluster: Cluster) -> Result<Done<Q>, StepError>
         requires sound { IsSound cluster.scenario.now }
@@ -134,7 +135,7 @@ impl<Q: EventQueue<Event> + Drop> Part<Q> {
         ensures far { IfOk result (λ done. TakeTheirLinks cluster.entry.scenario.now (world_of Q.set self) done.out.items) }
 
         // Memory apart, only a counter that has no room refuses the window.
-        ensures worn { IsErrOf result StepError.Worn → WearsInWindow cluster.entry.scenario.now (min bound (cluster.entry.scenario.now.end + 1)) (world_of Q.set self) }
+        ensures overflow { IsErrOf result StepError.CounterOverflow → OverflowsInWindow cluster.entry.scenario.now (min bound (cluster.entry.scenario.now.end + 1)) (world_of Q.set self) }
     {
         let past_the_end = cluster.scenario.end().ticks() + 1;
         let setting = Setting {
@@ -152,7 +153,7 @@ fn ending_of(scenario: &Scenario, member: MemberId) -> Option<Event>
     ensures key { IfSome result (λ ending. (ending.key.from ≡ member) × (ending.key.number ≡ 1)) }
 {
     match scenario.crash(member) {
-        Some(at) => Some(script_event(member, at, 1, Content::Crash)),
+        Some(at) => Some(script_event(member, at, 1, EventKind::Crash)),
         None => leave_event(member, scenario.leave(member)),
     }
 }
@@ -163,11 +164,11 @@ fn leave_event(member: MemberId, leave: Option<Moment>) -> Option<Event>
     ensures key { IfSome result (λ ending. (ending.key.from ≡ member) × (ending.key.number ≡ 1)) }
 {
     let at = leave?;
-    Some(script_event(member, at, 1, Content::Leave))
+    Some(script_event(member, at, 1, EventKind::Leave))
 }
 
 /// An event of the script: its receiver is its sender.
-fn script_event(member: MemberId, at: Moment, number: u64, content: Content) -> Event
+fn script_event(member: MemberId, at: Moment, number: u64, content: EventKind) -> Event
     ensures { pair_of result ≡ (script_key member at number, content) }
 {
     let key = Key {

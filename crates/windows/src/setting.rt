@@ -1,3 +1,4 @@
+//! What stays the same during one window: its bound and the cluster, with the proof that each step makes later events.
 ghost use Rattle.std.specs.Prelude.{◌<◌};
 ghost use Rattle.std.specs.List.{AllByRecursion-prop};
 ghost use Rattle.std.specs.Coded.{le_prop};

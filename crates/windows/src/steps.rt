@@ -1,3 +1,5 @@
+//! The loop of a window: it handles the part's least event below the bound, keeps new events for its own members,
+//! and sends the others out.
 ghost use Rattle.std.specs.Prelude.{◌≡◌, ◌+◌, ◌<◌, ◌≤◌, ◌++◌, ◌∷◌, [], false, map, Some, All, IfOk, OnOk, IsErrOf};
 ghost use Rattle.std.specs.Bool.{OnTrue, OnFalse};
 ghost use Rattle.std.specs.List.{list_all};
@@ -13,9 +15,9 @@ ghost use Rattle.member_laws.specs.Words.{IsAmongMembers};
 ghost use Rattle.windows.specs.Parts.{for_own, for_others};
 ghost use Rattle.windows.specs.WorldOf.{world_of, states_in, contents_in};
 ghost use Rattle.windows.specs.Window.{is_own, IsConsistentPart, RunsWindow, TakeTheirLinks};
-ghost use Rattle.windows.specs.Wears.{WearsInWindow};
+ghost use Rattle.windows.specs.Wears.{OverflowsInWindow};
 ghost use Rattle.worker_queue.specs.Queue.{NoneIsBelow};
-ghost use Rattle.windows.specs.Handling.{HandlesTaken, WearsReceiver, Advances, made_of};
+ghost use Rattle.windows.specs.Handling.{HandlesTaken, OverflowsReceiver, Advances, made_of};
 
 use crate::cluster::Cluster;
 use crate::own_members::OwnMembers;
@@ -42,7 +44,7 @@ pub(crate) fn run_from<Q: EventQueue<Event> + Drop>(
     ensures consistent { IfOk result (λ done. IsConsistentPart setting.now.cluster.scenario.now (world_of Q.set done.part)) }
     ensures among { IfOk result (λ done. All (λ (e : Event). IsAmongMembers setting.now.cluster.scenario.now e.key e.content) done.out.items) }
     ensures far { IfOk result (λ done. TakeTheirLinks setting.now.cluster.scenario.now (world_of Q.set part) done.out.items) }
-    ensures worn { IsErrOf result StepError.Worn → WearsInWindow setting.now.cluster.scenario.now setting.now.bound (world_of Q.set part) }
+    ensures overflow { IsErrOf result StepError.CounterOverflow → OverflowsInWindow setting.now.cluster.scenario.now setting.now.bound (world_of Q.set part) }
 {
     let mut made = nothing(alloc);
     let mut spare = nothing(alloc);
@@ -81,7 +83,7 @@ fn advance<Q: EventQueue<Event>>(
     ensures same { IfOk result (λ went. OnFalse went (world_of Q.set part.new ≡ world_of Q.set part.old)) }
     ensures none { IfOk result (λ went. OnFalse went (out.new ≡ out.old)) }
     ensures number { OnOk result (part.new.number ≡ part.old.number) }
-    ensures worn { IsErrOf result StepError.Worn → WearsInWindow setting.now.cluster.scenario.now setting.now.bound (world_of Q.set part.old) }
+    ensures overflow { IsErrOf result StepError.CounterOverflow → OverflowsInWindow setting.now.cluster.scenario.now setting.now.bound (world_of Q.set part.old) }
 {
     let event = match part.queue.pop_below(setting.bound) {
         Some(event) => event,
@@ -109,7 +111,7 @@ pub(crate) fn handle_taken<Q: EventQueue<Event>>(
     requires new { AreNew (world_of Q.set part.old).pending (events_of (made_of cluster.scenario.now (world_of Q.set part.old).members event)) }
     ensures ok { OnOk result (HandlesTaken cluster.entry.scenario.now event (world_of Q.set part.old) (world_of Q.set part.new) out.old out.new) }
     ensures number { OnOk result (part.new.number ≡ part.old.number) }
-    ensures worn { IsErrOf result StepError.Worn → WearsReceiver cluster.entry.scenario.now event (world_of Q.set part.old).members }
+    ensures overflow { IsErrOf result StepError.CounterOverflow → OverflowsReceiver cluster.entry.scenario.now event (world_of Q.set part.old).members }
 {
     empty(&mut spare.events);
     empty(&mut spare.rows);

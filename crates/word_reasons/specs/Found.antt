@@ -3,16 +3,16 @@ use Rattle.std.specs.Prelude.{◌≡◌, ℕ, List, [], ◌∷◌, Option, Some,
 use Rattle.clap.specs.Words.{Row, Text, all_of, first_of}
 use Rattle.arguments.specs.Numbers.{IsNumber}
 use Rattle.arguments.specs.Rules.{is_given}
-use Rattle.answers.specs.Words.{IsWantWord}
-use Rattle.answers.specs.declared.want.Want.{Want}
-use Rattle.cases.specs.Asked.{IsSweepOf}
-use Rattle.cases.specs.Keys.{IsKeyNamed}
-use Rattle.cases.specs.Sweep.{Sweep}
-use Rattle.cases.specs.Values.{IsValue}
-use Rattle.cases.specs.declared.keys.SettingKey.{SettingKey}
-use Rattle.cases.specs.declared.values.SettingValue.{SettingValue}
-use Rattle.pieces.specs.Pieces.{IsPieceWord}
-use Rattle.pieces.specs.declared.piece.Piece.{Piece}
+use Rattle.goals.specs.Words.{IsWantWord}
+use Rattle.goals.specs.declared.want.Want.{Want}
+use Rattle.sweep_plan.specs.Asked.{IsSweepOf}
+use Rattle.sweep_plan.specs.Keys.{IsKeyNamed}
+use Rattle.sweep_plan.specs.Sweep.{Sweep}
+use Rattle.sweep_plan.specs.Values.{IsValue}
+use Rattle.sweep_plan.specs.declared.keys.SettingKey.{SettingKey}
+use Rattle.sweep_plan.specs.declared.values.SettingValue.{SettingValue}
+use Rattle.shards.specs.Pieces.{IsPieceWord}
+use Rattle.shards.specs.declared.piece.Piece.{Piece}
 use Rattle.reasons.specs.declared.words.Clash.{Clash}
 use Rattle.reasons.specs.declared.words.Clash.TheVariants as clash
 use Rattle.reasons.specs.declared.words.WordFault.{WordFault}

@@ -3,10 +3,10 @@ ghost use Rattle.std.specs.Prelude.{IfOk, IfSome, string_bytes};
 ghost use Rattle.word_reasons.specs.Found.{NamesKey};
 
 use base::Memory;
-use cases::SettingKey;
 use schema::{FormatKey, KeyRule, Kind, Section, Version};
 use std::alloc::Global;
 use strsim::levenshtein;
+use sweep_plan::SettingKey;
 
 /// A name that is longer is near none.
 const LONGEST: usize = 80;

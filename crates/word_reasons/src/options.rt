@@ -5,8 +5,8 @@ ghost use Rattle.word_reasons.specs.Found.{IsNumberReason, IsReasonOf, tells_cas
 
 use arguments::{is_given, number_within, value_of};
 use clap::ArgMatches;
-use pieces::Piece;
 use reasons::{Clash, WordFault, WordReason};
+use shards::Piece;
 
 /// The options of a run that exclude each other.
 pub(crate) fn run_clash<'a>(run: &ArgMatches<'a>) -> Option<WordReason<'a>>

@@ -7,10 +7,10 @@ use crate::guesses::guess_of;
 use crate::shares::parts_of;
 use arguments::values_of;
 use base::Memory;
-use cases::{Plan, PlanFault, SettingKey, SettingValue, sets_again};
 use clap::ArgMatches;
 use reasons::{WordFault, WordReason};
 use std::alloc::Global;
+use sweep_plan::{Plan, PlanFault, SettingKey, SettingValue, sets_again};
 
 /// What is wrong with the words of `--set`: the first that sets nothing, else the first whose key an earlier one sets.
 pub(crate) fn settings_reason<'a>(

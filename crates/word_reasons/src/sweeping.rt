@@ -8,11 +8,11 @@ use crate::settings::settings_reason;
 use crate::wants::wants_reason;
 use arguments::{value_of, values_of};
 use base::Memory;
-use cases::{Plan, PlanFault};
 use clap::ArgMatches;
 use decimals::number;
 use reasons::{WordFault, WordReason};
 use std::alloc::Global;
+use sweep_plan::{Plan, PlanFault};
 
 /// What is wrong with the words of a sweep: with its options, one after the other, else with how many runs they ask for.
 pub(crate) fn sweep_reason<'a>(

@@ -3,10 +3,10 @@ ghost use Rattle.std.specs.Prelude.{IfOk, IfSome, Contains};
 ghost use Rattle.clap.specs.Words.{found_of, rows_of};
 ghost use Rattle.word_reasons.specs.Found.{IsReasonOf, IsWantReason, WantsNothing};
 
-use answers::Want;
 use arguments::values_of;
 use base::Memory;
 use clap::ArgMatches;
+use goals::Want;
 use reasons::{WordFault, WordReason};
 use std::alloc::Global;
 

@@ -1,3 +1,4 @@
+//! Sorts a slot's events by falling key, so that the least leaves from the end, and finds the least of unsorted ones.
 ghost use Rattle.std.specs.Prelude.{◌≡◌, ◌<◌, length, [], false, All, Any, IfSome, IfNone, IsPermutation};
 ghost use Rattle.std.specs.Ordering.{is_lt};
 ghost use Rattle.base.specs.Order.{key_cmp};

@@ -1,3 +1,4 @@
+//! Comparisons of event keys: which of two comes first, and the first key that a moment can have.
 ghost use Rattle.std.specs.Prelude.{◌≡◌, ◌⊎◌, ◌<◌, ◌↔◌, Some, None, IsTrue, IfSome, IfNone};
 ghost use Rattle.base.specs.declared.key.Key.{Key as AKey};
 ghost use Rattle.base.specs.Order.{IsBefore};
@@ -24,7 +25,7 @@ pub(crate) fn is_before(key: &Key, other: &Key) -> bool
 }
 
 /// The lesser of two keys, either of which may be missing.
-pub(crate) fn lesser(key: Option<Key>, other: Option<Key>) -> Option<Key>
+pub(crate) fn lesser_key(key: Option<Key>, other: Option<Key>) -> Option<Key>
     ensures one { IfSome result (λ k. (key ≡ Some k) ⊎ (other ≡ Some k)) }
     ensures first { IfSome result (λ k. IfSome key (λ a. ¬ (IsBefore a k))) }
     ensures second { IfSome result (λ k. IfSome other (λ b. ¬ (IsBefore b k))) }

@@ -1,3 +1,4 @@
+//! A bitmap of the wheel's 1,024 slots that finds the next non-empty slot, 64 slots to a word.
 ghost use Rattle.std.specs.Prelude.{◌≡◌, ◌≢◌, ℕ, ◌<◌, ◌≤◌, true, false, IfSome, IfNone};
 ghost use Rattle.worker_queue.specs.Marks.{mark_at, IsFirstMark, NoneIsMarkedFrom};
 ghost use Rattle.std.specs.Int.{bit_at};

@@ -1,3 +1,4 @@
+//! The trait of a priority queue of events: the event with the least key leaves first, if its moment is below a bound.
 ghost use Rattle.std.specs.Prelude.{◌≡◌, ◌<◌, ◌↔◌, false, IsTrue, IfSome, IfNone, IfErr, OnOk, OnErr};
 ghost use Rattle.std.specs.FinMap.{FinMap, contains_key, insert, remove, empty, len};
 ghost use Rattle.base.specs.Order.{key_cmp};

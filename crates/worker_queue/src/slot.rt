@@ -1,3 +1,4 @@
+//! A slot of the wheel holds the events of one moment: it scans few of them for the least, and sorts many.
 ghost use Rattle.std.specs.Prelude.{◌≡◌, ◌↔◌, ◌<◌, length, [], true, false, IsTrue, IfSome, IfNone, IfErr, OnOk, OnErr};
 ghost use Rattle.std.specs.FinMap.{contains_key, insert, remove, empty};
 ghost use Rattle.base.specs.Order.{IsBefore};

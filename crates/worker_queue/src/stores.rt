@@ -1,3 +1,4 @@
+//! Joins the wheel with a tree for events whose moment has no slot, and pops the lesser of their first events.
 ghost use Rattle.std.specs.Prelude.{◌≡◌, ◌⊎◌, ◌<◌, false, Some, None, IfOk, IfSome, IfNone, IfErr, OnOk, OnErr};
 ghost use Rattle.std.specs.FinMap.{contains_key, insert, remove, empty};
 ghost use Rattle.base.specs.declared.key.Key.{Key as AKey};
@@ -9,7 +10,7 @@ ghost use Rattle.worker_queue.specs.Union.{AreApart};
 ghost use Rattle.worker_queue.specs.SetOf.{set_of};
 ghost use Rattle.worker_queue.specs.Wheel.{events_in};
 
-use crate::least::{first_key, is_before, lesser};
+use crate::least::{first_key, is_before, lesser_key};
 use crate::queue::EventQueue;
 use crate::tree::TreeQueue;
 use crate::wheel::Wheel;
@@ -67,7 +68,7 @@ impl<E: Keyed + Drop> Stores<E> {
         ensures least { IfSome result (IsLeastKey (all_in E.key self.now)) }
         ensures none { IfNone result (all_in E.key self.now ≡ empty) }
     {
-        lesser(self.wheel.least(), self.late.least())
+        lesser_key(self.wheel.least(), self.late.least())
     }
 
     /// Takes out the event with the least key, if its moment is below the bound: `None` where no event's

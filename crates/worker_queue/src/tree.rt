@@ -1,3 +1,4 @@
+//! The event queue on a B-tree map, which can also take out the least event of one receiver.
 ghost use Rattle.std.specs.Prelude.{◌≡◌, ◌<◌, Some, IfSome, IfNone};
 ghost use Rattle.std.specs.FinMap.{empty, get, remove};
 ghost use Rattle.worker_queue.specs.Queue.{IsLeastKeyFor, NoneIsBelowFor};

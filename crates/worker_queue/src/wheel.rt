@@ -1,3 +1,4 @@
+//! A timing wheel: one slot for each of 1,024 moments from a base on, which rises to the moment of each popped event.
 ghost use Rattle.std.specs.Prelude.{◌≡◌, ◌↔◌, ◌<◌, ◌≤◌, ◌%◌, ℕ, length, IsTrue, true, false, IfOk, IfSome, IfNone, IfErr, OnOk, OnErr, []};
 ghost use Rattle.std.specs.FinMap.{contains_key, insert, remove, empty};
 ghost use Rattle.base.specs.declared.key.Key.{Key as AKey};
@@ -27,7 +28,7 @@ pub(crate) struct Wheel<E: Keyed> {
 }
 
 /// The place of the slot of a moment.
-fn place_of(at: Moment) -> usize
+fn slot_of(at: Moment) -> usize
     ensures { result ≡ at % 1024 }
 {
     (at.ticks() % SPAN) as usize
@@ -77,7 +78,7 @@ impl<E: Keyed + Drop> Wheel<E> {
         ensures handed_back { IfErr result (λ refused. refused ≡ event) }
         ensures unchanged { OnErr result (events_in E.key self.new.slots.items ≡ events_in E.key self.old.slots.items) }
     {
-        let place = place_of(event.key().at);
+        let place = slot_of(event.key().at);
         self.slots[place].push(event)?;
         self.marks.set(place);
         Ok(())

@@ -1,3 +1,4 @@
+//! The event queue on a timing wheel, with a tree for moments that have no slot, and a count of its events.
 ghost use Rattle.std.specs.Prelude.{◌≡◌, IfOk};
 ghost use Rattle.std.specs.FinMap.{empty, len};
 ghost use Rattle.worker_queue.specs.Stores.{all_in};

@@ -14,7 +14,7 @@ returns-in-Some-clause-beginning g c =
     search rules fits 100
 
 pub returns-in-Some-clause-cause : goal.returns-in-Some-clause-cause
-returns-in-Some-clause-cause g c = ends_run _ _ _ c.run_watched-trace.ensures.worn c.run_watched-trace.ensures.threads
+returns-in-Some-clause-cause g c = ends_run _ _ _ c.run_watched-trace.ensures.overflow c.run_watched-trace.ensures.threads
 
 pub returns-in-None-clause-written : goal.returns-in-None-clause-written
 returns-in-None-clause-written g c =
@@ -27,4 +27,4 @@ returns-in-None-clause-beginning g c =
     search rules fits 100
 
 pub returns-in-None-clause-cause : goal.returns-in-None-clause-cause
-returns-in-None-clause-cause g c = ends_run _ _ _ c.run_shared-outcome.ensures.worn c.run_shared-outcome.ensures.threads
+returns-in-None-clause-cause g c = ends_run _ _ _ c.run_shared-outcome.ensures.overflow c.run_shared-outcome.ensures.threads

@@ -14,4 +14,4 @@ returns-clause-beginning g c =
     search rules fits 100
 
 pub returns-clause-cause : goal.returns-clause-cause
-returns-clause-cause g c = ends_run _ _ _ c.run_with_page-traced.ensures.worn c.run_with_page-traced.ensures.threads
+returns-clause-cause g c = ends_run _ _ _ c.run_with_page-traced.ensures.overflow c.run_with_page-traced.ensures.threads

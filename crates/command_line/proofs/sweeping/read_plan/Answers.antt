@@ -1,5 +1,5 @@
 use Rattle.std.proofs.Common.{subst}
-use Rattle.cases.specs.Asked.{RefusesSweep}
+use Rattle.sweep_plan.specs.Asked.{RefusesSweep}
 use Rattle.command_line.proofs.sweeping.read_plan.Goals as goal
 
 pub returns-in-Err-Words-clause-usage : goal.returns-in-Err-Words-clause-usage

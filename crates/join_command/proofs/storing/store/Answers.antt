@@ -1,6 +1,6 @@
 -- what the file holds of a text, where it was stored and where it wasn't
 use Rattle.scenario_files.proofs.Held.{told_failed, each_err_with}
-use Rattle.case_telling.proofs.Counted.{one_closed}
+use Rattle.sweep_output.proofs.Counted.{one_closed}
 use Rattle.join_command.proofs.Stored.{begun, each_on_ok, is_refused, stored, told_on_ok}
 use Rattle.join_command.proofs.storing.store.Goals as goal
 

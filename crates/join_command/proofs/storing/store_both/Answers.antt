@@ -1,6 +1,6 @@
 -- what the files hold of a table and a page, where they were stored and where they weren't
 use Rattle.scenario_files.proofs.Held.{told_failed, each_err_with}
-use Rattle.case_telling.proofs.Counted.{both_closed}
+use Rattle.sweep_output.proofs.Counted.{both_closed}
 use Rattle.join_command.proofs.Stored.{both_begun, both_stored, each_on_ok, is_refused, told_on_ok}
 use Rattle.join_command.proofs.storing.store_both.Goals as goal
 

@@ -14,7 +14,7 @@ loop-from-preserved c =
     let delay : ℕ → ℕ → ℕ = λ i j. (link_at links i j).delay in
     let told : is_third groups from ≡ c.is_third.result = ap (λ gs. is_third gs from) (sym c.as_slice.ensures.value) ∙ sym c.is_third.ensures in
     elim c.if-not-is_third.branch [
-      | then-not-is_third w ↦ subst (λ least. IsLeastBelow (is_third groups) (is_other groups) delay (length groups) (from + 1) least) (sym (w.least-is ∙ w.lesser-least.ensures))
+      | then-not-is_third w ↦ subst (λ least. IsLeastBelow (is_third groups) (is_other groups) delay (length groups) (from + 1) least) (sym (w.least-is ∙ w.lesser_delay-least.ensures))
           (gone_on (is_third groups) (is_other groups) delay (length groups) from c.loop-from.least w.least_from.result c.loop-from.invariant w.least_from.ensures)
       | else-not-is_third w ↦ subst (λ least. IsLeastBelow (is_third groups) (is_other groups) delay (length groups) (from + 1) least) (sym w.least-is)
           (passed_over (is_third groups) (is_other groups) delay (length groups) from c.loop-from.least c.loop-from.invariant (told ∙ w.if-not-is_third.false))

@@ -15,7 +15,7 @@ loop-to-preserved c =
     let told : takes to ≡ c.is_other.result = ap (λ groups. is_other groups from to) (sym c.as_slice.ensures.value) ∙ sym c.is_other.ensures in
     elim c.if-is_other.branch [
       | then-is_other w ↦ subst (λ least. IsLeastFrom takes delay (to + 1) least)
-          (sym (w.least-is ∙ w.lesser-least.ensures ∙ ap (λ link. lesser_of c.loop-to.least (Some link.delay)) w.link_between.ensures.value))
+          (sym (w.least-is ∙ w.lesser_delay-least.ensures ∙ ap (λ link. lesser_of c.loop-to.least (Some link.delay)) w.link_between.ensures.value))
           (taken takes delay to c.loop-to.least c.loop-to.invariant (told ∙ w.if-is_other.true))
       | else-is_other w ↦ subst (λ least. IsLeastFrom takes delay (to + 1) least) (sym w.least-is) (left_out takes delay to c.loop-to.least c.loop-to.invariant (told ∙ w.if-is_other.false))
     ]

@@ -2,7 +2,7 @@
 use Rattle.std.proofs.Common.{◌∙◌, ◌<◌, List, ℕ, Result, Err, IfErr, ap, subst}
 use Rattle.std.specs.Prelude.{Some}
 use Rattle.base.specs.declared.fault.Fault.{Fault}
-use Rattle.outputs.specs.declared.summary.Summary.{Summary}
+use Rattle.run_output.specs.declared.summary.Summary.{Summary}
 use Rattle.scenario_files.proofs.Held.{each_err, each_ok, told_done, told_failed}
 use Rattle.run_command.specs.Outcomes.{StoresPaged, BreaksOffPaged, EndsWithCause}
 use Rattle.run_command.proofs.Counted.{fresh_under, three_grew, three_kept, three_whole, told_whole}
@@ -69,7 +69,7 @@ returns-clause-failed g c =
             subst (λ (r : Result Summary Fault). IfErr r ends_by) is run.ensures.cause,
             λ e. three_grew _ _ _ _ _ _ _ _ _ c.in-Ok.ensures.counted c.close.ensures.refused c.close-2.ensures.refused c.close-3.ensures.refused
                 (run.ensures.write (is ∙ ap Err e)),
-          ) begins (λ e. run.ensures.worn (is ∙ ap Err e))),
+          ) begins (λ e. run.ensures.overflow (is ∙ ap Err e))),
     )))
 
 pub returns-clause-whole : goal.returns-clause-whole

@@ -2,7 +2,7 @@
 use Rattle.std.proofs.Common.{◌∙◌, ◌<◌, List, ℕ, Result, Err, IfErr, ap, subst}
 use Rattle.std.specs.Prelude.{None}
 use Rattle.base.specs.declared.fault.Fault.{Fault}
-use Rattle.outputs.specs.declared.summary.Summary.{Summary}
+use Rattle.run_output.specs.declared.summary.Summary.{Summary}
 use Rattle.scenario_files.proofs.Held.{each_err, each_ok, told_done, told_failed}
 use Rattle.run_command.specs.Outcomes.{StoresPaged, BreaksOffPaged, EndsWithCause}
 use Rattle.run_command.proofs.Counted.{both_whole, told_whole, two_grew, two_kept, without_nowhere}
@@ -60,7 +60,7 @@ returns-clause-failed g c =
           ends cause (
             subst (λ (r : Result Summary Fault). IfErr r ends_by) is run.ensures.cause,
             λ e. two_grew _ _ _ _ _ 0 _ c.in-Ok.ensures.counted c.close.ensures.refused c.close-2.ensures.refused (without_nowhere (run.ensures.write (is ∙ ap Err e))),
-          ) begins (λ e. run.ensures.worn (is ∙ ap Err e))),
+          ) begins (λ e. run.ensures.overflow (is ∙ ap Err e))),
     )))
 
 pub returns-clause-whole : goal.returns-clause-whole

@@ -1,7 +1,7 @@
 -- what the files hold of a run that was done, and of one that broke off
 use Rattle.std.proofs.Common.{◌∙◌, ◌<◌, Result, Err, IfErr, ap, subst}
 use Rattle.base.specs.declared.fault.Fault.{Fault}
-use Rattle.outputs.specs.declared.summary.Summary.{Summary}
+use Rattle.run_output.specs.declared.summary.Summary.{Summary}
 use Rattle.scenario_files.proofs.Held.{each_err, each_ok, told_done, told_failed}
 use Rattle.run_command.specs.Outcomes.{EndsWithCause}
 use Rattle.run_command.proofs.Counted.{both_whole, fresh_under, told_whole, two_grew, two_kept}
@@ -37,7 +37,7 @@ returns-clause-failed g c =
           c.close.ensures.closed c.close-2.ensures.closed (
             subst (λ (r : Result Summary Fault). IfErr r ends_by) is run.ensures.cause,
             λ e. two_grew _ _ _ _ _ _ _ c.in-Ok.ensures.counted c.close.ensures.refused c.close-2.ensures.refused (run.ensures.write (is ∙ ap Err e)),
-          ) begins (λ e. run.ensures.worn (is ∙ ap Err e)),
+          ) begins (λ e. run.ensures.overflow (is ∙ ap Err e)),
     )))
 
 pub returns-clause-whole : goal.returns-clause-whole

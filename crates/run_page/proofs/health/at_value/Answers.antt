@@ -4,8 +4,8 @@ use Rattle.series.specs.Spans.{span_count}
 use Rattle.series.specs.Grid.{count_at}
 use Rattle.series.specs.Changes.{came, went}
 use Rattle.series.specs.Series.{healths_of}
-use Rattle.run_lanes.specs.Heights.{heights}
-use Rattle.run_lanes.proofs.Levels.{heights_same}
+use Rattle.member_timelines.specs.Heights.{heights}
+use Rattle.member_timelines.proofs.Levels.{heights_same}
 use Rattle.run_page.specs.Health.{at_value}
 use Rattle.run_page.proofs.health.at_value.Goals as goal
 

@@ -2,8 +2,8 @@ use Rattle.std.proofs.Common.{◌++◌, ap, ◌∙◌}
 use Rattle.std.specs.String.{string_bytes}
 use Rattle.series.specs.Spans.{span_width}
 use Rattle.drawing.specs.Shapes.{area}
-use Rattle.run_lanes.specs.Heights.{stacked}
-use Rattle.run_lanes.specs.Lanes.{moments}
+use Rattle.member_timelines.specs.Heights.{stacked}
+use Rattle.member_timelines.specs.Lanes.{moments}
 use Rattle.run_page.specs.Health.{health_layer}
 use Rattle.run_page.proofs.Stacking.{layers_step, items_step}
 use Rattle.run_page.proofs.health.push_areas.Goals as goal

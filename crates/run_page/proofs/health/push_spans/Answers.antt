@@ -1,4 +1,4 @@
-use Rattle.run_lanes.proofs.Steps.{place_more}
+use Rattle.member_timelines.proofs.Steps.{place_more}
 use Rattle.run_page.specs.Health.{health_span}
 use Rattle.run_page.proofs.health.push_spans.Goals as goal
 

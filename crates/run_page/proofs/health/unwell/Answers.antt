@@ -1,5 +1,5 @@
 use Rattle.std.proofs.Common.{◌-◌, ◌^◌, ap, ◌∙◌}
-use Rattle.run_lanes.specs.Heights.{stacked}
+use Rattle.member_timelines.specs.Heights.{stacked}
 use Rattle.run_page.specs.Health.{health_layer}
 use Rattle.run_page.proofs.Stacking.{tops_step, items_step}
 use Rattle.run_page.proofs.health.unwell.Goals as goal

@@ -1,6 +1,6 @@
 use Rattle.std.specs.Prelude.{count_by}
 use Rattle.series.specs.Series.{loses_in}
-use Rattle.run_lanes.proofs.Steps.{map_more}
+use Rattle.member_timelines.proofs.Steps.{map_more}
 use Rattle.run_page.proofs.kinds.lost_by_span.Goals as goal
 
 pub loop-span-preserved : goal.loop-span-preserved

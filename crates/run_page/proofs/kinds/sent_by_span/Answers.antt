@@ -1,6 +1,6 @@
 use Rattle.std.specs.Prelude.{count_by}
 use Rattle.series.specs.Series.{sends_in}
-use Rattle.run_lanes.proofs.Steps.{map_more}
+use Rattle.member_timelines.proofs.Steps.{map_more}
 use Rattle.run_page.proofs.kinds.sent_by_span.Goals as goal
 
 pub loop-span-preserved : goal.loop-span-preserved

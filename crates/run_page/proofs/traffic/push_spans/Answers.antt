@@ -1,4 +1,4 @@
-use Rattle.run_lanes.proofs.Steps.{place_more}
+use Rattle.member_timelines.proofs.Steps.{place_more}
 use Rattle.run_page.specs.Traffic.{span_cells}
 use Rattle.run_page.proofs.traffic.push_spans.Goals as goal
 

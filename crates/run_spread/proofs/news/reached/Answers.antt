@@ -2,7 +2,7 @@ use Rattle.std.proofs.Common.{◌≡◌, map, ap, ◌∙◌, arith}
 use Rattle.std.specs.Prelude.{count_by, nat_lt}
 use Rattle.std.specs.List.{range_with_len}
 use Rattle.run_spread.specs.Spread.{come_by, reached}
-use Rattle.run_lanes.proofs.Steps.{map_more}
+use Rattle.member_timelines.proofs.Steps.{map_more}
 use Rattle.run_spread.proofs.news.reached.Goals as goal
 
 pub loop-place-preserved : goal.loop-place-preserved

@@ -1,6 +1,6 @@
 use Rattle.std.proofs.Common.{◌++◌, ◌∙◌, ap, sym}
 use Rattle.std.specs.Option.{option_to_list}
-use Rattle.run_lanes.proofs.Steps.{filter_more}
+use Rattle.member_timelines.proofs.Steps.{filter_more}
 use Rattle.run_spread.specs.Spread.{learned, time_of_one}
 use Rattle.run_spread.proofs.news.times.Goals as goal
 

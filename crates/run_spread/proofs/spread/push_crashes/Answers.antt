@@ -1,4 +1,4 @@
-use Rattle.run_lanes.proofs.Steps.{place_more}
+use Rattle.member_timelines.proofs.Steps.{place_more}
 use Rattle.run_spread.specs.Spread.{watched_crash}
 use Rattle.run_spread.proofs.spread.push_crashes.Goals as goal
 

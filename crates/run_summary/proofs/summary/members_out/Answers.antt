@@ -1,7 +1,7 @@
 use Rattle.std.proofs.Common.{ap, ◌∙◌, arith}
 use Rattle.std.specs.Prelude.{count_by, nat_lt}
 use Rattle.scenario.specs.Setup.{member_count}
-use Rattle.run_lanes.specs.Wrongly.{is_claim_about, times_out}
+use Rattle.member_timelines.specs.Wrongly.{is_claim_about, times_out}
 use Rattle.run_summary.proofs.Counting.{count_same}
 use Rattle.run_summary.proofs.summary.members_out.Goals as goal
 

@@ -1,6 +1,6 @@
 use Rattle.std.proofs.Common.{◌∙◌, ap, arith}
 use Rattle.toml.specs.View.{view}
-use Rattle.pieces.specs.Pieces.{first_run, past_run}
+use Rattle.shards.specs.Pieces.{first_run, past_run}
 use Rattle.sweep.specs.Table.{tells_revived}
 use Rattle.sweep.proofs.Begins.{few_begun}
 use Rattle.sweep.proofs.begun.begun_of.Goals as goal

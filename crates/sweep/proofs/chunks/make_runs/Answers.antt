@@ -1,8 +1,8 @@
 use Rattle.std.proofs.Common.{◌≡◌, arith, rules, subst}
 use Rattle.toml.specs.View.{view}
-use Rattle.cases.specs.Sweep.{seed_count}
+use Rattle.sweep_plan.specs.Sweep.{seed_count}
 use Rattle.sweep.specs.Summaries.{HasCome}
-use Rattle.outputs.proofs.Faults.{on_err}
+use Rattle.run_output.proofs.Faults.{on_err}
 use Rattle.sweep.proofs.Steps.{have_begun}
 use Rattle.sweep.proofs.chunks.make_runs.Goals as goal
 

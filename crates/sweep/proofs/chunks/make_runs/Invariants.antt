@@ -1,6 +1,6 @@
 use Rattle.std.proofs.Common.{◌≡◌, ◌-◌, ◌≤◌}
 use Rattle.toml.specs.View.{view}
-use Rattle.cases.specs.Sweep.{seed_count}
+use Rattle.sweep_plan.specs.Sweep.{seed_count}
 use Rattle.sweep.specs.Table.{Course}
 use Rattle.sweep.specs.Summaries.{HasCome}
 use Rattle.sweep.proofs.chunks.make_runs.Given as goal

@@ -1,10 +1,10 @@
 use Rattle.std.proofs.Common.{◌≡◌, ◌∙◌, ◌+◌, ◌-◌, ◌++◌, ◌∷◌, [], refl, subst, length, length-append, arith, rules}
 use Rattle.std.specs.List.{AllZip, range_with_len}
 use Rattle.toml.specs.View.{view}
-use Rattle.cases.specs.Sweep.{run_count, seed_count}
+use Rattle.sweep_plan.specs.Sweep.{run_count, seed_count}
 use Rattle.sweep.specs.Table.{IsMadeOf, IsMadeRun}
 use Rattle.sweep.specs.Summaries.{HasCome}
-use Rattle.outputs.proofs.Faults.{on_err}
+use Rattle.run_output.proofs.Faults.{on_err}
 use Rattle.sweep.proofs.Numbers.{is_next, none_left}
 use Rattle.sweep.proofs.Sharing.{within_all}
 use Rattle.sweep.proofs.Steps.{cause_fails_none, cause_handed, have_begun, line_part, line_whole}

@@ -1,7 +1,7 @@
 use Rattle.std.proofs.Common.{◌≡◌, ◌≤◌, ◌-◌, ◌+◌, length}
 use Rattle.std.specs.List.{AllZip, range_with_len}
 use Rattle.toml.specs.View.{view}
-use Rattle.cases.specs.Sweep.{seed_count}
+use Rattle.sweep_plan.specs.Sweep.{seed_count}
 use Rattle.sweep.specs.Table.{Course, IsMadeOf}
 use Rattle.sweep.specs.Summaries.{HasCome}
 use Rattle.sweep.proofs.chunks.make_some.Given as goal

@@ -1,10 +1,10 @@
 use Rattle.std.proofs.Common.{◌≤◌, [], ◌+◌, sym, subst, arith, ap, ◌∙◌}
 use Rattle.toml.specs.View.{view}
-use Rattle.cases.specs.Sweep.{run_count}
-use Rattle.pieces.specs.Pieces.{first_run, past_run, whole}
-use Rattle.pieces.proofs.Whole.{first_of_whole, past_of_whole}
+use Rattle.sweep_plan.specs.Sweep.{run_count}
+use Rattle.shards.specs.Pieces.{first_run, past_run, whole}
+use Rattle.shards.proofs.Whole.{first_of_whole, past_of_whole}
 use Rattle.sweep.specs.Summaries.{IsGathered, MakesAll}
-use Rattle.outputs.proofs.Faults.{on_err}
+use Rattle.run_output.proofs.Faults.{on_err}
 use Rattle.sweep.proofs.Sizes.{few_runs}
 use Rattle.sweep.proofs.WholeSweep.{begins_table, makes_all}
 use Rattle.sweep.proofs.chunks.sweep.Goals as goal

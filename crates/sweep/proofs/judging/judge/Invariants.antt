@@ -1,7 +1,7 @@
 use Rattle.std.proofs.Common.{◌*◌, take}
 use Rattle.std.specs.Prelude.{All}
 use Rattle.toml.specs.View.{view}
-use Rattle.cases.specs.Sweep.{seed_count}
+use Rattle.sweep_plan.specs.Sweep.{seed_count}
 use Rattle.sweep.specs.Runs.{runs_of}
 use Rattle.sweep.specs.Judged.{IsAccepted}
 use Rattle.sweep.proofs.judging.judge.Given as goal

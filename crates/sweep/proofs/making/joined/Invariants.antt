@@ -1,7 +1,7 @@
 use Rattle.std.proofs.Common.{ℕ, List}
 use Rattle.std.specs.List.{AllZip, flat_map}
 use Rattle.toml.specs.Data.{Data}
-use Rattle.cases.specs.Sweep.{Sweep}
+use Rattle.sweep_plan.specs.Sweep.{Sweep}
 use Rattle.sweep.specs.Table.{IsMadeLot, IsMadeOf}
 use Rattle.sweep.proofs.making.joined.Given as goal
 

@@ -4,7 +4,7 @@ use Rattle.rayon.specs.Lists.{min_len_base}
 use Rattle.rayon.proofs.ListFacts.{AllZip-through, IfOk-then}
 use Rattle.rayon.proofs.ToStd.{slice-AllZip}
 use Rattle.toml.specs.View.{view}
-use Rattle.cases.specs.Sweep.{run_count}
+use Rattle.sweep_plan.specs.Sweep.{run_count}
 use Rattle.sweep.specs.Shares.{numbers_of}
 use Rattle.sweep.specs.declared.shares.Share.{Share}
 use Rattle.sweep.specs.Table.{IsMadeLot, IsMadeOf}

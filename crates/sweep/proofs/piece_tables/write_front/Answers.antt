@@ -4,9 +4,9 @@ use Rattle.std.specs.Io.KnownBytes.{Appends}
 use Rattle.trace.specs.Sinks.{AppendsBeginning}
 use Rattle.trace.proofs.Beginnings.{Appends-then, beginning-first, beginning-then}
 use Rattle.figures.specs.Lines.{header_line}
-use Rattle.pieces.specs.Names.{head_cell}
+use Rattle.shards.specs.Names.{head_cell}
 use Rattle.sweep.specs.Table.{names_of}
-use Rattle.outputs.proofs.Faults.{on_err}
+use Rattle.run_output.proofs.Faults.{on_err}
 use Rattle.sweep.proofs.Handing.{on_ok_then, on_err_then}
 use Rattle.sweep.proofs.piece_tables.write_front.Goals as goal
 

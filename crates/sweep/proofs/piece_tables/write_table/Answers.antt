@@ -2,13 +2,13 @@ use Rattle.std.proofs.Common.{◌≤◌, ◌+◌, ◌∙◌, List, ap, drop, sub
 use Rattle.std.specs.Io.KnownBytes.{Appends}
 use Rattle.toml.specs.View.{view}
 use Rattle.trace.specs.Sinks.{AppendsBeginning}
-use Rattle.cases.specs.Sweep.{seed_count}
+use Rattle.sweep_plan.specs.Sweep.{seed_count}
 use Rattle.figures.specs.Notes.{Note}
-use Rattle.pieces.specs.Pieces.{first_run, past_run}
+use Rattle.shards.specs.Pieces.{first_run, past_run}
 use Rattle.sweep.specs.Pieces.{piece_header}
 use Rattle.sweep.specs.Resumed.{rest_course}
 use Rattle.sweep.specs.Summaries.{HasCome}
-use Rattle.outputs.proofs.Faults.{on_err}
+use Rattle.run_output.proofs.Faults.{on_err}
 use Rattle.sweep.proofs.Handing.{write_caused}
 use Rattle.sweep.proofs.Steps.{front_come, front_part, have_begun, begun_kept, come_kept}
 use Rattle.sweep.proofs.PieceCourse.{rest_begun}

@@ -1,5 +1,5 @@
 use Rattle.std.proofs.Common.{◌≡◌, ◌*◌, ap, arith}
-use Rattle.cases.specs.Sweep.{case_count, seed_count}
+use Rattle.sweep_plan.specs.Sweep.{case_count, seed_count}
 use Rattle.sweep.proofs.Sizes.{case_inside, some_runs}
 use Rattle.sweep.proofs.planned.first_run.Goals as goal
 

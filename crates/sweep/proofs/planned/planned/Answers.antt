@@ -1,6 +1,6 @@
 use Rattle.std.proofs.Common.{◌≡◌, ◌/◌, ◌%◌, Some, subst}
 use Rattle.std.specs.Prelude.{slice_get}
-use Rattle.cases.specs.Cases.{cases_of}
+use Rattle.sweep_plan.specs.Cases.{cases_of}
 use Rattle.sweep.specs.Runs.{seeds_of}
 use Rattle.sweep.proofs.Flat.{run_at}
 use Rattle.sweep.proofs.planned.planned.Goals as goal

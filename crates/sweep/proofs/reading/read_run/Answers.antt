@@ -1,7 +1,7 @@
 use Rattle.toml.specs.View.{view}
 use Rattle.std.proofs.Common.{◌≢◌, ◌≡◌, Err, subst}
 use Rattle.scenario_reader.specs.Rules.{document_verdict}
-use Rattle.cases.specs.Document.{with_values}
+use Rattle.sweep_plan.specs.Document.{with_values}
 use Rattle.sweep.specs.Runs.{planned_as}
 use Rattle.sweep.proofs.Steps.{refused_for_memory}
 use Rattle.sweep.proofs.reading.read_run.Goals as goal

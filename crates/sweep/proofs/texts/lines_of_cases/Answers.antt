@@ -1,7 +1,7 @@
 use Rattle.std.proofs.Common.{◌≡◌, ◌<◌, ◌≤◌, ◌++◌, [], ap, sym, ◌∙◌, arith, length, get_or, take}
 use Rattle.std.proofs.lemmas.List.{take_all}
 use Rattle.std.proofs.lemmas.Option.{slice_get-get_or}
-use Rattle.cases.specs.Cases.{cases_of}
+use Rattle.sweep_plan.specs.Cases.{cases_of}
 use Rattle.sweep.specs.Texts.{lines_of_cases, marked_header, widths_of}
 use Rattle.sweep.proofs.CaseTexts.{line_added}
 use Rattle.sweep.proofs.Flat.{cases_counted}

@@ -1,6 +1,6 @@
 use Rattle.std.proofs.Common.{◌≡◌, ◌++◌, take}
 use Rattle.std.specs.Prelude.{string_bytes}
-use Rattle.cases.specs.Cases.{cases_of}
+use Rattle.sweep_plan.specs.Cases.{cases_of}
 use Rattle.sweep.specs.Texts.{lines_of_cases, marked_header, widths_of}
 use Rattle.sweep.proofs.texts.lines_of_cases.Given as goal
 

@@ -2,9 +2,9 @@ use Rattle.std.proofs.Common.{◌≡◌, ◌++◌, ap, sym, ◌∙◌, length, m
 use Rattle.std.specs.Prelude.{string_bytes}
 use Rattle.std.proofs.lemmas.List.{length-map}
 use Rattle.std.proofs.lemmas.Option.{same_Some}
-use Rattle.cases.specs.Values.{value_text}
+use Rattle.sweep_plan.specs.Values.{value_text}
 use Rattle.figures.specs.CaseLines.{case_line, cells_aligned, figure_texts, figure_widths}
-use Rattle.answers.specs.Front.{mark_text}
+use Rattle.goals.specs.Front.{mark_text}
 use Rattle.sweep.specs.Table.{texts_of}
 use Rattle.sweep.specs.Texts.{column_width}
 use Rattle.sweep.proofs.CaseTexts.{case_long}

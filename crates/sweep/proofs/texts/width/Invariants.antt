@@ -1,5 +1,5 @@
 use Rattle.std.proofs.Common.{◌≡◌, map, drop, max}
-use Rattle.cases.specs.Values.{value_text}
+use Rattle.sweep_plan.specs.Values.{value_text}
 use Rattle.sweep.specs.Texts.{longest, column_width}
 use Rattle.sweep.proofs.texts.width.Given as goal
 

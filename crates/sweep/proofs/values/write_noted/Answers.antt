@@ -2,7 +2,7 @@ use Rattle.trace.proofs.Beginnings.{Appends-then, beginning-first, beginning-the
 use Rattle.figures.specs.Lines.{run_line}
 use Rattle.figures.specs.Notes.{note_cell}
 use Rattle.sweep.specs.Table.{texts_of}
-use Rattle.outputs.proofs.Faults.{on_err}
+use Rattle.run_output.proofs.Faults.{on_err}
 use Rattle.sweep.proofs.Handing.{on_ok_then, on_err_then}
 use Rattle.sweep.proofs.values.write_noted.Goals as goal
 

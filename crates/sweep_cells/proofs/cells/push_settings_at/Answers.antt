@@ -3,8 +3,8 @@ use Rattle.std.specs.Option.{option_map_or}
 use Rattle.std.proofs.lemmas.List.{append-nil}
 use Rattle.std.proofs.lemmas.Option.{slice_get_past}
 use Rattle.std.specs.String.{string_bytes}
-use Rattle.cases.specs.Cases.{cases_of}
-use Rattle.cases.proofs.Choices.{length-cases_of}
+use Rattle.sweep_plan.specs.Cases.{cases_of}
+use Rattle.sweep_plan.proofs.Choices.{length-cases_of}
 use Rattle.sweep_cells.specs.Words.{settings_words, settings_at}
 use Rattle.sweep_cells.proofs.cells.push_settings_at.Goals as goal
 

@@ -1,6 +1,6 @@
 -- what the files hold of a sweep that was done, and of one that broke off
 use Rattle.scenario_files.proofs.Held.{each_ok, told_done, told_failed, each_err_with}
-use Rattle.case_telling.proofs.Counted.{both_closed}
+use Rattle.sweep_output.proofs.Counted.{both_closed}
 use Rattle.sweep_command.proofs.Refused.{is_caused}
 use Rattle.sweep_command.proofs.Pairs.{paged_begun, paged_stored}
 use Rattle.sweep_command.proofs.paging.store_paged.Goals as goal

@@ -1,7 +1,7 @@
 -- the table, what is told of the cases, and their page
 use Rattle.std.proofs.Common.{List, string_bytes, subst, sym, inl}
 use Rattle.std.specs.Prelude.{All}
-use Rattle.answers.specs.Wants.{HasFewRuns}
+use Rattle.goals.specs.Wants.{HasFewRuns}
 use Rattle.figures.specs.declared.summary.CaseSummary.{CaseSummary}
 use Rattle.trace.proofs.Beginnings.{Keeps-same}
 use Rattle.scenario_files.proofs.Held.{handed_on, on_err_of}

@@ -2,7 +2,7 @@
 use Rattle.std.proofs.Common.{string_bytes}
 use Rattle.toml.specs.View.{view}
 use Rattle.scenario_files.proofs.Held.{each_ok, told_done, told_failed, each_err_with}
-use Rattle.case_telling.proofs.Counted.{one_closed}
+use Rattle.sweep_output.proofs.Counted.{one_closed}
 use Rattle.sweep_command.proofs.Refused.{is_caused}
 use Rattle.sweep_command.proofs.Tables.{stood_few, table_begun, table_stored}
 use Rattle.sweep_command.proofs.sweeping.store_table.Goals as goal

@@ -1,7 +1,7 @@
 -- what is told of the cases; where that finds no memory, the whole table is there
 use Rattle.std.proofs.Common.{ℕ, List, string_bytes, subst, sym}
 use Rattle.std.specs.Prelude.{All}
-use Rattle.answers.specs.Wants.{HasFewRuns}
+use Rattle.goals.specs.Wants.{HasFewRuns}
 use Rattle.figures.specs.declared.summary.CaseSummary.{CaseSummary}
 use Rattle.scenario_files.proofs.Held.{on_err_of}
 use Rattle.sweep_command.proofs.Few.{few_runs_each}

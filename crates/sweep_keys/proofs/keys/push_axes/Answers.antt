@@ -1,6 +1,6 @@
 use Rattle.std.proofs.Common.{◌≡◌, ◌++◌, ◌-◌, List, ℕ, drop, take, rules, arith}
 use Rattle.std.specs.String.{string_bytes}
-use Rattle.cases.specs.Sweep.{KeyValues}
+use Rattle.sweep_plan.specs.Sweep.{KeyValues}
 use Rattle.sweep_keys.specs.Keys.{key_figure_of}
 use Rattle.sweep_keys.proofs.Axes.{figure_more, no_figure_more}
 use Rattle.sweep_keys.proofs.keys.push_axes.Goals as goal

@@ -1,6 +1,6 @@
 use Rattle.std.proofs.Common.{◌≡◌, ◌≤◌, ◌++◌, ◌-◌, drop, length}
 use Rattle.std.specs.String.{string_bytes}
-use Rattle.cases.specs.Axes.{axes_of}
+use Rattle.sweep_plan.specs.Axes.{axes_of}
 use Rattle.sweep_keys.specs.Keys.{figures_from}
 use Rattle.sweep_keys.proofs.keys.push_axes.Given as goal
 

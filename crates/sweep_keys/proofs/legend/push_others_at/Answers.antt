@@ -3,8 +3,8 @@ use Rattle.std.specs.Option.{option_map_or}
 use Rattle.std.proofs.lemmas.List.{append-nil}
 use Rattle.std.proofs.lemmas.Option.{slice_get_past}
 use Rattle.std.specs.String.{string_bytes}
-use Rattle.cases.specs.Cases.{cases_of}
-use Rattle.cases.proofs.Choices.{length-cases_of}
+use Rattle.sweep_plan.specs.Cases.{cases_of}
+use Rattle.sweep_plan.proofs.Choices.{length-cases_of}
 use Rattle.sweep_keys.specs.Keys.{others_words, others_at, without}
 use Rattle.sweep_keys.proofs.legend.push_others_at.Goals as goal
 

@@ -1,5 +1,5 @@
 use Rattle.std.proofs.Common.{◌≡◌, ℕ, ◌/◌, max, fold, length, take}
-use Rattle.cases.specs.Sweep.{KeyValues, choice_count}
+use Rattle.sweep_plan.specs.Sweep.{KeyValues, choice_count}
 use Rattle.sweep_keys.proofs.lines.shared_out.Given as goal
 
 abbrev pub invariant-loop-setting : goal.invariant-loop-setting

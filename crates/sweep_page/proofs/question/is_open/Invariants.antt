@@ -1,6 +1,6 @@
 use Rattle.std.proofs.Common.{◌≡◌, false, take}
 use Rattle.std.specs.List.{list_any}
-use Rattle.answers.specs.Wants.{may_meet}
+use Rattle.goals.specs.Wants.{may_meet}
 use Rattle.sweep_page.proofs.question.is_open.Given as goal
 
 -- none so far may meet all

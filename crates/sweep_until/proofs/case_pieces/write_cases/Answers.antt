@@ -2,10 +2,10 @@ use Rattle.std.proofs.Common.{◌≡◌, ◌+◌, ◌-◌, ◌∙◌, ap, drop, 
 use Rattle.std.specs.Io.KnownBytes.{Appends}
 use Rattle.toml.specs.View.{view}
 use Rattle.trace.specs.Sinks.{AppendsBeginning}
-use Rattle.cases.specs.Sweep.{case_count}
-use Rattle.pieces.specs.Pieces.{first_run, past_run}
+use Rattle.sweep_plan.specs.Sweep.{case_count}
+use Rattle.shards.specs.Pieces.{first_run, past_run}
 use Rattle.sweep.specs.Pieces.{piece_header}
-use Rattle.outputs.proofs.Faults.{on_err}
+use Rattle.run_output.proofs.Faults.{on_err}
 use Rattle.sweep.proofs.Handing.{write_caused}
 use Rattle.sweep_until.specs.Until.{HasCases}
 use Rattle.sweep_until.specs.Pieces.{cases_in, first_case, rest_cases}

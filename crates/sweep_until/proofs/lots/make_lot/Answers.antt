@@ -1,9 +1,9 @@
 use Rattle.std.proofs.Common.{◌∙◌, ◌+◌, refl, subst, arith, rules}
 use Rattle.std.specs.List.{AllZip}
 use Rattle.toml.specs.View.{view}
-use Rattle.cases.specs.Sweep.{run_count}
+use Rattle.sweep_plan.specs.Sweep.{run_count}
 use Rattle.sweep.specs.Table.{IsMadeOf, IsMadeRun}
-use Rattle.outputs.proofs.Faults.{on_err}
+use Rattle.run_output.proofs.Faults.{on_err}
 use Rattle.sweep.proofs.Numbers.{is_next, none_left}
 use Rattle.sweep.proofs.Sharing.{within_all}
 use Rattle.sweep.proofs.Steps.{cause_fails_none, cause_handed, line_part, line_whole}

@@ -1,6 +1,6 @@
 use Rattle.std.proofs.Common.{◌+◌, arith, subst, sym}
 use Rattle.toml.specs.View.{view}
-use Rattle.outputs.proofs.Faults.{on_err}
+use Rattle.run_output.proofs.Faults.{on_err}
 use Rattle.sweep.proofs.Sizes.{some_runs}
 use Rattle.sweep_until.specs.Until.{GoesOn, HasEnded, case_course}
 use Rattle.sweep_until.proofs.Cases.{case_begins, case_ended, case_made, has_some}

@@ -1,6 +1,6 @@
 use Rattle.std.proofs.Common.{◌≡◌, ◌+◌, ◌-◌, arith, refl, rules, subst, sym}
 use Rattle.toml.specs.View.{view}
-use Rattle.outputs.proofs.Faults.{on_err}
+use Rattle.run_output.proofs.Faults.{on_err}
 use Rattle.sweep_until.specs.Until.{HasCases}
 use Rattle.sweep_until.proofs.Cases.{begins_case, begins_cases, case_added}
 use Rattle.sweep_until.proofs.until.make_cases.Goals as goal

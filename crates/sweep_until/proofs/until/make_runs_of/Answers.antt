@@ -1,6 +1,6 @@
 use Rattle.std.proofs.Common.{◌≡◌, arith, inr, rules}
 use Rattle.toml.specs.View.{view}
-use Rattle.outputs.proofs.Faults.{on_err}
+use Rattle.run_output.proofs.Faults.{on_err}
 use Rattle.sweep_until.proofs.Wide.{begins_so, ends_here, goes_on}
 use Rattle.sweep_until.proofs.until.make_runs_of.Goals as goal
 

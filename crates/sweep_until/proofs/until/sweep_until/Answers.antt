@@ -1,6 +1,6 @@
 use Rattle.std.proofs.Common.{◌-◌, arith, subst}
 use Rattle.toml.specs.View.{view}
-use Rattle.outputs.proofs.Faults.{on_err}
+use Rattle.run_output.proofs.Faults.{on_err}
 use Rattle.sweep_until.specs.Pieces.{cases_in}
 use Rattle.sweep_until.specs.Until.{BeginsCases, HasCases, all_cases}
 use Rattle.sweep_until.proofs.PieceCases.{cases_of_whole, count_of_whole}

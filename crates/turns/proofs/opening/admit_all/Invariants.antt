@@ -1,6 +1,6 @@
 use Rattle.std.proofs.Common.{ℕ, ◌<◌}
 use Rattle.windows.specs.Admitting.{opened_below}
-use Rattle.horizons.specs.Between.{part_number}
+use Rattle.lookahead.specs.Between.{part_number}
 use Rattle.turns.specs.Parts.{StandFor}
 use Rattle.turns.proofs.opening.admit_all.Given as goal
 

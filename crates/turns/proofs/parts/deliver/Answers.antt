@@ -2,7 +2,7 @@ use Rattle.std.proofs.Common.{◌++◌, ◌∷◌, [], map, append_assoc, ap, �
 use Rattle.std.specs.FinMap.{contains_key}
 use Rattle.std.proofs.lemmas.List.{map-append}
 use Rattle.member.specs.StateOf.{pair_of}
-use Rattle.horizons.specs.Between.{part_number}
+use Rattle.lookahead.specs.Between.{part_number}
 use Rattle.turns.specs.Parts.{HaveCome}
 use Rattle.turns.proofs.Coming.{none_come, more_come, new_in_turn, members_stay}
 use Rattle.turns.proofs.parts.deliver.Goals as goal

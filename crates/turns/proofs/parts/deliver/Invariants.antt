@@ -1,6 +1,6 @@
 use Rattle.std.proofs.Common.{◌≡◌, ◌++◌, map}
 use Rattle.member.specs.StateOf.{pair_of}
-use Rattle.horizons.specs.Between.{part_number}
+use Rattle.lookahead.specs.Between.{part_number}
 use Rattle.turns.specs.Parts.{HaveCome}
 use Rattle.turns.proofs.parts.deliver.Given as goal
 

@@ -7,7 +7,7 @@ use Rattle.member.specs.declared.event.Event.{Event}
 use Rattle.member.specs.StateOf.{pair_of}
 use Rattle.windows.specs.Parts.{for_own, is_in}
 use Rattle.windows.specs.WorldOf.{world_of}
-use Rattle.horizons.specs.Between.{part_number}
+use Rattle.lookahead.specs.Between.{part_number}
 use Rattle.turns.specs.Parts.{IsLeastMoment, IsInRowOrder, HaveCome, HaveTheirMembers}
 use Rattle.turns.proofs.RowOrders.{when_true, one_alone, windows_rise}
 use Rattle.turns.proofs.After.{new_to_parts, members_after, named_out, count_after}

@@ -13,10 +13,10 @@ pub returns-clause-no_others : goal.returns-clause-no_others
 returns-clause-no_others c s rows first run = run_was s first rows run
 
 pub returns-clause-wears : goal.returns-clause-wears
-returns-clause-wears c s first worn = wears s first worn
+returns-clause-wears c s first overflow = wears s first overflow
 
 pub returns-clause-wears_no_sooner : goal.returns-clause-wears_no_sooner
-returns-clause-wears_no_sooner c s first worn = wore s first worn
+returns-clause-wears_no_sooner c s first overflow = wore s first overflow
 
 pub returns-clause-traces : goal.returns-clause-traces
 returns-clause-traces c = same_trace

@@ -55,11 +55,11 @@ returns-clause-ok c =
     taken_handled_here s c.requires.sound c.args.least_delay c.requires.least w c.requires.played event c.in-Some.ensures.here safe (world_of set_of c.take_safe.new.part) c.in-Some.ensures.members
     c.in-Some.ensures.taken c.args.member (world_of set_of c.handle_taken.new.part) c.args.made.now c.handle_taken.new.out c.in-Some.ensures.own c.in_ok-handle_taken.ensures.ok
 
-pub returns-in_err-handle_taken-clause-worn : goal.returns-in_err-handle_taken-clause-worn
-returns-in_err-handle_taken-clause-worn c = λ worn.
+pub returns-in_err-handle_taken-clause-overflow : goal.returns-in_err-handle_taken-clause-overflow
+returns-in_err-handle_taken-clause-overflow c = λ overflow.
     let s = c.args.cluster.scenario.now in
     let w = world_of set_of c.args.part.now in
     let event = c.in-Some.event in
     let safe = subst (λ end. IsSafe end c.args.least_delay w event.key) c.end-end.ensures.value c.in-Some.ensures.safe in
     taken_wears_out s c.requires.sound c.args.least_delay c.requires.least w c.requires.played event c.in-Some.ensures.here safe (world_of set_of c.take_safe.new.part) c.in-Some.ensures.members
-    c.in-Some.ensures.taken (c.in_err-handle_taken.ensures.worn (search rules))
+    c.in-Some.ensures.taken (c.in_err-handle_taken.ensures.overflow (search rules))

@@ -38,8 +38,8 @@ returns-clause-went g c =
     let taken = ap contents_in c.in-Some.ensures.taken ∙ contents_by-remove content_of (g.Q.EventQueue.set c.args.part.now.queue) event.key in
     advanced c.args.setting.now.cluster.scenario.now c.args.setting.now.bound (world_of g.Q.EventQueue.set c.args.part.now) event first c.in-Some.ensures.below _ _ _ _ taken c.in_ok-handle_taken.ensures.ok
 
-pub returns-in_err-handle_taken-clause-worn : goal.returns-in_err-handle_taken-clause-worn
-returns-in_err-handle_taken-clause-worn g c =
+pub returns-in_err-handle_taken-clause-overflow : goal.returns-in_err-handle_taken-clause-overflow
+returns-in_err-handle_taken-clause-overflow g c =
     let event = c.in-Some.event in
     let first = first_content content_of (g.Q.EventQueue.set c.args.part.now.queue) event.key event c.in-Some.ensures.first in
-    λ worn. event_wears c.args.setting.now.cluster.scenario.now c.args.setting.now.bound (world_of g.Q.EventQueue.set c.args.part.now) event first c.in-Some.ensures.below (c.in_err-handle_taken.ensures.worn (search rules))
+    λ overflow. event_wears c.args.setting.now.cluster.scenario.now c.args.setting.now.bound (world_of g.Q.EventQueue.set c.args.part.now) event first c.in-Some.ensures.below (c.in_err-handle_taken.ensures.overflow (search rules))

@@ -75,7 +75,7 @@ returns-clause-far g c =
     subst (λ (out : Effects). TakeTheirLinks s opened out.events.items) (sym none)
     (window_far s c.args.setting.now.bound opened (world_of g.Q.EventQueue.set c.loop-spare.part) c.loop-spare.made c.loop-spare.invariant.window c.requires.sound)
 
-pub returns-in_err-advance-clause-worn : goal.returns-in_err-advance-clause-worn
-returns-in_err-advance-clause-worn g c = λ worn.
+pub returns-in_err-advance-clause-overflow : goal.returns-in_err-advance-clause-overflow
+returns-in_err-advance-clause-overflow g c = λ overflow.
     window_wears c.args.setting.now.cluster.scenario.now c.args.setting.now.bound (world_of g.Q.EventQueue.set c.args.part) (world_of g.Q.EventQueue.set c.loop-spare.part) c.loop-spare.made c.loop-spare.invariant.window
-    (c.in_err-advance.ensures.worn (search rules))
+    (c.in_err-advance.ensures.overflow (search rules))

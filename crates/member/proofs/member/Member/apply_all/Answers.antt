@@ -1,7 +1,7 @@
 use Rattle.std.proofs.Common.{refl}
 use Rattle.member.specs.Apply.{all_applied}
-use Rattle.member.proofs.Lists.{applied_next, applied_worn}
-use Rattle.member.proofs.Worn.{refused}
+use Rattle.member.proofs.Lists.{applied_next, applied_overflow}
+use Rattle.member.proofs.CounterOverflow.{refused}
 use Rattle.member.proofs.member.Member.apply_all.Goals as goal
 
 pub loop-update-init : goal.loop-update-init
@@ -18,5 +18,5 @@ loop-update-preserved c = record {
 
 pub returns-in_err-apply : goal.returns-in_err-apply
 returns-in_err-apply c =
-    refused _ _ c.from_residual.ensures.1 (λ h. applied_worn c.args.here.now.scenario.now c.args.telling c.args.here.now.key c.args.updates.now c.loop-update.update-index c.update-item.result
-    _ _ c.loop-update-test.true c.update-item.is c.loop-update.invariant.effect (c.in_err-apply.ensures.worn h))
+    refused _ _ c.from_residual.ensures.1 (λ h. applied_overflow c.args.here.now.scenario.now c.args.telling c.args.here.now.key c.args.updates.now c.loop-update.update-index c.update-item.result
+    _ _ c.loop-update-test.true c.update-item.is c.loop-update.invariant.effect (c.in_err-apply.ensures.overflow h))

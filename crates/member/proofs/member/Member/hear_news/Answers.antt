@@ -2,8 +2,8 @@ use Rattle.std.proofs.Common.{map, subst}
 use Rattle.member.specs.State.{State}
 use Rattle.member.specs.Apply.{news_heard, claim_heard}
 use Rattle.member.specs.StateOf.{pair_of}
-use Rattle.member.specs.Worn.{IsWorn}
-use Rattle.member.proofs.Worn.{kept_passed_on, refused}
+use Rattle.member.specs.CounterOverflow.{IsOverflowed}
+use Rattle.member.proofs.CounterOverflow.{kept_passed_on, refused}
 use Rattle.member.proofs.member.Member.hear_news.Goals as goal
 
 pub returns-in_err-hear_claim : goal.returns-in_err-hear_claim
@@ -14,5 +14,5 @@ returns-in_err-hear_claim c =
     let u = c.args.update.now in
     let effects = c.args.effects.now in
     refused _ _ c.from_residual-in_err-hear_claim.ensures.1 (λ h. kept_passed_on s k c.args.telling u _
-    (subst (λ (t : State). IsWorn (claim_heard s c.args.telling k u u.claim (record { state = t; events = map pair_of effects.events.items; rows = effects.rows.items })).state)
-    c.in_ok-keep_claim.ensures.made.ok (c.in_err-hear_claim.ensures.worn h)))
+    (subst (λ (t : State). IsOverflowed (claim_heard s c.args.telling k u u.claim (record { state = t; events = map pair_of effects.events.items; rows = effects.rows.items })).state)
+    c.in_ok-keep_claim.ensures.made.ok (c.in_err-hear_claim.ensures.overflow h)))

@@ -1,5 +1,5 @@
 use Rattle.member.specs.Step.{push_heard}
-use Rattle.member.proofs.Worn.{kept_merged, refused}
+use Rattle.member.proofs.CounterOverflow.{kept_merged, refused}
 use Rattle.member.proofs.member.Member.hear_push.Goals as goal
 
 pub returns-in_err-send_pull : goal.returns-in_err-send_pull
@@ -7,4 +7,4 @@ unfolding push_heard
 returns-in_err-send_pull c =
     let s = c.args.here.now.scenario.now in
     let k = c.args.here.now.key in
-    refused _ _ c.from_residual.ensures.1 (λ h. kept_merged s k c.args.entries.now _ (c.in_err-send_pull.ensures.worn h))
+    refused _ _ c.from_residual.ensures.1 (λ h. kept_merged s k c.args.entries.now _ (c.in_err-send_pull.ensures.overflow h))

@@ -1,5 +1,5 @@
 use Rattle.std.proofs.Common.{◌≡◌, map, take}
-use Rattle.member.specs.declared.telling.Telling.TheVariants.{Aloud}
+use Rattle.member.specs.declared.announce.Announce.TheVariants.{Aloud}
 use Rattle.member.specs.Here.{HoldsMembers}
 use Rattle.member.specs.Apply.{all_applied}
 use Rattle.member.specs.Step.{merged_claim}

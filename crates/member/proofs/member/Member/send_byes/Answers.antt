@@ -1,7 +1,7 @@
 use Rattle.std.proofs.Common.{refl}
 use Rattle.member.specs.Send.{bye_sent, sent_to_each}
-use Rattle.member.proofs.Lists.{sent_next, sent_worn}
-use Rattle.member.proofs.Worn.{kept_bye, refused}
+use Rattle.member.proofs.Lists.{sent_next, sent_overflow}
+use Rattle.member.proofs.CounterOverflow.{kept_bye, refused}
 use Rattle.member.proofs.member.Member.send_byes.Goals as goal
 
 pub loop-other-init : goal.loop-other-init
@@ -20,5 +20,5 @@ pub returns-in_err-send_bye : goal.returns-in_err-send_bye
 returns-in_err-send_bye c =
     let s = c.args.here.now.scenario.now in
     let k = c.args.here.now.key in
-    refused _ _ c.from_residual.ensures.1 (λ h. sent_worn (bye_sent s k) (kept_bye s k) c.args.others.now c.loop-other.other-index c.other-item.result
-    _ _ c.loop-other-test.true c.other-item.is c.loop-other.invariant.effect (c.in_err-send_bye.ensures.worn h))
+    refused _ _ c.from_residual.ensures.1 (λ h. sent_overflow (bye_sent s k) (kept_bye s k) c.args.others.now c.loop-other.other-index c.other-item.result
+    _ _ c.loop-other-test.true c.other-item.is c.loop-other.invariant.effect (c.in_err-send_bye.ensures.overflow h))

@@ -1,6 +1,6 @@
 use Rattle.std.proofs.Common.{◌≡◌, ◌∙◌, ap, arith, length}
 use Rattle.figures.specs.Cases.{runs_with}
-use Rattle.widths.specs.Widths.{is_narrow}
+use Rattle.sweep_until.specs.Widths.{is_narrow}
 use Rattle.sweep_until.proofs.Counted.{few_with}
 use Rattle.sweep_until.proofs.runs.CaseRuns.is_narrow.Goals as goal
 

@@ -7,7 +7,7 @@ use Rattle.member.specs.StateOf.{state_of}
 use Rattle.member.specs.Here.{HoldsMembers}
 use Rattle.member.specs.Step.{step}
 use Rattle.member.specs.Steps.{Steps}
-use Rattle.member.specs.Worn.{IsWorn}
+use Rattle.member.specs.CounterOverflow.{IsOverflowed}
 use Rattle.member.specs.declared.event.Event.{Event}
 use Rattle.windows.proofs.Slots.{by_place, nobody_past, receiver_at, put_at, put_back}
 use Rattle.windows.proofs.Deliveries.{if_ok, handled_by, handled_by_none}
@@ -60,8 +60,8 @@ returns-clause-ok c =
     (put_at slots i c.step.new.self within ∙ ap (λ q. insert (by_place slots) q (state_of c.step.new.self)) c.receiver_of-receiver.ensures ∙ ap (insert (by_place slots) event.key.to) steps.state)
     steps.events steps.rows)
 
-pub returns-clause-worn : goal.returns-clause-worn
-returns-clause-worn c = λ worn.
+pub returns-clause-overflow : goal.returns-clause-overflow
+returns-clause-overflow c = λ overflow.
     let slots = c.args.self.now.slots.items in
     let i = c.receiver_of-receiver.result in
     let low = c.if-len-receiver.false in
@@ -71,6 +71,6 @@ returns-clause-worn c = λ worn.
     record {
       member = state_of c.in-Some.member;
       there = receiver_at slots i c.args.event.key.to c.index_mut.result.now c.receiver_of-receiver.ensures here ∙ ap (option_map state_of) c.in-Some.is;
-      worn =
-          subst (λ (e : Event). IsWorn (step c.args.cluster.scenario.now e.key e.content (state_of c.in-Some.member)).state) c.in_parts.ensures (c.step.ensures.worn worn);
+      overflow =
+          subst (λ (e : Event). IsOverflowed (step c.args.cluster.scenario.now e.key e.content (state_of c.in-Some.member)).state) c.in_parts.ensures (c.step.ensures.overflow overflow);
     }

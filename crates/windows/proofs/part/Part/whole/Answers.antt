@@ -1,7 +1,7 @@
 use Rattle.std.proofs.Common.{ap, ◌∙◌, sym}
 use Rattle.std.specs.FinMap.{empty}
 use Rattle.base.specs.World.{World}
-use Rattle.member.specs.declared.content.Content.{Content}
+use Rattle.member.specs.declared.event_kind.EventKind.{EventKind}
 use Rattle.member.specs.State.{State}
 use Rattle.worker_queue.proofs.Contents.{contents_by-empty}
 use Rattle.windows.specs.Admitting.{with_member}
@@ -14,7 +14,7 @@ loop-number-init g c = c.new-part.ensures.world ∙ with_pending empty _ _ (ap c
 
 pub admit-requires-clause-earlier : goal.admit-requires-clause-earlier
 admit-requires-clause-earlier g c =
-    scripts_from_below c.args.scenario.now c.loop-number.number (world_of g.Q.EventQueue.set c.loop-number.part).pending (ap (λ (w : World State Content). w.pending) c.loop-number.invariant)
+    scripts_from_below c.args.scenario.now c.loop-number.number (world_of g.Q.EventQueue.set c.loop-number.part).pending (ap (λ (w : World State EventKind). w.pending) c.loop-number.invariant)
 
 pub loop-number-preserved : goal.loop-number-preserved
 loop-number-preserved g c =

@@ -1,8 +1,0 @@
-use Rattle.std.proofs.Common.{◌≡◌, false, not, take}
-use Rattle.std.specs.List.{list_any}
-use Rattle.answers.specs.Wants.{shows}
-use Rattle.answers.proofs.choice.meets.Given as goal
-
--- all so far are shown
-abbrev pub invariant-loop-want : goal.invariant-loop-want
-invariant-loop-want l = list_any (λ want. not (shows want.statistic want.most l.case)) (take l.want-index l.wants) ≡ false

@@ -1,7 +1,0 @@
-use Rattle.std.proofs.Common.{◌≡◌, drop}
-use Rattle.answers.specs.Wants.{more_runs}
-use Rattle.answers.proofs.choice.more_runs.Given as goal
-
--- what is left tells
-abbrev pub invariant-loop-want : goal.invariant-loop-want
-invariant-loop-want l = more_runs (drop l.want-index l.wants) l.case ≡ more_runs l.wants l.case

@@ -1,6 +1,0 @@
-use Rattle.std.proofs.Common.{◌≡◌, take}
-use Rattle.answers.specs.Answers.{showing}
-use Rattle.answers.proofs.telling.showing.Given as goal
-
-abbrev pub invariant-loop-case : goal.invariant-loop-case
-invariant-loop-case l = l.count ≡ showing (take l.case-index l.cases) l.want

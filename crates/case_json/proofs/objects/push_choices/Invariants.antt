@@ -1,7 +1,0 @@
-use Rattle.std.proofs.Common.{◌≡◌, ◌++◌, map, string_bytes, take}
-use Rattle.case_json.specs.Objects.{choice_member}
-use Rattle.case_json.proofs.objects.push_choices.Given as goal
-
--- the keys so far are added
-abbrev pub invariant-loop-choice : goal.invariant-loop-choice
-invariant-loop-choice l = map string_bytes l.members.items ≡ map string_bytes l.fn.members.items ++ map choice_member (take l.choice-index l.chosen)

@@ -1,7 +1,0 @@
-use Rattle.std.proofs.Common.{take}
-use Rattle.cases.specs.Keys.{keys_of_table}
-use Rattle.cases.specs.Listed.{NamesNone}
-use Rattle.cases.proofs.listed.key_in_list.Given as goal
-
-abbrev pub invariant-loop-row : goal.invariant-loop-row
-invariant-loop-row l = NamesNone (keys_of_table l.list (take l.row-index l.rows)) l.word

@@ -1,0 +1,166 @@
+-- How false deaths came about, in words.
+use Rattle.std.specs.Prelude.{ℕ, ◌+◌, ◌-◌, ◌<◌, Bool, nat_eq, nat_lt, if◌then◌else◌, Option, Some, None, List, [], ◌++◌, All, codes, decimal, flat_map, take, length, slice_get}
+use Rattle.std.specs.Option.{option_map_or}
+use Rattle.std.specs.List.{list_any}
+use Rattle.scenario.specs.Setup.{Setup, name_of, member_count}
+use Rattle.trace.specs.Text.{NamesMembers}
+use Rattle.trace.specs.declared.row.What.TheVariants as what
+use Rattle.trace.specs.declared.row.Row.{Row}
+use Rattle.series.specs.declared.lines.Line.{Line}
+use Rattle.series.specs.declared.accusers.Probe.{Probe}
+use Rattle.series.specs.declared.accusers.Accusation.{Accusation}
+use Rattle.series.specs.declared.standing.Refutation.{Refutation}
+use Rattle.series.specs.declared.deaths.Death.{Death}
+use Rattle.series.specs.Deaths.{Reached, line_reached, reaches, accusations, last_refutation, times_heard, deaths_of, IsDeathOf}
+use Rattle.drawing.specs.Escaped.{escaped}
+use Rattle.drawing.specs.Numbers.{grouped}
+use Rattle.drawing.specs.Shapes.{figure_opening, figure_end}
+use Rattle.member_timelines.specs.Numbers.{by_number}
+use Rattle.false_deaths.specs.Troubles.{states}
+
+-- ---- an accuser
+
+-- when its probe began, where that is known; else when it accused
+abbrev pub began : Accusation → ℕ
+began accusation = option_map_or (λ probe. probe.ping.at) accusation.probe accusation.claim.at
+
+-- where a row stands
+unfoldable pub line_words : ℕ → List ℕ
+line_words number = codes ", on line " ++ decimal number
+
+-- how a ping fared
+abbrev pub fate : Bool → List ℕ
+fate lost = if lost then codes ", was lost." else codes ", wasn't lost."
+
+unfoldable pub ping_words : ℕ → ℕ → Bool → List ℕ
+ping_words at line lost = codes " Its ping of " ++ grouped at ++ line_words line ++ fate lost
+
+abbrev pub ping_told : Option Probe → List ℕ
+ping_told (Some probe) = ping_words probe.ping.at probe.ping.number probe.lost
+ping_told None = []
+
+-- who accused the member, when and on which line
+unfoldable pub claim_of : List ℕ → ℕ → ℕ → List ℕ
+claim_of name at number = codes "<li>" ++ escaped name ++ codes " accused it at " ++ grouped at ++ line_words number ++ codes "."
+
+abbrev pub claim_words : Setup → Line → List ℕ
+claim_words s claim = claim_of (name_of s claim.member) claim.at claim.number
+
+-- the same, how its ping fared, and what the accuser was from then on
+unfoldable pub accuser_item : Setup → Accusation → List ℕ
+accuser_item s accusation =
+    claim_words s accusation.claim ++ ping_told accusation.probe ++ states s accusation.claim.member (began accusation) accusation.claim.at ++ codes "</li>"
+
+-- how many accusations more there are than four
+unfoldable pub more_accusers : ℕ → List ℕ
+more_accusers more = codes "<li>" ++ grouped more ++ by_number more (codes " more accusation isn't shown.</li>") (codes " more accusations aren't shown.</li>")
+
+abbrev pub accusers_end : ℕ → List ℕ
+accusers_end count =
+    if nat_eq count 0 then codes "<li>Nobody accused it on its own evidence.</li>"
+    else if nat_lt 4 count then more_accusers (count - 4) else []
+
+-- the first four, and how many more there are
+unfoldable pub accusers_told : Setup → List Accusation → List ℕ
+accusers_told s list = flat_map (accuser_item s) (take 4 list) ++ accusers_end (length list)
+
+-- ---- a death
+
+-- who declared the member dead, on which line and under which number
+unfoldable pub declared_by : List ℕ → ℕ → ℕ → List ℕ
+declared_by name line number =
+    codes "<li>" ++ escaped name ++ codes " declared it dead first" ++ line_words line ++ codes ", under incarnation number " ++ grouped number ++ codes "."
+
+abbrev pub declared_words : Setup → Line → ℕ → List ℕ
+declared_words s line number = declared_by (name_of s line.member) line.number number
+
+-- the same, and what that member was
+unfoldable pub declared_item : Setup → Line → ℕ → List ℕ
+declared_item s line number = declared_words s line number ++ states s line.member line.at line.at ++ codes "</li>"
+
+-- what the member itself was from a moment until its death
+unfoldable pub own_opening : ℕ → List ℕ
+own_opening since = codes "<li>From " ++ grouped since ++ codes " until its death:"
+
+unfoldable pub own_item : Setup → ℕ → ℕ → ℕ → List ℕ
+own_item s subject since at = own_opening since ++ states s subject since at ++ codes "</li>"
+
+-- since when: since the probe of its first accuser began, where it has one
+abbrev pub since_first : List Accusation → ℕ → ℕ
+since_first list at = option_map_or began (slice_get list 0) at
+
+-- its accusers are those of a later suspicion
+abbrev pub later_item : Bool → List ℕ
+later_item is_later = if is_later then codes "<li>It was suspected under a higher incarnation number before that; these are its accusers under that one.</li>" else []
+
+-- when it had last refuted what was said of it, and how many heard of that
+unfoldable pub refuted_item : ℕ → ℕ → ℕ → List ℕ
+refuted_item at line heard =
+    codes "<li>It had last refuted at " ++ grouped at ++ line_words line ++ codes "; members that had heard of that by then: " ++ grouped heard ++ codes ".</li>"
+
+-- the same, where it had
+abbrev pub refuted_told : Option Refutation → ℕ → List ℕ
+refuted_told (Some refutation) heard = refuted_item refutation.line.at refutation.line.number heard
+refuted_told None heard = codes "<li>It had refuted nothing.</li>"
+
+-- what the member itself was, and its last refutation
+unfoldable pub own_told : Setup → ℕ → ℕ → ℕ → Option Refutation → ℕ → List ℕ
+own_told s subject since at refutation heard = own_item s subject since at ++ refuted_told refutation heard
+
+unfoldable pub cause_opening : List ℕ → ℕ → List ℕ
+cause_opening name at = codes "<div class=\"cause\"><h3>" ++ escaped name ++ codes " at " ++ grouped at ++ codes "</h3><ul>"
+
+-- the death of a member on a line, under a number, after these accusations and its last refutation, of which so many heard
+unfoldable pub cause_words : Setup → ℕ → Line → ℕ → Bool → List Accusation → Option Refutation → ℕ → List ℕ
+cause_words s subject line number is_later list refutation heard =
+    cause_opening (name_of s subject) line.at ++ declared_item s line number ++ own_told s subject (since_first list line.at) line.at refutation heard
+    ++ later_item is_later ++ accusers_told s list ++ codes "</ul></div>\n"
+
+-- the subject was suspected under a higher number before it died
+abbrev pub is_later : ℕ → Reached → Bool
+is_later subject r = list_any (reaches what.Suspect subject (r.row.value + 1)) r.earlier
+
+-- the same of a row
+abbrev pub cause : Setup → Reached → List ℕ
+cause s r = option_map_or (λ subject. cause_words s subject (line_reached r) r.row.value (is_later subject r) (accusations subject r.earlier) (last_refutation subject r.earlier) (times_heard subject r.earlier)) r.row.about []
+
+-- ---- all deaths
+
+unfoldable pub more_words : ℕ → List ℕ
+more_words more = codes "<p class=\"soft\">" ++ grouped more ++ by_number more (codes " more isn't shown.</p>") (codes " more aren't shown.</p>")
+
+abbrev pub more_told : ℕ → List ℕ
+more_told count = if nat_lt 20 count then more_words (count - 20) else []
+
+unfoldable pub intro : List ℕ
+intro = codes "<p class=\"soft\">Each false death that is the first under its member's incarnation number: the later ones under that number follow from it, or have the same cause.</p>"
+
+-- the first twenty, and how many more there are
+unfoldable pub causes_figure : Setup → List Reached → List ℕ
+causes_figure s deaths =
+    figure_opening (codes "causes") (codes "How false deaths came about") ++ intro ++ flat_map (cause s) (take 20 deaths) ++ more_told (length deaths) ++ figure_end
+
+-- the same, where there are any
+abbrev pub causes_where : Setup → List Reached → ℕ → List ℕ
+causes_where s deaths count = if nat_eq count 0 then [] else causes_figure s deaths
+
+-- the same of these rows
+abbrev pub causes_text : Setup → List Row → List ℕ
+causes_text s rows = causes_where s (deaths_of rows) (length (deaths_of rows))
+
+-- ---- names
+
+-- these accusers are members of the cluster
+abbrev pub AreNamed : Setup → List Accusation → Type 0
+AreNamed s list = All (λ accusation. accusation.claim.member < member_count s) list
+
+-- the row and those before it name members of the cluster
+pub record IsNamed (s : Setup) (r : Reached) : Type 0 where
+  pub row : NamesMembers s r.row
+  pub earlier : All (NamesMembers s) r.earlier
+
+-- a death is that of a row whose names are known
+pub record CanTell (s : Setup) (death : Death) : Type 0 where
+  pub reached : Reached
+  pub is : IsDeathOf death reached
+  pub named : IsNamed s reached

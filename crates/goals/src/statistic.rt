@@ -1,0 +1,83 @@
+//! The statistics of a case of which something may be wanted.
+ghost use Rattle.std.specs.Prelude.{◌≡◌, ◌≤◌, ◌++◌, IfSome, IsNone, codes};
+ghost use Rattle.goals.specs.Statistics.{word_of, figure_of, parts_of};
+ghost use Rattle.goals.specs.declared.statistic.Statistic.{Statistic as AnyStatistic};
+
+use figures::CaseSummary;
+
+/// A statistic of a case, with the name of its column among the lines of cases; `out` is the share of the runs in which
+/// members were thrown out, from 0 to 1.
+#[derive(Clone, Copy, Debug, PartialEq, Eq)]
+pub enum Statistic {
+    Out,
+    SuspectP50,
+    ConfirmP50,
+    ConfirmP99,
+    ConfirmGreatest,
+    LastP50,
+    LastGreatest,
+    FalseSuspect,
+    ThrownOut,
+    Messages,
+}
+
+impl Statistic {
+    /// The statistic whose name and a less-than sign these are, as `out<`.
+    pub(crate) fn before(word: &str) -> Option<Statistic>
+        ensures some { IfSome result (λ statistic. word_of statistic ++ codes "<" ≡ word.now) }
+        ensures none { IsNone result → (statistic : AnyStatistic) → ¬ (word_of statistic ++ codes "<" ≡ word.now) }
+    {
+        match word {
+            "out<" => Some(Statistic::Out),
+            "suspect_p50<" => Some(Statistic::SuspectP50),
+            "confirm_p50<" => Some(Statistic::ConfirmP50),
+            "confirm_p99<" => Some(Statistic::ConfirmP99),
+            "confirm_greatest<" => Some(Statistic::ConfirmGreatest),
+            "last_p50<" => Some(Statistic::LastP50),
+            "last_greatest<" => Some(Statistic::LastGreatest),
+            "false_suspect<" => Some(Statistic::FalseSuspect),
+            "thrown_out<" => Some(Statistic::ThrownOut),
+            "messages<" => Some(Statistic::Messages),
+            _ => None,
+        }
+    }
+
+    /// The figure of a case: times in ticks and members as they are, rates in hundredths. `out` has none.
+    pub(crate) fn figure(self, case: &CaseSummary) -> Option<u128>
+        ensures { result ≡ figure_of self case.now }
+    {
+        match self {
+            Statistic::Out => None,
+            Statistic::SuspectP50 => ticks(case.suspect_p50),
+            Statistic::ConfirmP50 => ticks(case.confirm_p50),
+            Statistic::ConfirmP99 => ticks(case.confirm_p99),
+            Statistic::ConfirmGreatest => ticks(case.confirm_greatest),
+            Statistic::LastP50 => ticks(case.last_p50),
+            Statistic::LastGreatest => ticks(case.last_greatest),
+            Statistic::FalseSuspect => Some(case.false_suspect),
+            Statistic::ThrownOut => Some(case.thrown_out),
+            Statistic::Messages => case.messages,
+        }
+    }
+
+    /// How many parts of its figure make one.
+    pub(crate) fn parts(self) -> u128
+        ensures parts { result ≡ parts_of self }
+        ensures few { result ≤ 100 }
+    {
+        match self {
+            Statistic::FalseSuspect | Statistic::Messages => 100,
+            _ => 1,
+        }
+    }
+}
+
+/// A time as a figure.
+pub(crate) fn ticks(time: Option<u64>) -> Option<u128>
+    ensures { result ≡ time }
+{
+    match time {
+        Some(ticks) => Some(u128::from(ticks)),
+        None => None,
+    }
+}

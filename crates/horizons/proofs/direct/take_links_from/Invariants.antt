@@ -1,7 +1,0 @@
-use Rattle.scenario.specs.Setup.{Setup}
-use Rattle.horizons.specs.Between.{part_number}
-use Rattle.horizons.specs.Direct.{BelongTo, AreDirectUpTo}
-use Rattle.horizons.proofs.direct.take_links_from.Given as goal
-
-abbrev pub invariant-loop-to : goal.invariant-loop-to
-invariant-loop-to l = (s : Setup) → BelongTo l.links l.division l.twins s → AreDirectUpTo l.division.parts s (part_number l.division) l.from 0 l.fn.lengths → AreDirectUpTo l.division.parts s (part_number l.division) l.from l.to l.lengths

@@ -1,5 +1,0 @@
-use Rattle.joins.proofs.Again.{put_again}
-use Rattle.joins.proofs.laws.the_table_alone_is_put_again.Goals as goal
-
-pub returns : goal.returns
-returns c texts again table put sweep read revived told cases others joins alone later = put_again texts again table put sweep read revived told cases others joins alone later

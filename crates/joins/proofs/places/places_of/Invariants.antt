@@ -1,6 +1,0 @@
-use Rattle.joins.specs.Reasons.{ArePlaces}
-use Rattle.joins.proofs.places.places_of.Given as goal
-
--- the texts so far have their places
-abbrev pub invariant-loop-place : goal.invariant-loop-place
-invariant-loop-place l = ArePlaces l.texts l.head.mark.now l.head.revived l.head.plan l.head.piece.of l.places.items l.place

@@ -1,0 +1,11 @@
+pub mod Gates
+pub mod Faults
+pub mod Before
+pub mod Plan
+pub mod Starts
+pub mod Messages
+pub mod Lots
+pub mod Basis
+pub mod Bounds
+pub mod Walks
+pub mod Windows

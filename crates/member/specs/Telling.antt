@@ -1,9 +1,0 @@
--- Whether what an update changes is told of by rows and passed on.
-use Rattle.std.specs.Prelude.{Bool, true, false}
-use Rattle.member.specs.declared.telling.Telling.{Telling}
-use Rattle.member.specs.declared.telling.Telling.TheVariants.{Aloud, Quietly}
-
--- what a member hears in a message or makes itself it tells aloud, an entry that a welcome brought it takes over quietly
-abbrev pub is_aloud : Telling → Bool
-is_aloud Aloud = true
-is_aloud Quietly = false

@@ -1,0 +1,199 @@
+//! False deaths: who declared members dead that were up.
+ghost use Rattle.std.specs.Prelude.{◌≡◌, ◌<◌, ◌≤◌, ◌++◌, OnOk, IfSome, All, count_by, flat_map, take, min};
+ghost use Rattle.std.specs.String.{string_bytes};
+ghost use Rattle.scenario.specs.Setup.{Setup, member_count};
+ghost use Rattle.member_timelines.specs.Run.{IsTold};
+ghost use Rattle.member_timelines.specs.ThrownOut.{is_out, thrown_out_text, thrown_out_figure, columns, row_of, row, first_cells, condition_cell, cell, refute_cells, claim_cells, condition_of, is_cut_off, is_cut_then};
+
+use crate::chosen::{Chosen, first_lanes};
+use crate::lane::is_cut_of;
+use crate::run::Run;
+use crate::told::times_back;
+use base::{MemberId, Moment};
+use drawing::{close_figure, open_figure, push_escaped, push_grouped};
+use scenario::Cut;
+use series::Line;
+use std::alloc::AllocError;
+
+/// The most rows of the table.
+const ROWS: usize = 200;
+
+/// Appends the table of those of these members that have a false death: they come first.
+pub fn push_thrown_out(text: &mut String, run: &Run, all: &[Chosen]) -> Result<(), AllocError>
+    requires told { IsTold run.now }
+    requires within { All (λ lane. lane.member < member_count run.now.scenario.now) all.now }
+    ensures { OnOk result (string_bytes text.new ≡ string_bytes text.old ++ thrown_out_text run.now.scenario.now run.now.tallies.now all.now) }
+{
+    let out = count_out(all);
+    if out == 0 {
+        return Ok(());
+    }
+    push_figure(text, run, first_lanes(all, out.min(ROWS)))
+}
+
+/// How many of these have a false death.
+fn count_out(all: &[Chosen]) -> usize
+    ensures value { result ≡ count_by is_out all.now }
+{
+    all.iter().filter(|lane| lane.wrongly() > 0).count()
+}
+
+/// Appends the table of these.
+#[tactic(auto, unfolding(crate::specs::ThrownOut::thrown_out_figure))]
+fn push_figure(text: &mut String, run: &Run, lanes: &[Chosen]) -> Result<(), AllocError>
+    requires told { IsTold run.now }
+    requires within { All (λ lane. lane.member < member_count run.now.scenario.now) lanes.now }
+    ensures { OnOk result (string_bytes text.new ≡ string_bytes text.old ++ thrown_out_figure run.now.scenario.now run.now.tallies.now lanes.now) }
+{
+    open_figure(text, "false-deaths", "False deaths")?;
+    push_head(text)?;
+    push_rows(text, run, lanes)?;
+    text.push_str("</table></div>")?;
+    close_figure(text)?;
+    Ok(())
+}
+
+/// Appends what the columns are.
+#[tactic(auto, unfolding(crate::specs::ThrownOut::columns))]
+fn push_head(text: &mut String) -> Result<(), AllocError>
+    ensures { OnOk result (string_bytes text.new ≡ string_bytes text.old ++ columns) }
+{
+    text.push_str(
+        "<div class=\"wide\"><table><tr><th>member<th>first declared dead<th>by<th>line of the trace<th>false deaths<th>declared alive again<th>its state then<th>failed probes of it<th>last refutation<th>line of the trace</tr>\n",
+    )
+}
+
+/// Appends the rows of these.
+fn push_rows(text: &mut String, run: &Run, lanes: &[Chosen]) -> Result<(), AllocError>
+    requires told { IsTold run.now }
+    requires within { All (λ lane. lane.member < member_count run.now.scenario.now) lanes.now }
+    ensures { OnOk result (string_bytes text.new ≡ string_bytes text.old ++ flat_map (row_of run.now.scenario.now run.now.tallies.now) lanes.now) }
+{
+    for lane in lanes {
+        push_row(text, run, MemberId(lane.member), lane.wrongly())?;
+    }
+    Ok(())
+}
+
+/// Appends one row.
+#[tactic(auto, unfolding(crate::specs::ThrownOut::row))]
+fn push_row(text: &mut String, run: &Run, member: MemberId, times: u64) -> Result<(), AllocError>
+    requires told { IsTold run.now }
+    requires within { member < member_count run.now.scenario.now }
+    ensures { OnOk result (string_bytes text.new ≡ string_bytes text.old ++ row run.now.scenario.now run.now.tallies.now member times) }
+{
+    push_first_cells(text, run, member, run.first_confirm(member))?;
+    push_cell(text, times)?;
+    push_cell(text, times_back(run, member))?;
+    push_condition(text, run, member, run.first_confirm(member))?;
+    push_cell(text, run.story(member).fails())?;
+    push_refute(text, run.last_refute(member))?;
+    text.push_str("\n")?;
+    Ok(())
+}
+
+/// Appends the first cells of a row: of whom it is, and who first declared it dead.
+#[tactic(auto, unfolding(crate::specs::ThrownOut::first_cells))]
+fn push_first_cells(
+    text: &mut String,
+    run: &Run,
+    member: MemberId,
+    first: Option<Line>,
+) -> Result<(), AllocError>
+    requires within { member < member_count run.now.scenario.now }
+    requires named { IfSome first (λ line. line.member < member_count run.now.scenario.now) }
+    ensures { OnOk result (string_bytes text.new ≡ string_bytes text.old ++ first_cells run.now.scenario.now member first) }
+{
+    text.push_str("<tr><td>")?;
+    push_escaped(text, run.scenario.name(member))?;
+    push_claim(text, run, first)
+}
+
+/// Appends what the member was when it was first declared dead.
+fn push_condition(
+    text: &mut String,
+    run: &Run,
+    member: MemberId,
+    first: Option<Line>,
+) -> Result<(), AllocError>
+    requires { member < member_count run.now.scenario.now }
+    ensures { OnOk result (string_bytes text.new ≡ string_bytes text.old ++ condition_cell run.now.scenario.now member first) }
+{
+    text.push_str("<td>")?;
+    text.push_str(condition_at(run, member, first))
+}
+
+/// Appends a cell with a number.
+fn push_cell(text: &mut String, number: u64) -> Result<(), AllocError>
+    ensures { OnOk result (string_bytes text.new ≡ string_bytes text.old ++ cell number) }
+{
+    text.push_str("<td>")?;
+    push_grouped(text, number)
+}
+
+/// Appends when a claim was made, by whom, and where it stands.
+#[tactic(auto, unfolding(crate::specs::ThrownOut::claim_cells))]
+fn push_claim(text: &mut String, run: &Run, claim: Option<Line>) -> Result<(), AllocError>
+    requires { IfSome claim (λ line. line.member < member_count run.now.scenario.now) }
+    ensures { OnOk result (string_bytes text.new ≡ string_bytes text.old ++ claim_cells run.now.scenario.now claim) }
+{
+    let Some(line) = claim else {
+        return text.push_str("<td>-<td>-<td>-");
+    };
+    text.push_str("<td>")?;
+    push_grouped(text, line.at.ticks())?;
+    text.push_str("<td>")?;
+    push_escaped(text, run.scenario.name(line.member))?;
+    let number = line.number;
+    write!(text, "<td>{number}")
+}
+
+/// Appends when the member last refuted what was said of it.
+#[tactic(auto, unfolding(crate::specs::ThrownOut::refute_cells))]
+fn push_refute(text: &mut String, last: Option<Line>) -> Result<(), AllocError>
+    ensures { OnOk result (string_bytes text.new ≡ string_bytes text.old ++ refute_cells last) }
+{
+    let Some(line) = last else {
+        return text.push_str("<td>never<td>");
+    };
+    text.push_str("<td>")?;
+    push_grouped(text, line.at.ticks())?;
+    let number = line.number;
+    write!(text, "<td>{number}")
+}
+
+/// What the member was when it was first declared dead.
+fn condition_at(run: &Run, member: MemberId, first: Option<Line>) -> &'static str
+    requires { member < member_count run.now.scenario.now }
+    ensures { result.now ≡ condition_of run.now.scenario.now member first }
+{
+    let Some(line) = first else {
+        return "";
+    };
+    if run.scenario.awake(member, line.at) > line.at {
+        return "paused";
+    }
+    if run.scenario.extra(member, line.at) > 0 {
+        return "slow";
+    }
+    let group = run.scenario.group_number(member);
+    if is_cut_off(run.scenario.cuts(), group, line.at) {
+        "cut off"
+    } else {
+        "well"
+    }
+}
+
+/// Whether a group is cut off at a moment.
+fn is_cut_off(cuts: &[Cut], group: usize, at: Moment) -> bool
+    ensures { result ≡ is_cut_off cuts.now group at }
+{
+    cuts.iter().any(|cut| is_cut_then(cut, group, at))
+}
+
+/// Whether a cut is one of a group's and holds at a moment.
+fn is_cut_then(cut: &Cut, group: usize, at: Moment) -> bool
+    ensures { result ≡ is_cut_then group at cut.now }
+{
+    is_cut_of(cut, group) && cut.at <= at && at < cut.until
+}

@@ -1,0 +1,211 @@
+//! What happened to a member, in words.
+ghost use Rattle.std.specs.Prelude.{◌≡◌, ◌<◌, ◌≤◌, ◌++◌, OnOk, codes, count_by};
+ghost use Rattle.std.specs.String.{string_bytes};
+ghost use Rattle.scenario.specs.Setup.{member_count};
+ghost use Rattle.reports.specs.Rows.{rows_in_place};
+ghost use Rattle.series.specs.Stories.{revives_in};
+ghost use Rattle.drawing.specs.Numbers.{grouped};
+ghost use Rattle.member_timelines.specs.Numbers.{by_number};
+ghost use Rattle.member_timelines.specs.Run.{IsTold};
+ghost use Rattle.series.specs.Watched.{at_by};
+ghost use Rattle.member_timelines.specs.Told.{story_words, times_back, out_words, departed_words, from_first, back_words, again_words, death_words, wrongly_words, departure_words, found_at, found_words, unharmed_words};
+
+use crate::numbers::by_number;
+use crate::run::Run;
+use base::{MemberId, Moment};
+use drawing::push_grouped;
+use series::Line;
+use std::alloc::AllocError;
+
+/// Appends what happened to the member, which has so many false deaths.
+#[tactic(auto, unfolding(crate::specs::Told::story_words))]
+pub(crate) fn push_told(
+    text: &mut String,
+    run: &Run,
+    member: MemberId,
+    wrongly: u64,
+) -> Result<(), AllocError>
+    requires told { IsTold run.now }
+    requires within { member < member_count run.now.scenario.now }
+    ensures { OnOk result (string_bytes text.new ≡ string_bytes text.old ++ story_words run.now.scenario.now run.now.tallies.now member wrongly) }
+{
+    let back = times_back(run, member);
+    push_out(text, wrongly, back, run.first_confirm(member))?;
+    push_departed(
+        text,
+        wrongly > 0,
+        run.first_confirm(member),
+        run.last_refute(member),
+        run.by_end(run.scenario.crash(member)),
+        run.by_end(run.scenario.leave(member)),
+    )
+}
+
+/// How often others declared a member alive again, as far as 64 bits hold it.
+pub(crate) fn times_back(run: &Run, member: MemberId) -> u64
+    requires told { IsTold run.now }
+    requires within { member < member_count run.now.scenario.now }
+    ensures { result ≡ times_back run.now.scenario.now run.now.tallies.now member }
+{
+    let mut times: u64 = 0;
+    for span in 0..run.spans() {
+        times = times.saturating_add(revived_in(run, member, span));
+    }
+    times
+}
+
+/// How often they did so in a span.
+fn revived_in(run: &Run, member: MemberId, span: usize) -> u64
+    requires told { IsTold run.now }
+    requires within { member < member_count run.now.scenario.now }
+    requires few { span < 120 }
+    ensures { result ≡ count_by (revives_in run.now.scenario.now member span) (rows_in_place run.now.tallies.now) }
+{
+    run.story(member).revived(span)
+}
+
+/// Appends the false deaths of a member, where it has some.
+fn push_out(text: &mut String, times: u64, back: u64, first: Option<Line>) -> Result<(), AllocError>
+    ensures { OnOk result (string_bytes text.new ≡ string_bytes text.old ++ out_words times back first) }
+{
+    if times > 0 {
+        return push_wrongly(text, times, back, first);
+    }
+    Ok(())
+}
+
+/// Appends how and when the member departed and when others declared it dead, after other words or alone;
+/// or what became of it where it didn't depart.
+#[tactic(auto, unfolding(crate::specs::Told::departed_words))]
+fn push_departed(
+    text: &mut String,
+    is_out: bool,
+    first: Option<Line>,
+    last: Option<Line>,
+    crash: Option<Moment>,
+    leave: Option<Moment>,
+) -> Result<(), AllocError>
+    ensures { OnOk result (string_bytes text.new ≡ string_bytes text.old ++ departed_words is_out first last crash leave) }
+{
+    if let Some(at) = crash {
+        push_departure(text, is_out, "crashed at ", at)?;
+        return push_found(text, first);
+    }
+    if let Some(at) = leave {
+        push_departure(text, is_out, "left at ", at)?;
+        return push_found(text, first);
+    }
+    if is_out {
+        return Ok(());
+    }
+    push_unharmed(text, last)
+}
+
+/// Appends how often others declared the member dead while it was up, when they first did, and how
+/// often they declared it alive again.
+#[tactic(auto, unfolding(crate::specs::Told::wrongly_words))]
+fn push_wrongly(
+    text: &mut String,
+    times: u64,
+    back: u64,
+    first: Option<Line>,
+) -> Result<(), AllocError>
+    ensures { OnOk result (string_bytes text.new ≡ string_bytes text.old ++ wrongly_words times back first) }
+{
+    push_deaths(text, times)?;
+    push_first(text, first)?;
+    push_back(text, back)
+}
+
+/// Appends how many false deaths a member has.
+#[tactic(auto, unfolding(crate::specs::Told::death_words))]
+fn push_deaths(text: &mut String, times: u64) -> Result<(), AllocError>
+    ensures { OnOk result (string_bytes text.new ≡ string_bytes text.old ++ death_words times) }
+{
+    text.push_str("<b>")?;
+    push_grouped(text, times)?;
+    text.push_str(by_number(times, " false death</b>", " false deaths</b>"))?;
+    Ok(())
+}
+
+/// Appends when the member was first declared dead, where it was.
+fn push_first(text: &mut String, first: Option<Line>) -> Result<(), AllocError>
+    ensures { OnOk result (string_bytes text.new ≡ string_bytes text.old ++ from_first (codes ", first at ") first) }
+{
+    match first {
+        Some(line) => {
+            text.push_str(", first at ")?;
+            push_grouped(text, line.at.ticks())
+        }
+        None => Ok(()),
+    }
+}
+
+/// Appends how often the member was declared alive again, where it was.
+fn push_back(text: &mut String, times: u64) -> Result<(), AllocError>
+    ensures { OnOk result (string_bytes text.new ≡ string_bytes text.old ++ back_words times) }
+{
+    if times > 0 {
+        return push_times_back(text, times);
+    }
+    Ok(())
+}
+
+/// Appends that the member was declared alive again so often.
+#[tactic(auto, unfolding(crate::specs::Told::again_words))]
+fn push_times_back(text: &mut String, times: u64) -> Result<(), AllocError>
+    ensures { OnOk result (string_bytes text.new ≡ string_bytes text.old ++ again_words times) }
+{
+    text.push_str(", declared alive again ")?;
+    push_grouped(text, times)?;
+    text.push_str(by_number(times, " time", " times"))?;
+    Ok(())
+}
+
+/// Appends how and when the member departed, after other words or alone.
+#[tactic(auto, unfolding(crate::specs::Told::departure_words))]
+fn push_departure(
+    text: &mut String,
+    is_more: bool,
+    words: &str,
+    at: Moment,
+) -> Result<(), AllocError>
+    ensures { OnOk result (string_bytes text.new ≡ string_bytes text.old ++ departure_words is_more words.now at) }
+{
+    if is_more {
+        text.push_str("; ")?;
+    }
+    text.push_str(words)?;
+    push_grouped(text, at.ticks())
+}
+
+/// Appends when others first declared a member dead that crashed or left.
+fn push_found(text: &mut String, first: Option<Line>) -> Result<(), AllocError>
+    ensures { OnOk result (string_bytes text.new ≡ string_bytes text.old ++ found_words first) }
+{
+    match first {
+        Some(line) => push_found_at(text, line.at.ticks()),
+        None => text.push_str(", never declared dead"),
+    }
+}
+
+/// Appends that others first declared it dead then.
+#[tactic(auto, unfolding(crate::specs::Told::found_at))]
+fn push_found_at(text: &mut String, at: u64) -> Result<(), AllocError>
+    ensures { OnOk result (string_bytes text.new ≡ string_bytes text.old ++ found_at at) }
+{
+    text.push_str(", first declared dead at ")?;
+    push_grouped(text, at)?;
+    Ok(())
+}
+
+/// Appends what became of a member that neither departed nor has a false death.
+#[tactic(auto, unfolding(crate::specs::Told::unharmed_words))]
+fn push_unharmed(text: &mut String, last: Option<Line>) -> Result<(), AllocError>
+    ensures { OnOk result (string_bytes text.new ≡ string_bytes text.old ++ unharmed_words last) }
+{
+    match last {
+        Some(_) => text.push_str("suspected, and refuted it"),
+        None => text.push_str("never declared dead"),
+    }
+}

@@ -1,6 +1,0 @@
-use Rattle.std.proofs.Common.{◌≡◌, true}
-use Rattle.mistakes.specs.Told.{are_from}
-use Rattle.mistakes.proofs.telling.from_rule.Given as goal
-
-abbrev pub invariant-loop-mistake : goal.invariant-loop-mistake
-invariant-loop-mistake l = are_from l.rule l.list.items ≡ true

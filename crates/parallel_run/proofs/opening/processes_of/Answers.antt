@@ -1,0 +1,65 @@
+use Rattle.std.proofs.Common.{◌≡◌, ◌<◌, [], ◌∷◌, ◌++◌, map, length, Vec, Global, append_assoc, refl, ap, ◌∙◌, sym, subst, arith}
+use Rattle.std.specs.List.{AllByRecursion}
+use Rattle.std.proofs.lemmas.List.{length-append, length-map}
+use Rattle.std.proofs.lemmas.Option.{slice_get_read}
+use Rattle.member.specs.Opening.{opening}
+use Rattle.lookahead_windows.specs.Starts.{IsFirstMoment}
+use Rattle.turns.proofs.Coming.{same_count, elsewhere}
+use Rattle.parallel_run.specs.declared.peers.Peer.{Peer}
+use Rattle.parallel_run.specs.declared.process.Process.{Process}
+use Rattle.parallel_run.specs.declared.connections.Connections.{Connections}
+use Rattle.parallel_run.specs.Peers.{AreJoined, AreOthers, numbers_of}
+use Rattle.parallel_run.specs.Processes.{IsReady}
+use Rattle.parallel_run.proofs.Joining.{rings_of, joined_there}
+use Rattle.parallel_run.proofs.JoiningPlaces.{all_with_one}
+use Rattle.parallel_run.proofs.PeersOpening.{begins_first}
+use Rattle.parallel_run.proofs.WorkerRounds.{gathers_none}
+use Rattle.parallel_run.proofs.opening.processes_of.Goals as goal
+
+pub loop-part-init : goal.loop-part-init
+loop-part-init g c =
+    let parts = c.args.parts.items in
+    let peers = c.in_ok-peers.peers.items in
+    let are = subst (λ n. AreJoined n (map rings_of peers)) c.requires.bells c.in_ok-peers.ensures in
+    record {
+      left = c.into_iter-part-iterator.ensures.into_iter_gives.0;
+      count = ap length c.new-processes.ensures.items;
+      takers = ap length c.new-takers.ensures.items;
+      rings = sym (length-map peers rings_of) ∙ are.counted;
+      others = λ i own low here. joined_there (length parts) i peers own are here;
+      processes = λ basis is. subst (AllByRecursion (IsReady g.Q.EventQueue.set basis)) (sym c.new-processes.ensures.items) tt;
+    }
+
+pub loop-part-preserved : goal.loop-part-preserved
+loop-part-preserved g c =
+    let yielded = c.loop-part.yielded in
+    let part = c.in-Some.part in
+    let rest = c.next.new.self.rest.items in
+    let peers = c.loop-part.peers.items in
+    let number = c.len-number.result in
+    let so_far = c.loop-part.invariant in
+    let all = ap (λ l. yielded ++ l) (sym c.in-Some.ensures.steps.0) ∙ so_far.left in
+    let more = length-append yielded (part ∷ []) in
+    let count = ap length all in
+    let whole = length-append yielded (part ∷ rest) in
+    let is_next : number ≡ length yielded = omega (arith, c.len-number.ensures, so_far.count) in
+    let below : number < length peers = omega (arith, so_far.rings, count, whole) in
+    let own = c.replace-own.result in
+    let there = slice_get_read peers (length peers) number c.index_mut.result.now refl below c.index_mut.ensures.value in
+    let others =
+    subst (λ n. AreOthers (length c.args.parts.items) n (numbers_of own.items)) is_next
+    (subst (λ (v : Vec (Peer g.row.K.Denot) Global). AreOthers (length c.args.parts.items) number (numbers_of v.items)) (sym c.replace-own.ensures.value) (so_far.others number c.index_mut.result.now (omega arith) there)) in
+    let lines : Connections g.row.K.Denot = record { number = number; peers = own; lots = c.in_ok-lots.lots } in
+    let process : Process g.row.K.Denot g.row.Q.Denot = record { part = part; round = 0; first = c.same_moment.result; gathered = c.new-gathered.result; lines = lines } in
+    record {
+      left = append_assoc yielded (part ∷ []) rest ∙ all;
+      count = omega (arith, c.in_ok-push.ensures.len, more, so_far.count);
+      takers = omega (arith, c.in_ok-push-2.ensures.len, more, so_far.takers);
+      rings = same_count peers number c.replace-own.new.dest ∙ so_far.rings;
+      others = λ i peers low here. so_far.others i peers (omega (arith, more)) (sym (elsewhere c.loop-part.peers.items number i c.replace-own.new.dest (λ same. omega (arith, more))) ∙ here);
+      processes = λ basis is.
+          let given = c.requires.run basis is in
+          let begun = begins_first g.Q.EventQueue.set basis c.args.parts.items yielded rest part c.same_moment.result lines given.1 (subst (IsFirstMoment (opening basis.setup)) (sym c.same_moment.ensures) given.2) all is_next others in
+          all_with_one (IsReady g.Q.EventQueue.set basis) c.loop-part.processes.items c.push.new.self.items process c.in_ok-push.ensures.items (so_far.processes basis is)
+          (record { begins = begun.0; gathered = gathers_none basis given.0 number c.new-gathered.result c.new-gathered.ensures.since c.new-gathered.ensures.none; lines = begun.1 });
+    }

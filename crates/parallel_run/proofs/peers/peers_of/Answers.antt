@@ -1,0 +1,21 @@
+use Rattle.std.proofs.Common.{map, ◌∙◌, sym, subst, arith}
+use Rattle.std.proofs.lemmas.List.{length-map}
+use Rattle.parallel_run.specs.Peers.{AreJoined}
+use Rattle.parallel_run.proofs.Joining.{rings_of, all_joined}
+use Rattle.parallel_run.proofs.peers.peers_of.Goals as goal
+
+pub joined-requires-clause-more : goal.joined-requires-clause-more
+joined-requires-clause-more g c =
+    let many = sym (length-map c.loop-bell.all.items rings_of) ∙ c.loop-bell.invariant.joined.counted in
+    omega arith
+
+pub joined-requires-clause-joined : goal.joined-requires-clause-joined
+joined-requires-clause-joined g c =
+    let many = sym (length-map c.loop-bell.all.items rings_of) ∙ c.loop-bell.invariant.joined.counted in
+    subst (λ n. AreJoined n (map rings_of c.loop-bell.all.items)) (sym many) c.loop-bell.invariant.joined
+
+pub loop-bell-preserved : goal.loop-bell-preserved
+loop-bell-preserved g c = record {
+  joined = all_joined c.loop-bell.bell-index c.loop-bell.all.items c.joined.new.before.items c.push.new.self.items c.in_ok-peers.peers c.loop-bell.invariant.joined
+      c.in_ok-peers.ensures.count c.in_ok-push.ensures.items c.in_ok-peers.ensures.before c.in_ok-peers.ensures.own;
+}

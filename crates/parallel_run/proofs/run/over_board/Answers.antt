@@ -1,0 +1,16 @@
+use Rattle.std.proofs.Common.{Err, refl, sym, subst}
+use Rattle.run_output.specs.Traced.{KeepsTrace}
+use Rattle.run_output.proofs.Early.{unwritten}
+use Rattle.parallel_run.proofs.run.over_board.Goals as goal
+
+pub returns-in-Err-clause-trace : goal.returns-in-Err-clause-trace
+returns-in-Err-clause-trace g c =
+    let s = c.args.rounds.now.cluster.scenario.now in
+    let held = g.T.RowSink.held in
+    let failed = g.T.RowSink.failed in
+    let old = c.args.place.now in
+    subst (λ new. KeepsTrace s (held old) (held new) (failed old) (failed new) (Err c.in-Err.fault)) (sym c.in-Err.ensures.unwritten)
+    (unwritten s (held old) (failed old) (Err c.in-Err.fault) c.in-Err.fault c.requires.start.going.basis.plan.sound refl c.in-Err.ensures.fault)
+
+pub returns-clause-trace : goal.returns-clause-trace
+returns-clause-trace g c = c.closed.ensures.keeps _ _ _ _ _ c.in-Ok.ensures.trace

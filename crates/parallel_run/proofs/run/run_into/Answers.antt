@@ -1,0 +1,44 @@
+use Rattle.std.proofs.Common.{length, ap, ◌∙◌, sym, subst}
+use Rattle.lookahead.specs.Between.{part_number}
+use Rattle.lookahead_windows.specs.Plan.{AreWaysInto}
+use Rattle.lookahead_windows.specs.Basis.{way_at}
+use Rattle.run_output.proofs.Early.{no_memory}
+use Rattle.lookahead_windows.specs.Basis.{basis_of}
+use Rattle.lookahead_windows.specs.Walks.{AreRoundWays}
+use Rattle.parallel_run.proofs.GateBounds.{awaits_rounds, ways_of}
+use Rattle.parallel_run.proofs.run.run_into.Goals as goal
+
+pub returns-in_err-links-clause-trace : goal.returns-in_err-links-clause-trace
+returns-in_err-links-clause-trace g c = no_memory c.args.scenario.now (g.T.RowSink.held c.args.place.now) (g.T.RowSink.failed c.args.place.now) c.from_residual.result c.end-end.ensures.sound c.from_residual.ensures.1
+
+pub returns-in_err-parts-clause-trace : goal.returns-in_err-parts-clause-trace
+returns-in_err-parts-clause-trace g c = no_memory c.args.scenario.now (g.T.RowSink.held c.args.place.now) (g.T.RowSink.failed c.args.place.now) c.from_residual-in_err-parts.result c.end-end.ensures.sound c.from_residual-in_err-parts.ensures.1
+
+pub returns-in_err-walks-clause-trace : goal.returns-in_err-walks-clause-trace
+returns-in_err-walks-clause-trace g c = no_memory c.args.scenario.now (g.T.RowSink.held c.args.place.now) (g.T.RowSink.failed c.args.place.now) c.from_residual-in_err-walks.result c.end-end.ensures.sound c.from_residual-in_err-walks.ensures.1
+
+pub returns-in_err-ways-clause-trace : goal.returns-in_err-ways-clause-trace
+returns-in_err-ways-clause-trace g c = no_memory c.args.scenario.now (g.T.RowSink.held c.args.place.now) (g.T.RowSink.failed c.args.place.now) c.from_residual-in_err-ways.result c.end-end.ensures.sound c.from_residual-in_err-ways.ensures.1
+
+-- ---- the ways into the parts
+
+pub rounds_of-requires-clause-count : goal.rounds_of-requires-clause-count
+rounds_of-requires-clause-count g c = ap length c.deref.ensures.value ∙ c.in_ok-ways.ensures.count ∙ c.in_ok-walks.ensures.parts
+
+pub rounds_of-requires-clause-into : goal.rounds_of-requires-clause-into
+rounds_of-requires-clause-into g c =
+    let made = c.in_ok-walks.ensures.walks in
+    subst (λ ways. AreWaysInto c.args.scenario.now (part_number c.args.division.now) (way_at ways)) (sym c.deref.ensures.value)
+    (c.in_ok-ways.ensures.into c.args.division.now c.requires.divides c.in_ok-parts.ensures.below (record { parts = c.in_ok-walks.ensures.parts; between = made.0; least = made.1; walks = made.2 }))
+
+-- ---- what the gate is told
+
+pub by_workers-requires-clause-windows : goal.by_workers-requires-clause-windows
+by_workers-requires-clause-windows g c _ _ =
+    let s = c.args.scenario.now in
+    let deal = c.args.division.now in
+    let made = c.in_ok-walks.ensures.walks in
+    let ways = c.rounds_of.ensures.ways ∙ c.deref.ensures.value in
+    let by = ways_of s deal _ (record { parts = c.in_ok-walks.ensures.parts; between = made.0; least = made.1; walks = made.2 })
+    (ap length ways ∙ c.in_ok-ways.ensures.count ∙ c.in_ok-walks.ensures.parts) (subst (AreRoundWays s _) (sym ways) c.in_ok-ways.ensures.ticks) in
+    awaits_rounds g.G.Gate.awaits (basis_of c.rounds_of.result) s deal (ap (λ cluster. cluster.scenario.now) c.rounds_of.ensures.cluster) c.rounds_of.ensures.division by c.requires.windows

@@ -1,0 +1,42 @@
+-- The processes of a run, between the rounds and in them, and what lies on its board.
+use Rattle.std.specs.Prelude.{◌≡◌, ℕ, ◌+◌, ◌≤◌, List, Option, Some}
+use Rattle.std.specs.List.{AllByRecursion}
+use Rattle.std.specs.FinMap.{FinMap}
+use Rattle.base.specs.Order.{key_cmp}
+use Rattle.member.specs.declared.event.Event.{Event}
+use Rattle.lookahead_windows.specs.Starts.{HasRunTo}
+use Rattle.lookahead_windows.specs.Basis.{Basis, plan_of}
+use Rattle.parallel_run.specs.declared.process.Process.{Process}
+use Rattle.parallel_run.specs.declared.process.Waiting.{Waiting}
+use Rattle.parallel_run.specs.declared.piece.Piece.{Piece}
+use Rattle.parallel_run.specs.Peers.{AreLines}
+use Rattle.parallel_run.specs.Windows.{AfterWindow, Begins, GathersUpTo, GathersSoFar}
+
+module _ {K Q : Type 0} (set : Q → FinMap key_cmp Event) (basis : Basis) where
+  -- The process begins its round: its part and what is known with it are the run's there, its rows wait up to where the part has run,
+  -- and its lines are to all others. All this is a function of the basis and the round.
+  pub record IsReady (process : Process K Q) : Type 0 where
+    pub begins : Begins set basis process.lines.number process.round process.first process.part
+    pub gathered : GathersSoFar basis process.lines.number process.round process.gathered
+    pub lines : AreLines basis process.lines
+
+  -- The process has run its window of a round and told the others of it.
+  pub record IsWaiting (process : Waiting K Q) : Type 0 where
+    pub from : process.told.from ≡ process.lines.number
+    pub next : process.next ≡ process.told.round + 1
+    pub window : AfterWindow set basis process.lines.number process.told.round process.told.least process.part
+    pub to : ℕ
+    pub run : HasRunTo (plan_of basis) (process.told.round + 1) process.lines.number to
+    pub passed : process.common ≤ to
+    pub gathered : GathersUpTo basis process.lines.number to process.gathered
+    pub lines : AreLines basis process.lines
+
+-- a piece stands for the number of its part
+abbrev pub number_of : {K Q : Type 0} → Piece K Q → ℕ
+number_of (Piece.Process process) = process.lines.number
+number_of (Piece.Ended lines) = lines.number
+
+-- a process belongs to the board of a run where it is the run's as its round begins
+abbrev pub Belongs : {K Q : Type 0} (set : Q → FinMap key_cmp Event) (given : Option Basis) → Piece K Q → Type 0
+Belongs set given (Piece.Process process) = (basis : Basis) → given ≡ Some basis → IsReady set basis process
+Belongs set given (Piece.Ended lines) = Unit {0}

@@ -1,0 +1,92 @@
+//! The end of a run by threads: its board is closed.
+ghost use Rattle.std.specs.Prelude.{◌≡◌, IfOk, IfErr, OnOk, OnErr};
+ghost use Rattle.std.specs.List.{flat_map};
+ghost use Rattle.board.specs.Deal.{SameBag};
+ghost use Rattle.board.specs.Seats.{AreAllSeats, dealt, taken};
+ghost use Rattle.board.specs.Sites.{AreSingleSeats};
+ghost use Rattle.parallel_run.specs.Closing.{IsUnsettled, TakesAll, StillKeeps};
+
+use crate::of_run::OfRun;
+use crate::piece::{RunBoard, RunPost, RunSeat};
+use base::limits::MOST_WORKERS;
+use base::{Fault, Memory};
+use board::{Site, settle};
+use member::Event;
+use reports::Tallies;
+use std::alloc::Global;
+use std::snapshot::Snapshot;
+use std::sync::Wait;
+use worker_queue::EventQueue;
+
+/// How many seats the board of a run has: as many as a board may have, one more than there may be workers.
+pub(crate) const SEATS: usize = MOST_WORKERS + 1;
+
+/// Takes from the board of a run what its workers have dealt back.
+pub(crate) fn take_back<'p, 'b, K: OfRun, Q: EventQueue<Event> + Drop, J: Site>(
+    rt: &impl Wait,
+    post: &mut RunPost<'p, 'b, K, Q, J>,
+) {
+    for _ in rt.forever() {
+        if post.take(rt).is_none() {
+            return;
+        }
+    }
+    unreachable!()
+}
+
+/// What is known of the seats where they did not come back.
+pub(crate) fn no_seats<T: Drop>(alloc: Global) -> Snapshot<Vec<T>> {
+    let none = Vec::new(alloc);
+    Snapshot::of(&none)
+}
+
+/// Closes the board, where all came to its end and the seats are back: what came, and the seats as they were then.
+/// Where that is no fault, every process that was dealt was taken, as often, and no other.
+pub(crate) fn closed<'b, K: OfRun, Q: EventQueue<Event> + Drop>(
+    rt: &impl Wait,
+    alloc: Global,
+    board: RunBoard<'b, K, Q>,
+    seats: Result<Vec<RunSeat<'b, K, Q>>, Memory>,
+    so_far: Result<Tallies, Fault>,
+) -> (Result<Tallies, Fault>, Snapshot<Vec<RunSeat<'b, K, Q>>>)
+    requires { IfOk seats (λ seats. AreSingleSeats board seats.items) }
+    ensures keeps { StillKeeps so_far result.0 }
+    ensures same { OnOk result.0 (result.0 ≡ so_far) }
+    ensures settled { OnOk result.0 (TakesAll board.entry result.1.value.items) }
+{
+    let Ok(seats) = seats else {
+        return (Err(Fault::Memory), no_seats(alloc));
+    };
+    let ended = Snapshot::of(&seats);
+    // a pair is answered, so no `?`
+    let tallies = match so_far {
+        Ok(tallies) => tallies,
+        Err(fault) => return (Err(fault), ended),
+    };
+    match close_board(rt, board, seats) {
+        Ok(()) => (Ok(tallies), ended),
+        Err(_) => (Err(Fault::ThreadLost), ended),
+    }
+}
+
+/// Closes the board of a run, given the seats that came back. `ThreadLost` where one is missing or a process still lies
+/// on the board: else every one that was dealt was taken, as often, and no other.
+fn close_board<'b, K: OfRun, Q: EventQueue<Event> + Drop>(
+    rt: &impl Wait,
+    board: RunBoard<'b, K, Q>,
+    seats: Vec<RunSeat<'b, K, Q>>,
+) -> Result<(), Fault>
+    requires { AreSingleSeats board seats.items }
+    ensures all { OnOk result (AreAllSeats board.entry seats.entry.items) }
+    ensures taken { OnOk result (SameBag (flat_map dealt seats.entry.items) (flat_map taken seats.entry.items)) }
+    ensures relay { IfErr result (λ fault. fault ≡ Fault.ThreadLost) }
+    ensures cause { OnErr result (IsUnsettled seats.entry.items) }
+{
+    if seats.len() != SEATS {
+        return Err(Fault::ThreadLost);
+    }
+    if settle(rt, board, seats) != 0 {
+        return Err(Fault::ThreadLost);
+    }
+    Ok(())
+}

@@ -1,0 +1,109 @@
+//! How the workers of a run call each other.
+
+use crate::event_count::EventCount;
+use crate::opening::bells_of;
+use base::Memory;
+use std::alloc::Global;
+use std::sync::Wait;
+use std::sync::atomic::{AtomicBool, AtomicU64, Ordering};
+
+/// What all workers of a run share beside its board.
+#[derive(Drop)]
+pub(crate) struct Crew {
+    // one of each worker
+    bells: Vec<EventCount>,
+    // how often the processes were dealt out again
+    dealings: AtomicU64,
+    over: AtomicBool,
+    failed: AtomicBool,
+}
+
+impl Crew {
+    /// So many workers, which have not begun yet.
+    pub(crate) fn new(alloc: Global, workers: usize) -> Result<Crew, Memory> {
+        Ok(Crew {
+            bells: bells_of(alloc, workers)?,
+            dealings: AtomicU64::new(0),
+            over: AtomicBool::new(false),
+            failed: AtomicBool::new(false),
+        })
+    }
+
+    /// The processes lie on the board again for all workers.
+    pub(crate) fn deal(&self) {
+        self.dealings.fetch_add(1, Ordering::SeqCst);
+        self.ring_all();
+    }
+
+    /// Something lies on the board for that worker.
+    pub(crate) fn call(&self, worker: usize) {
+        if let Some(bell) = self.bells.get(worker) {
+            bell.ring();
+        }
+    }
+
+    /// The run has come to its end.
+    pub(crate) fn end(&self) {
+        self.over.store(true, Ordering::SeqCst);
+        self.ring_all();
+    }
+
+    /// A worker has ended by a fault.
+    pub(crate) fn fail(&self) {
+        self.failed.store(true, Ordering::SeqCst);
+        self.end();
+    }
+
+    /// Whether a worker has ended by a fault.
+    pub(crate) fn has_failed(&self) -> bool {
+        self.failed.load(Ordering::SeqCst)
+    }
+
+    /// Whether the run has ended, also by a fault.
+    pub(crate) fn is_over(&self) -> bool {
+        self.over.load(Ordering::SeqCst)
+    }
+
+    /// How often that worker was called.
+    pub(crate) fn calls(&self, worker: usize) -> u64 {
+        match self.bells.get(worker) {
+            Some(bell) => bell.heard(),
+            None => 0,
+        }
+    }
+
+    /// Sleeps until that worker is called again after so many times. It may also wake for no reason.
+    pub(crate) fn sleep(&self, rt: &impl Wait, worker: usize, calls: u64) {
+        if let Some(bell) = self.bells.get(worker) {
+            bell.sleep(rt, calls);
+        }
+    }
+
+    /// Sleeps until the processes were dealt out more often than so: how often they were. None where
+    /// the run is over.
+    pub(crate) fn await_dealing(
+        &self,
+        rt: &impl Wait,
+        worker: usize,
+        dealings: u64,
+    ) -> Option<u64> {
+        for _ in rt.forever() {
+            let calls = self.calls(worker);
+            let now = self.dealings.load(Ordering::SeqCst);
+            if now > dealings {
+                return Some(now);
+            }
+            if self.is_over() {
+                return None;
+            }
+            self.sleep(rt, worker, calls);
+        }
+        unreachable!()
+    }
+
+    fn ring_all(&self) {
+        for bell in self.bells.iter() {
+            bell.ring();
+        }
+    }
+}

@@ -1,0 +1,30 @@
+//! Runs of a scenario by several threads. Each part of the cluster is a logical process, which once a round tells each
+//! other what went out of its window and the first moment that is left; so each knows how far its next window goes, with
+//! no driver. The processes lie on a board, from which the workers take them. The calling thread writes.
+#![tactic(auto)]
+
+mod batches;
+mod closing;
+mod connections;
+mod crew;
+mod event_count;
+mod exchange;
+mod hold;
+mod of_run;
+mod opening;
+mod pace;
+mod peers;
+mod piece;
+mod process;
+mod protocols;
+mod ring;
+mod row_batch;
+mod rows;
+mod run;
+mod spin_policy;
+mod threads;
+mod window_message;
+mod worker;
+mod writer;
+
+pub use run::{run_by_rings, run_by_rings_gathered};

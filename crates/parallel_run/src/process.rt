@@ -1,0 +1,333 @@
+//! A logical process of a run: a part of the cluster, and its lines to the others.
+ghost use Rattle.std.specs.Prelude.{◌≡◌, ◌⊎◌, ◌+◌, ◌<◌, ◌≤◌, Some, IfOk, IfErr, OnOk, IfSome, IfNone};
+ghost use Rattle.lookahead_windows.specs.Starts.{IsUpTo};
+ghost use Rattle.lookahead_windows.specs.Plan.{bound_of};
+ghost use Rattle.lookahead_windows.specs.Basis.{basis_of, plan_of, GoBy};
+ghost use Rattle.parallel_run.specs.Peers.{AreLines};
+ghost use Rattle.parallel_run.specs.Messages.{MayEndBy};
+ghost use Rattle.parallel_run.specs.Windows.{AfterWindow, Begins, GathersUpTo, GathersSoFar};
+ghost use Rattle.parallel_run.specs.Processes.{IsReady, IsWaiting};
+
+use crate::connections::Connections;
+use crate::exchange::{WindowResult, hear_all};
+use crate::of_run::OfRun;
+use crate::peers::WindowSummary;
+use crate::rows::Gathered;
+use crate::spin_policy::SpinPolicy;
+use base::{Fault, Moment};
+use lookahead_windows::{Entered, Rounds, round_bound, run_window};
+use member::Event;
+use std::alloc::Global;
+use std::sync::Wait;
+use windows::Part;
+use worker_queue::EventQueue;
+
+/// A process that begins a round.
+#[derive(Drop)]
+pub struct Process<'b, K: OfRun, Q: EventQueue<Event>> {
+    pub(crate) part: Part<Q>,
+    /// The round, from 0.
+    pub(crate) round: u64,
+    /// The first moment that pends anywhere.
+    pub(crate) first: Option<Moment>,
+    pub(crate) gathered: Gathered,
+    pub(crate) lines: Connections<'b, K>,
+}
+
+/// A process that has run its window of a round and told the others of it, and is to hear from them.
+#[derive(Drop)]
+pub struct Waiting<'b, K: OfRun, Q: EventQueue<Event>> {
+    part: Part<Q>,
+    told: WindowSummary,
+    /// The round after that.
+    next: u64,
+    /// The moment that all parts have passed then.
+    common: Moment,
+    gathered: Gathered,
+    lines: Connections<'b, K>,
+}
+
+/// What all processes did in a round.
+#[derive(Clone, Copy)]
+pub(crate) struct Counts {
+    /// How many rows they wrote.
+    pub(crate) rows: u64,
+    /// How often the workers slept while they waited.
+    pub(crate) slept: u64,
+}
+
+impl<'b, K: OfRun, Q: EventQueue<Event> + Drop> Process<'b, K, Q> {
+    /// The first moment that pends, where it is no later than the end.
+    pub(crate) fn pending(&self, end: Moment) -> Option<Moment>
+        ensures some { IfSome result (λ moment. (self.now.first ≡ Some moment) × (moment ≤ end)) }
+        ensures none { IfNone result (IsUpTo self.now.first (end + 1)) }
+    {
+        match &self.first {
+            Some(first) => in_time(*first, end),
+            None => None,
+        }
+    }
+
+    /// Before which moment the window of its part stays in the round, in which this is the first moment
+    /// that pends.
+    pub(crate) fn bound(&self, from: Moment, rounds: &Rounds) -> Moment
+        requires rounds { GoBy rounds.now }
+        requires own { self.now.lines.number < rounds.now.division.now.parts }
+        ensures { result ≡ bound_of (plan_of (basis_of rounds.now)) (Some from) self.now.lines.number }
+    {
+        round_bound(from, rounds.end, rounds.ways[self.lines.number])
+    }
+
+    /// Runs the window of its part in the round, in which this is the first moment that pends, up to the
+    /// bound of which a gate was told, and tells the others, also how often its worker has slept.
+    ///
+    /// Faults: `Memory`; `CounterOverflow` where a counter of the window would pass 2^63; `ThreadLost` where another
+    /// can't be told. All others are told of the fault.
+    pub(crate) fn run(
+        self,
+        rt: &impl Wait,
+        alloc: Global,
+        from: Moment,
+        entered: Entered,
+        slept: u64,
+        rounds: &Rounds,
+    ) -> Result<Waiting<'b, K, Q>, Fault>
+        requires rounds { GoBy rounds.now }
+        requires run { K.basis ≡ Some (basis_of rounds.now) }
+        requires ready { IsReady Q.set (basis_of rounds.now) self }
+        requires pends { (self.first ≡ Some from) × (from ≤ rounds.now.end) }
+        requires entered { (entered.window ≡ self.round + 1) × (entered.part ≡ self.lines.number) }
+        requires bound { entered.bound ≡ bound_of (plan_of (basis_of rounds.now)) (Some from) self.lines.number }
+        ensures waiting { IfOk result (IsWaiting Q.set (basis_of rounds.now)) }
+        ensures fault { IfErr result (MayEndBy (basis_of rounds.now)) }
+    {
+        let Process {
+            part,
+            round,
+            mut gathered,
+            mut lines,
+            ..
+        } = self;
+        let window = Window {
+            round,
+            from,
+            bound: entered.bound,
+            slept,
+        };
+        match told(alloc, part, window, &mut gathered, &mut lines, rounds) {
+            Ok((part, told)) => Ok(Waiting {
+                part,
+                told,
+                next: round + 1,
+                common: round_bound(from, rounds.end, rounds.shortest),
+                gathered,
+                lines,
+            }),
+            Err(fault) => {
+                lines.tell_end(rt, fault);
+                Err(fault)
+            }
+        }
+    }
+
+    /// Sends the last rows, where nothing is left up to the end: its lines.
+    ///
+    /// Faults: `Memory`; `ThreadLost` where nobody takes the rows. All others are told of the fault.
+    pub(crate) fn end(self, rt: &impl Wait, rounds: &Rounds) -> Result<Connections<'b, K>, Fault>
+        requires rounds { GoBy rounds.now }
+        requires run { K.basis ≡ Some (basis_of rounds.now) }
+        requires ready { IsReady Q.set (basis_of rounds.now) self }
+        requires past { IsUpTo self.first (rounds.now.end + 1) }
+        ensures fault { IfErr result (MayEndBy (basis_of rounds.now)) }
+    {
+        let Process {
+            part: _,
+            round,
+            mut gathered,
+            mut lines,
+            ..
+        } = self;
+        let until = Moment(rounds.end.ticks() + 1);
+        match lines.send_lot(rt, &mut gathered, until, round, true) {
+            Ok(()) => Ok(lines),
+            Err(fault) => {
+                lines.tell_end(rt, fault);
+                Err(fault)
+            }
+        }
+    }
+}
+
+/// The moment, where it is no later than the end.
+fn in_time(first: Moment, end: Moment) -> Option<Moment>
+    ensures some { IfSome result (λ moment. (first ≡ moment) × (moment ≤ end)) }
+    ensures none { IfNone result (end + 1 ≤ first) }
+{
+    if end.ticks() < first.ticks() {
+        return None;
+    }
+    Some(first)
+}
+
+/// The window that a process is to run.
+#[derive(Clone, Copy)]
+struct Window {
+    round: u64,
+    /// The first moment that pends anywhere.
+    from: Moment,
+    bound: Moment,
+    slept: u64,
+}
+
+/// Runs the window of the part, and tells the others of it: the part then, and what was told.
+fn told<'b, K: OfRun, Q: EventQueue<Event> + Drop>(
+    alloc: Global,
+    part: Part<Q>,
+    window: Window,
+    gathered: &mut Gathered,
+    lines: &mut Connections<'b, K>,
+    rounds: &Rounds,
+) -> Result<(Part<Q>, WindowSummary), Fault>
+    requires rounds { GoBy rounds.now }
+    requires run { K.basis ≡ Some (basis_of rounds.now) }
+    requires begins { Begins Q.set (basis_of rounds.now) lines.old.number window.round (Some window.from) part }
+    requires gathered { GathersSoFar (basis_of rounds.now) lines.old.number window.round gathered.old }
+    requires lines { AreLines (basis_of rounds.now) lines.old }
+    requires bound { window.bound ≡ bound_of (plan_of (basis_of rounds.now)) (Some window.from) lines.old.number }
+    ensures lines { AreLines (basis_of rounds.now) lines.new }
+    ensures own { lines.new.number ≡ lines.old.number }
+    ensures told { IfOk result (λ r. (r.1.from ≡ lines.old.number) × (r.1.round ≡ window.round)) }
+    ensures window { IfOk result (λ r. AfterWindow Q.set (basis_of rounds.now) lines.old.number window.round r.1.least r.0) }
+    ensures gathered { OnOk result (GathersUpTo (basis_of rounds.now) lines.old.number (bound_of (plan_of (basis_of rounds.now)) (Some window.from) lines.old.number) gathered.new) }
+    ensures fault { IfErr result (MayEndBy (basis_of rounds.now)) }
+{
+    let came = run_window(alloc, part, window.bound, rounds)?;
+    lines.tell(alloc, window.round, window.slept, came, gathered)
+}
+
+impl<'b, K: OfRun, Q: EventQueue<Event> + Drop> Waiting<'b, K, Q> {
+    /// Hears from the others, and sends rows where that is due: the process as it begins the next
+    /// round, and what all did in this one.
+    ///
+    /// Faults: `Memory`, those by which others ended, and `ThreadLost` where they tell of anything else or
+    /// nobody takes the rows. All others are told of the fault.
+    pub(crate) fn hear(
+        self,
+        rt: &impl Wait,
+        patience: &mut SpinPolicy,
+        rounds: &Rounds,
+    ) -> Result<(Process<'b, K, Q>, Counts), Fault>
+        requires rounds { GoBy rounds.now }
+        requires run { K.basis ≡ Some (basis_of rounds.now) }
+        requires waiting { IsWaiting Q.set (basis_of rounds.now) self }
+        ensures ready { IfOk result (λ r. IsReady Q.set (basis_of rounds.now) r.0) }
+        ensures fault { IfErr result (MayEndBy (basis_of rounds.now)) }
+    {
+        let Waiting {
+            mut part,
+            told,
+            next,
+            common,
+            mut gathered,
+            mut lines,
+        } = self;
+        let lot = Due { next, common };
+        match heard(
+            rt,
+            patience,
+            &mut part,
+            told,
+            lot,
+            &mut gathered,
+            &mut lines,
+            rounds,
+        ) {
+            Ok(heard) => {
+                let WindowResult { first, rows, slept } = heard;
+                let process = Process {
+                    part,
+                    round: next,
+                    first,
+                    gathered,
+                    lines,
+                };
+                Ok((process, Counts { rows, slept }))
+            }
+            Err(fault) => {
+                lines.tell_end(rt, fault);
+                Err(fault)
+            }
+        }
+    }
+
+    /// Tells all others that the process has ended by the fault.
+    pub(crate) fn tell_end(&mut self, rt: &impl Wait, fault: Fault)
+        requires { (basis : _) → K.basis ≡ Some basis → MayEndBy basis fault }
+    {
+        self.lines.tell_end(rt, fault);
+    }
+}
+
+/// Which lot is due once enough rows are there.
+#[derive(Clone, Copy)]
+struct Due {
+    /// The round before which it is sent.
+    next: u64,
+    /// The moment that all parts have passed.
+    common: Moment,
+}
+
+/// Hears from the others of the round of which they were told, and sends a lot where one is due.
+fn heard<'b, K: OfRun, Q: EventQueue<Event> + Drop>(
+    rt: &impl Wait,
+    patience: &mut SpinPolicy,
+    part: &mut Part<Q>,
+    told: WindowSummary,
+    due: Due,
+    gathered: &mut Gathered,
+    lines: &mut Connections<'b, K>,
+    rounds: &Rounds,
+) -> Result<WindowResult, Fault>
+    requires rounds { GoBy rounds.now }
+    requires run { K.basis ≡ Some (basis_of rounds.now) }
+    requires lines { AreLines (basis_of rounds.now) lines.old }
+    requires told { told.from ≡ lines.old.number }
+    requires window { AfterWindow Q.set (basis_of rounds.now) lines.old.number told.round told.least part.old }
+    requires gathered { (to : _) × (due.common ≤ to) × GathersUpTo (basis_of rounds.now) lines.old.number to gathered.old }
+    ensures lines { AreLines (basis_of rounds.now) lines.new }
+    ensures own { lines.new.number ≡ lines.old.number }
+    ensures next { IfOk result (λ heard. Begins Q.set (basis_of rounds.now) lines.old.number (told.round + 1) heard.first part.new) }
+    ensures gathered { OnOk result ((to : _) → due.common ≤ to → GathersUpTo (basis_of rounds.now) lines.old.number to gathered.old
+        → GathersUpTo (basis_of rounds.now) lines.old.number to gathered.new) }
+    ensures fault { IfErr result (MayEndBy (basis_of rounds.now)) }
+{
+    let _ = rounds;
+    let heard = hear_all(rt, &mut lines.peers, patience, part, told)?;
+    send_due(rt, heard.rows, due, gathered, lines, rounds)?;
+    Ok(heard)
+}
+
+/// Sends a lot, where all parts together have written enough rows with those of a round.
+fn send_due<'b, K: OfRun>(
+    rt: &impl Wait,
+    rows: u64,
+    due: Due,
+    gathered: &mut Gathered,
+    lines: &mut Connections<'b, K>,
+    rounds: &Rounds,
+) -> Result<(), Fault>
+    requires rounds { GoBy rounds.now }
+    requires run { K.basis ≡ Some (basis_of rounds.now) }
+    requires gathered { (to : _) × (due.common ≤ to) × GathersUpTo (basis_of rounds.now) lines.old.number to gathered.old }
+    ensures own { lines.new.number ≡ lines.old.number }
+    ensures peers { lines.new.peers ≡ lines.old.peers }
+    ensures gathered { OnOk result ((to : _) → due.common ≤ to → GathersUpTo (basis_of rounds.now) lines.old.number to gathered.old
+        → GathersUpTo (basis_of rounds.now) lines.old.number to gathered.new) }
+    ensures fault { IfErr result (λ fault. (fault ≡ Fault.Memory) ⊎ (fault ≡ Fault.ThreadLost)) }
+{
+    let _ = rounds;
+    if !gathered.are_enough(rows) {
+        return Ok(());
+    }
+    lines.send_lot(rt, gathered, due.common, due.next, false)
+}

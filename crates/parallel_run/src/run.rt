@@ -1,0 +1,362 @@
+//! A run by threads: the parts of the cluster go over a board to the workers, and back.
+ghost use Rattle.std.specs.Prelude.{◌≡◌, ◌↔◌, ℕ, ◌<◌, ◌^◌, ◌⊎◌, [], length, Some, IfOk, IfErr, OnOk, OnErr, IsErrOf, All};
+ghost use Rattle.std.specs.List.{AllByRecursion};
+ghost use Rattle.board.specs.Deal.{whole};
+ghost use Rattle.board.specs.Seats.{AreAllSeats};
+ghost use Rattle.board.specs.Sites.{table_of, AreSingleSeats};
+ghost use Rattle.scenario.specs.Setup.{IsSound, member_count};
+ghost use Rattle.trace.specs.Text.{NamesMembers};
+ghost use Rattle.member.specs.Opening.{opening};
+ghost use Rattle.member_laws.specs.Runs.{IsRunOf, CounterOverflows};
+ghost use Rattle.lookahead_windows.specs.Starts.{IsUpTo};
+ghost use Rattle.turns.specs.Parts.{StandFor, NonePendsBefore};
+ghost use Rattle.lookahead_windows.specs.Gates.{KnowsAll};
+ghost use Rattle.run_output.specs.Promise.{KeepsPromise, ReportOverflows, summed};
+ghost use Rattle.run_output.specs.Traced.{IsEarly, KeepsTrace};
+ghost use Rattle.lookahead_windows.specs.Basis.{basis_of, GoBy};
+ghost use Rattle.lookahead_windows.specs.Bounds.{AwaitsRounds, AwaitsRun};
+ghost use Rattle.parallel_run.specs.Closing.{TakesAll};
+ghost use Rattle.parallel_run.specs.Processes.{IsReady};
+ghost use Rattle.parallel_run.specs.Starting.{MayStart};
+
+use crate::closing::{SEATS, closed, no_seats};
+use crate::crew::Crew;
+use crate::event_count::EventCount;
+use crate::hold::deal;
+use crate::of_run::OfRun;
+use crate::opening::{bells_of, processes_of};
+use crate::piece::{Piece, RunBoard, RunPost, RunSeat};
+use crate::process::Process;
+use crate::threads::{Hands, run_threads};
+use crate::writer::Writer;
+use base::{Fault, Memory, Moment};
+use board::{Board, Site, posts_at, seats_of};
+use links::Links;
+use lookahead::horizons;
+use lookahead_windows::{Gate, Rounds, first_moment_of, lesser_moment, rounds_of, ways_into};
+use member::Event;
+use reports::Tallies;
+use run_output::{
+    RowObserver, RowSink, Summary, TraceAndGathered, Written, WrittenAndGathered, end_run,
+    end_tallied,
+};
+use scenario::{Division, Scenario, Workers};
+use std::alloc::Global;
+use std::marker::{Brand, Sync};
+use std::snapshot::Snapshot;
+use std::sync::Wait;
+use std::thread::Threads;
+use trace::Sink;
+use turns::open_wheels;
+use windows::{Cluster, Part};
+use worker_queue::{EventQueue, WheelQueue};
+
+/// Runs the scenario by the parts of a division of its members, round after round, by as many workers
+/// as are asked for, but no more than there are parts. It writes what `run_one` writes, whatever the
+/// division and the number of workers are: the trace, and once that is whole and its sink flushed the
+/// report, whose sink is flushed too. After a fault the sinks have got a beginning of that. Each
+/// worker tells the gate of each of its parts before it runs it in a round, and below which bound: its
+/// own, no later than the moment before which nothing can come to the part, and no earlier than one that
+/// would serve all parts. The sinks stay on the calling thread. It waits for its threads.
+///
+/// Faults: `Memory`; `CounterOverflow` where a counter of the run or of the report would pass 2^63; `Write`
+/// where a sink failed; `ThreadLost` where a thread could not be started, or did not hand on what it was
+/// given. Of several the first in this order.
+pub fn run_by_rings<A: Sink, B: Sink, G: Gate, R: Threads + Wait + Sync>(
+    rt: &R,
+    alloc: Global,
+    scenario: &Scenario,
+    division: &Division,
+    workers: Workers,
+    gate: &G,
+    trace: &mut A,
+    report: &mut B,
+) -> Result<Summary, Fault>
+    requires divides { length division.now.part_of ≡ member_count scenario.now }
+    requires countable { A.failed trace.old < 2 ^ 63 }
+    requires countable_report { B.failed report.old < 2 ^ 63 }
+
+    // The gate allows for each worker, and for each part in each round below its own bound there.
+    requires known { KnowsAll G.knows workers }
+    requires windows { AwaitsRun G.awaits scenario.now division.now }
+
+    // The sinks get exactly the trace of the scenario's run, and the report on it; after a fault a beginning of that.
+    ensures promise { KeepsPromise A.held A.failed B.held B.failed scenario.now trace.old trace.new report.old report.new result }
+
+    // No count of its report passes 2^63, and no fault comes without its cause.
+    ensures lasts_report { OnOk result (¬ (ReportOverflows scenario.now)) }
+    ensures overflow { IsErrOf result Fault.CounterOverflow → CounterOverflows scenario.now ⊎ ReportOverflows scenario.now }
+    ensures others { IsErrOf result Fault.ThreadLost → A.failed trace.new ≡ A.failed trace.old }
+{
+    let outcome = run_into::<Written, A, G, R>(rt, alloc, scenario, division, workers, gate, trace);
+    end_run(alloc, outcome, scenario, trace, report)
+}
+
+/// Runs the scenario as `run_by_rings` does, and gathers something else of the rows of its run as
+/// they come: that and the tallies of the rows are whole where it succeeds. They stay on the calling
+/// thread too.
+///
+/// Faults: as of `run_by_rings`.
+pub fn run_by_rings_gathered<A: Sink, B: Sink, C: RowObserver, G: Gate, R: Threads + Wait + Sync>(
+    rt: &R,
+    alloc: Global,
+    scenario: &Scenario,
+    division: &Division,
+    workers: Workers,
+    gate: &G,
+    place: &mut TraceAndGathered<A, C>,
+    report: &mut B,
+) -> Result<Tallies, Fault>
+    requires divides { length division.now.part_of ≡ member_count scenario.now }
+    requires countable { A.failed place.old.trace < 2 ^ 63 }
+    requires countable_report { B.failed report.old < 2 ^ 63 }
+    requires none_gathered { C.has place.old.gathered scenario.now [] }
+
+    // The gate allows for each worker, and for each part in each round below its own bound there.
+    requires known { KnowsAll G.knows workers }
+    requires windows { AwaitsRun G.awaits scenario.now division.now }
+
+    // The sinks get exactly the trace of the scenario's run, and the report on it; after a fault a beginning of that.
+    ensures promise { KeepsPromise A.held A.failed B.held B.failed scenario.now place.old.trace place.new.trace report.old report.new (summed result) }
+
+    // The rows of the run are tallied, and what was gathered is what they tell.
+    ensures run { IfOk result (IsRunOf scenario.now) }
+    ensures named { IfOk result (All (NamesMembers scenario.now)) }
+    ensures gathered { IfOk result (C.has place.new.gathered scenario.now) }
+
+    // No count of its report passes 2^63, and no fault comes without its cause.
+    ensures lasts_report { OnOk result (¬ (ReportOverflows scenario.now)) }
+    ensures overflow { IsErrOf result Fault.CounterOverflow → CounterOverflows scenario.now ⊎ ReportOverflows scenario.now }
+    ensures others { IsErrOf result Fault.ThreadLost → A.failed place.new.trace ≡ A.failed place.old.trace }
+{
+    let outcome = run_into::<WrittenAndGathered, TraceAndGathered<A, C>, G, R>(
+        rt, alloc, scenario, division, workers, gate, place,
+    );
+    end_tallied(alloc, outcome, scenario, &mut place.trace, report)
+}
+
+/// Runs the scenario by threads and takes its rows; nothing is flushed yet.
+fn run_into<T: RowSink<P>, P, G: Gate, R: Threads + Wait + Sync>(
+    rt: &R,
+    alloc: Global,
+    scenario: &Scenario,
+    division: &Division,
+    workers: Workers,
+    gate: &G,
+    place: &mut P,
+) -> Result<Tallies, Fault>
+    requires divides { length division.now.part_of ≡ member_count scenario.now }
+    requires countable { T.failed place.old < 2 ^ 63 }
+    requires none_gathered { T.gathered place.old scenario.now [] }
+    requires known { KnowsAll G.knows workers }
+    requires windows { AwaitsRun G.awaits scenario.now division.now }
+    ensures trace { KeepsTrace scenario.now (T.held place.old) (T.held place.new) (T.failed place.old) (T.failed place.new) result }
+    ensures gathered { IfOk result (T.gathered place.new scenario.now) }
+    ensures sound { IsSound scenario.now }
+{
+    let _end = scenario.end();
+    let links = &Links::of(alloc, scenario)?;
+    let cluster = Cluster { scenario, links };
+    let parts = open_wheels(alloc, scenario, division)?;
+    let walks = horizons(alloc, cluster, division)?;
+    let ways = ways_into(alloc, scenario, &walks)?;
+    let rounds = &rounds_of(cluster, division, &ways);
+    let hands = workers.count().min(division.parts());
+    by_workers::<T, P, WheelQueue<Event>, G, Brand, R>(rt, alloc, parts, rounds, hands, gate, place)
+}
+
+/// Runs these parts by so many workers, and takes the rows.
+fn by_workers<
+    'a,
+    T: RowSink<P>,
+    P,
+    Q: EventQueue<Event> + Drop + Send,
+    G: Gate,
+    K: OfRun + Send + Sync,
+    R: Threads + Wait + Sync,
+>(
+    rt: &R,
+    alloc: Global,
+    parts: Vec<Part<Q>>,
+    rounds: &Rounds<'a>,
+    workers: usize,
+    gate: &G,
+    place: &mut P,
+) -> Result<Tallies, Fault>
+    requires rounds { GoBy rounds.now }
+    requires run { K.basis ≡ Some (basis_of rounds.now) }
+    requires opened { StandFor Q.set rounds.now.division.now parts.items (opening rounds.now.cluster.scenario.now) }
+    requires known { KnowsAll G.knows workers }
+    requires windows { AwaitsRounds G.awaits (basis_of rounds.now) }
+    requires countable { T.failed place.old < 2 ^ 63 }
+    requires none_gathered { T.gathered place.old rounds.now.cluster.scenario.now [] }
+    ensures trace { KeepsTrace rounds.now.cluster.scenario.now (T.held place.old) (T.held place.new) (T.failed place.old) (T.failed place.new) result }
+    ensures gathered { IfOk result (T.gathered place.new rounds.now.cluster.scenario.now) }
+{
+    let bells = bells_of(alloc, parts.len())?;
+    let writers = EventCount::new();
+    let first = first_pending(&parts);
+    let (processes, takers) = processes_of::<K, Q>(alloc, parts, first, &bells, &writers)?;
+    let writer = Writer {
+        scenario: rounds.cluster.scenario,
+        takers,
+        tallies: Tallies::new(alloc),
+    };
+    let crew = &Crew::new(alloc, workers)?;
+    let (board, seats): (RunBoard<K, Q>, Vec<RunSeat<K, Q>>) = Board::new(
+        alloc,
+        rounds.division.parts(),
+        SEATS,
+    )?;
+    let (outcome, _settled) = over_board::<T, P, Q, G, K, R>(
+        rt, alloc, board, seats, processes, workers, crew, rounds, gate, writer, place,
+    );
+    outcome
+}
+
+/// Runs these processes over this board, and closes it: what came, and the board's seats as they were
+/// at the end. Where all went well every process that was dealt was taken, as often, and no other.
+fn over_board<
+    'r,
+    'b,
+    'a,
+    T: RowSink<P>,
+    P,
+    Q: EventQueue<Event> + Drop + Send,
+    G: Gate,
+    K: OfRun + Send + Sync,
+    R: Threads + Wait + Sync,
+>(
+    rt: &R,
+    alloc: Global,
+    board: RunBoard<'b, K, Q>,
+    seats: Vec<RunSeat<'b, K, Q>>,
+    processes: Vec<Process<'b, K, Q>>,
+    workers: usize,
+    crew: &Crew,
+    rounds: &Rounds<'a>,
+    gate: &G,
+    writer: Writer<'r, 'b, K>,
+    place: &mut P,
+) -> (Result<Tallies, Fault>, Snapshot<Vec<RunSeat<'b, K, Q>>>)
+    requires all { AreAllSeats board seats.items }
+    requires count { length seats.items ≡ whole }
+    requires ready { AllByRecursion (IsReady Q.set (basis_of rounds.now)) processes.items }
+    requires start { MayStart K.basis G.knows G.awaits rounds.now workers writer }
+    requires countable { T.failed place.old < 2 ^ 63 }
+    requires none_gathered { T.gathered place.old writer.scenario.now [] }
+    ensures trace { KeepsTrace rounds.now.cluster.scenario.now (T.held place.old) (T.held place.new) (T.failed place.old) (T.failed place.new) result.0 }
+    ensures gathered { IfOk result.0 (T.gathered place.new rounds.now.cluster.scenario.now) }
+    ensures settled { OnOk result.0 (TakesAll board.entry result.1.value.items) }
+{
+    // a pair is answered, so no `?`
+    let (so_far, seats) = match at_board::<T, P, Q, G, Brand, K, R>(
+        rt, alloc, &board, seats, processes, workers, crew, rounds, gate, writer, place,
+    ) {
+        Ok(pair) => pair,
+        Err(fault) => return (Err(fault), no_seats(alloc)),
+    };
+    closed(rt, alloc, board, seats, so_far)
+}
+
+/// The same over this board, with a post at each of its seats: what came of the rows, and the seats, or
+/// `Memory` where there was none for these. A fault where nothing was begun.
+fn at_board<
+    'r,
+    'b,
+    'a,
+    T: RowSink<P>,
+    P,
+    Q: EventQueue<Event> + Drop + Send,
+    G: Gate,
+    J: Site + Send,
+    K: OfRun + Send + Sync,
+    R: Threads + Wait + Sync,
+>(
+    rt: &R,
+    alloc: Global,
+    board: &RunBoard<'b, K, Q>,
+    seats: Vec<RunSeat<'b, K, Q>>,
+    processes: Vec<Process<'b, K, Q>>,
+    workers: usize,
+    crew: &Crew,
+    rounds: &Rounds<'a>,
+    gate: &G,
+    writer: Writer<'r, 'b, K>,
+    place: &mut P,
+) -> Result<
+    (
+        Result<Tallies, Fault>,
+        Result<Vec<RunSeat<'b, K, Q>>, Memory>,
+    ),
+    Fault,
+>
+    requires here { table_of board.now ≡ J.table }
+    requires all { AreAllSeats board.now seats.items }
+    requires count { length seats.items ≡ whole }
+    requires ready { AllByRecursion (IsReady Q.set (basis_of rounds.now)) processes.items }
+    requires start { MayStart K.basis G.knows G.awaits rounds.now workers writer }
+    requires countable { T.failed place.old < 2 ^ 63 }
+    requires none_gathered { T.gathered place.old writer.scenario.now [] }
+    ensures seats { IfOk result (λ r. IfOk r.1 (λ seats. AreSingleSeats board.now seats.items)) }
+    ensures trace { IfOk result (λ r. KeepsTrace rounds.now.cluster.scenario.now (T.held place.old) (T.held place.new) (T.failed place.old) (T.failed place.new) r.0) }
+    ensures gathered { IfOk result (λ r. IfOk r.0 (T.gathered place.new rounds.now.cluster.scenario.now)) }
+    ensures unwritten { OnErr result (place.new ≡ place.old) }
+    ensures fault { IfErr result IsEarly }
+{
+    let mut posts: Vec<RunPost<K, Q, J>> = posts_at(alloc, board, seats)?;
+    let Some(mut own) = posts.pop() else {
+        return Err(Fault::ThreadLost);
+    };
+    let all = processes.len();
+    deal_all(rt, &mut own, processes, rounds)?;
+    let hands = Hands { workers, all };
+    let (ended, own, others) = run_threads::<T, P, Q, G, J, K, R>(
+        rt, alloc, own, posts, hands, crew, rounds, gate, writer, place,
+    );
+    Ok((ended, seats_back(alloc, board, own, others)))
+}
+
+/// Deals the processes onto the board. `ThreadLost` where one comes back.
+fn deal_all<'p, 'b, K: OfRun, Q: EventQueue<Event> + Drop, J: Site>(
+    rt: &impl Wait,
+    post: &mut RunPost<'p, 'b, K, Q, J>,
+    processes: Vec<Process<'b, K, Q>>,
+    rounds: &Rounds,
+) -> Result<(), Fault>
+    requires run { K.basis ≡ Some (basis_of rounds.now) }
+    requires ready { AllByRecursion (IsReady Q.set (basis_of rounds.now)) processes.items }
+    ensures fault { IfErr result (λ fault. fault ≡ Fault.ThreadLost) }
+{
+    let _ = rounds;
+    for process in processes {
+        deal(rt, post, Piece::Process(process))?;
+    }
+    Ok(())
+}
+
+/// The seats of these posts and of one more.
+fn seats_back<'p, 'b, Q: EventQueue<Event> + Drop, J: Site, K: OfRun>(
+    alloc: Global,
+    board: &RunBoard<'b, K, Q>,
+    one: RunPost<'p, 'b, K, Q, J>,
+    others: Result<Vec<RunPost<'p, 'b, K, Q, J>>, Memory>,
+) -> Result<Vec<RunSeat<'b, K, Q>>, Memory>
+    requires { table_of board.now ≡ J.table }
+    ensures { IfOk result (λ seats. AreSingleSeats board.now seats.items) }
+{
+    let mut posts = others?;
+    posts.push(one)?;
+    seats_of(alloc, board, posts)
+}
+
+/// The first moment that pends in any of these parts, also one past the end.
+fn first_pending<Q: EventQueue<Event> + Drop>(parts: &[Part<Q>]) -> Option<Moment>
+    ensures { (t : ℕ) → NonePendsBefore Q.set parts.now t ↔ IsUpTo result t }
+{
+    let mut first = None;
+    for part in parts {
+        first = lesser_moment(first, first_moment_of(part));
+    }
+    first
+}

@@ -1,0 +1,119 @@
+//! A run by as many threads as pay.
+ghost use Rattle.std.specs.Prelude.{◌≡◌, ◌<◌, ◌≤◌, ◌^◌, ◌⊎◌, [], length, IfOk, OnOk, IsErrOf, All};
+ghost use Rattle.scenario.specs.Setup.{member_count};
+ghost use Rattle.trace.specs.Text.{NamesMembers};
+ghost use Rattle.member_laws.specs.Runs.{IsRunOf, CounterOverflows};
+ghost use Rattle.run_output.specs.Promise.{KeepsPromise, ReportOverflows, summed};
+
+use crate::choosing::chosen_parts;
+use crate::hands::simulating;
+use base::{Fault, Memory};
+use lookahead_windows::OpenGate;
+use parallel_run::{run_by_rings, run_by_rings_gathered};
+use reports::Tallies;
+use run_output::{RowObserver, Summary, TraceAndGathered, end_run, end_tallied};
+use scenario::{Division, Scenario, Workers};
+use sequential_run::{run_streamed, run_streamed_gathered};
+use std::alloc::Global;
+use std::marker::Sync;
+use std::sync::Wait;
+use std::thread::Threads;
+use trace::Sink;
+
+/// Runs the scenario by so many workers, in the way that is likely to take the least time. One
+/// alone simulates and writes. Of several no more go than there are processors. Those that simulate
+/// share the parts of the division, where it has more than there are workers, or fewer into which
+/// these are joined; else each has a part for itself, as the division has them, or by the cluster's
+/// sites, or in turn, whichever have the longest rounds.
+/// Where no rounds are long enough, one worker runs all members while the calling thread writes.
+/// What is written is always the same: the trace, and once that is whole and its sink flushed the
+/// report, whose sink is flushed too. After a fault the sinks have got a beginning of that.
+///
+/// Faults: as of `parallel_run::run_by_rings`.
+pub fn run_shared<A: Sink, B: Sink, R: Threads + Wait + Sync>(
+    rt: &R,
+    alloc: Global,
+    scenario: &Scenario,
+    division: &Division,
+    workers: Workers,
+    trace: &mut A,
+    report: &mut B,
+) -> Result<Summary, Fault>
+    requires divides { length division.now.part_of ≡ member_count scenario.now }
+    requires countable { A.failed trace.old < 2 ^ 63 }
+    requires countable_report { B.failed report.old < 2 ^ 63 }
+
+    // The sinks get exactly the trace of the scenario's run, and the report on it; after a fault a beginning of that.
+    ensures promise { KeepsPromise A.held A.failed B.held B.failed scenario.now trace.old trace.new report.old report.new result }
+
+    // No count of its report passes 2^63, and no fault comes without its cause.
+    ensures lasts_report { OnOk result (¬ (ReportOverflows scenario.now)) }
+    ensures overflow { IsErrOf result Fault.CounterOverflow → CounterOverflows scenario.now ⊎ ReportOverflows scenario.now }
+    ensures others { IsErrOf result Fault.ThreadLost → A.failed trace.new ≡ A.failed trace.old }
+
+    // One worker alone loses nothing to threads.
+    ensures threads { IsErrOf result Fault.ThreadLost → 2 ≤ workers }
+{
+    let _end = scenario.end();
+    if workers.count() == 1 {
+        return run_streamed(alloc, scenario, trace, report);
+    }
+    let hands = simulating(rt, workers);
+    match chosen_parts(alloc, scenario, division, workers, hands.count()) {
+        Ok(parts) => run_by_rings(rt, alloc, scenario, &parts, hands, &OpenGate, trace, report),
+        Err(Memory) => end_run(alloc, Err(Fault::Memory), scenario, trace, report),
+    }
+}
+
+/// Runs the scenario as `run_shared` does, and gathers something else of the rows of its run as they
+/// come: that and the tallies of the rows are whole where it succeeds.
+///
+/// Faults: as of `run_shared`.
+pub fn run_shared_gathered<A: Sink, B: Sink, C: RowObserver, R: Threads + Wait + Sync>(
+    rt: &R,
+    alloc: Global,
+    scenario: &Scenario,
+    division: &Division,
+    workers: Workers,
+    place: &mut TraceAndGathered<A, C>,
+    report: &mut B,
+) -> Result<Tallies, Fault>
+    requires divides { length division.now.part_of ≡ member_count scenario.now }
+    requires countable { A.failed place.old.trace < 2 ^ 63 }
+    requires countable_report { B.failed report.old < 2 ^ 63 }
+    requires none_gathered { C.has place.old.gathered scenario.now [] }
+
+    // The sinks get exactly the trace of the scenario's run, and the report on it; after a fault a beginning of that.
+    ensures promise { KeepsPromise A.held A.failed B.held B.failed scenario.now place.old.trace place.new.trace report.old report.new (summed result) }
+
+    // The rows of the run are tallied, and what was gathered is what they tell.
+    ensures run { IfOk result (IsRunOf scenario.now) }
+    ensures named { IfOk result (All (NamesMembers scenario.now)) }
+    ensures gathered { IfOk result (C.has place.new.gathered scenario.now) }
+
+    // No count of its report passes 2^63, and no fault comes without its cause.
+    ensures lasts_report { OnOk result (¬ (ReportOverflows scenario.now)) }
+    ensures overflow { IsErrOf result Fault.CounterOverflow → CounterOverflows scenario.now ⊎ ReportOverflows scenario.now }
+    ensures others { IsErrOf result Fault.ThreadLost → A.failed place.new.trace ≡ A.failed place.old.trace }
+
+    // One worker alone loses nothing to threads.
+    ensures threads { IsErrOf result Fault.ThreadLost → 2 ≤ workers }
+{
+    let _end = scenario.end();
+    if workers.count() == 1 {
+        return run_streamed_gathered(alloc, scenario, place, report);
+    }
+    let hands = simulating(rt, workers);
+    match chosen_parts(alloc, scenario, division, workers, hands.count()) {
+        Ok(parts) => run_by_rings_gathered(
+            rt, alloc, scenario, &parts, hands, &OpenGate, place, report,
+        ),
+        Err(Memory) => end_tallied(
+            alloc,
+            Err(Fault::Memory),
+            scenario,
+            &mut place.trace,
+            report,
+        ),
+    }
+}

@@ -1,8 +1,0 @@
-use Rattle.std.proofs.Common.{sym, subst}
-use Rattle.rings.specs.Telling.{MayEndBy}
-use Rattle.rings.proofs.LotsFaults.{first_may}
-use Rattle.rings.proofs.lots.LotTaker.skip.Goals as goal
-
-pub returns-in-Err : goal.returns-in-Err
-returns-in-Err g c = λ basis is.
-    subst (MayEndBy basis) (sym c.first_of.ensures) (first_may basis c.in-Err.fault c.args.so_far (c.in-Err.ensures.fault basis is) (c.requires basis is))

@@ -1,7 +1,0 @@
-use Rattle.std.proofs.Common.{map}
-use Rattle.rings.specs.Peers.{AreJoined}
-use Rattle.rings.proofs.Joining.{rings_of}
-use Rattle.rings.proofs.peers.peers_of.Given as goal
-
-abbrev pub invariant-loop-bell : goal.invariant-loop-bell
-invariant-loop-bell g l = record { joined : AreJoined l.bell-index (map rings_of l.all.items) }

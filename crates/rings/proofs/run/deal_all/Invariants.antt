@@ -1,7 +1,0 @@
-use Rattle.std.specs.List.{AllByRecursion}
-use Rattle.round_windows.specs.Basis.{basis_of}
-use Rattle.rings.specs.Processes.{IsReady}
-use Rattle.rings.proofs.run.deal_all.Given as goal
-
-abbrev pub invariant-loop-process : goal.invariant-loop-process
-invariant-loop-process g l = record { ready : AllByRecursion (IsReady g.Q.EventQueue.set (basis_of l.rounds)) l.process-iterator.rest.items }

@@ -1,6 +1,0 @@
-use Rattle.std.proofs.Common.{Some}
-use Rattle.round_windows.specs.Basis.{basis_of}
-use Rattle.rings.proofs.run.run_into.Given as goal
-
-abbrev pub ghosts-by_workers : goal.ghosts-by_workers
-ghosts-by_workers g a = record { basis = Some (basis_of a.rounds.now) }

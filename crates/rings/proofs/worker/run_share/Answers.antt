@@ -1,5 +1,0 @@
-use Rattle.round_windows.specs.Basis.{basis_of}
-use Rattle.rings.proofs.worker.run_share.Goals as goal
-
-pub run_to_end-requires-clause-holds : goal.run_to_end-requires-clause-holds
-run_to_end-requires-clause-holds g c = λ loans lives. c.in_ok-hold.ensures.none (basis_of c.args.rounds.now)

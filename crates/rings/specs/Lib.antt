@@ -1,8 +1,0 @@
-pub mod Telling
-pub mod Peers
-pub mod Windows
-pub mod Writing
-pub mod Starting
-pub mod Processes
-pub mod Holding
-pub mod Closing

@@ -1,5 +1,0 @@
-use Rattle.round_windows.specs.Walks.{IsLeastWalkAmong, IsInto}
-use Rattle.round_windows.proofs.bounds.least_walk_into.Given as goal
-
-abbrev pub invariant-loop-from : goal.invariant-loop-from
-invariant-loop-from l = record { least : IsLeastWalkAmong l.walks (IsInto l.from l.to) l.least }

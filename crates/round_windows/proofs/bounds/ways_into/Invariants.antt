@@ -1,9 +1,0 @@
-use Rattle.std.proofs.Common.{◌≡◌, vec_len}
-use Rattle.round_windows.specs.Walks.{AreRoundWays}
-use Rattle.round_windows.proofs.bounds.ways_into.Given as goal
-
-abbrev pub invariant-loop-to : goal.invariant-loop-to
-invariant-loop-to l = record {
-  count : vec_len l.ways ≡ l.to;
-  are : AreRoundWays l.scenario l.walks l.ways.items;
-}

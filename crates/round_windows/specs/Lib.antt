@@ -1,4 +1,0 @@
-pub mod Basis
-pub mod Bounds
-pub mod Walks
-pub mod Windows

@@ -1,7 +1,0 @@
-use Rattle.std.proofs.Common.{append_assoc, refl}
-use Rattle.run_deaths.specs.Troubles.{cut_sentence}
-use Rattle.run_deaths.proofs.troubles.push_cut.Goals as goal
-
-pub returns : goal.returns
-unfolding cut_sentence
-returns c = simp (c.in_ok-push_time.ensures, c.in_ok-open_sentence.ensures, append_assoc) refl

@@ -1,8 +1,0 @@
-use Rattle.std.proofs.Common.{◌≡◌, ◌++◌, take, flat_map}
-use Rattle.std.specs.String.{string_bytes}
-use Rattle.run_lanes.specs.Lanes.{pause_band}
-use Rattle.run_lanes.proofs.lane.push_pauses.Given as goal
-
--- the bands of those so far
-abbrev pub invariant-loop-pause : goal.invariant-loop-pause
-invariant-loop-pause l = string_bytes l.text ≡ string_bytes l.initial.text ++ flat_map (pause_band l.run.scenario.now l.member) (take l.pause-index l.pauses)

@@ -1,8 +1,0 @@
-use Rattle.std.proofs.Common.{◌≡◌, ◌++◌, take, flat_map}
-use Rattle.std.specs.String.{string_bytes}
-use Rattle.run_lanes.specs.LaneTable.{lane_at}
-use Rattle.run_lanes.proofs.lanes.push_each.Given as goal
-
--- the lanes so far
-abbrev pub invariant-loop-lane : goal.invariant-loop-lane
-invariant-loop-lane l = string_bytes l.text ≡ string_bytes l.initial.text ++ flat_map (lane_at l.run.scenario.now l.run.tallies.now) (take l.lane-index l.lanes)

@@ -1,8 +1,0 @@
-use Rattle.std.proofs.Common.{◌≡◌, ◌++◌, take, flat_map}
-use Rattle.std.specs.String.{string_bytes}
-use Rattle.run_lanes.specs.LaneTable.{member_rows}
-use Rattle.run_lanes.proofs.lanes.push_each_rows.Given as goal
-
--- the rows of the lanes so far
-abbrev pub invariant-loop-lane : goal.invariant-loop-lane
-invariant-loop-lane l = string_bytes l.text ≡ string_bytes l.initial.text ++ flat_map (λ lane. member_rows l.run.scenario.now l.run.tallies.now lane.member) (take l.lane-index l.lanes)

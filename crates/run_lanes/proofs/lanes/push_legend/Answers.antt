@@ -1,7 +1,0 @@
-use Rattle.std.proofs.Common.{append_assoc, refl}
-use Rattle.run_lanes.specs.LaneTable.{lane_legend}
-use Rattle.run_lanes.proofs.lanes.push_legend.Goals as goal
-
-pub returns : goal.returns
-unfolding lane_legend
-returns c = simp (c.in_ok-push_entry_where-3.ensures, c.in_ok-push_entry_where-2.ensures, c.in_ok-push_entry_where.ensures, c.in_ok-push_entry-2.ensures, c.in_ok-push_entry.ensures, append_assoc) refl

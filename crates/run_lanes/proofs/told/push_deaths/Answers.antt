@@ -1,7 +1,0 @@
-use Rattle.std.proofs.Common.{append_assoc, refl}
-use Rattle.run_lanes.specs.Told.{death_words}
-use Rattle.run_lanes.proofs.told.push_deaths.Goals as goal
-
-pub returns : goal.returns
-unfolding death_words
-returns c = simp (c.in_ok-push_str-2.ensures.bytes, c.by_number.ensures, c.in_ok-push_grouped.ensures, c.in_ok-push_str.ensures.bytes, append_assoc) refl

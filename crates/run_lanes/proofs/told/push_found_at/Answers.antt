@@ -1,7 +1,0 @@
-use Rattle.std.proofs.Common.{append_assoc, refl}
-use Rattle.run_lanes.specs.Told.{found_at}
-use Rattle.run_lanes.proofs.told.push_found_at.Goals as goal
-
-pub returns : goal.returns
-unfolding found_at
-returns c = simp (c.in_ok-push_grouped.ensures, c.in_ok-push_str.ensures.bytes, append_assoc) refl

@@ -1,0 +1,14 @@
+//! What a run writes, on its way into the sinks: its trace, and the report on that.
+#![tactic(auto)]
+
+mod ending;
+mod gathering;
+mod summary;
+mod taking;
+mod writing;
+
+pub use ending::{end_run, end_tallied};
+pub use gathering::RowObserver;
+pub use summary::Summary;
+pub use taking::{RowSink, TalliedAlone, TraceAndGathered, Written, WrittenAndGathered, take_on};
+pub use writing::{flush, write_run, write_tallied};

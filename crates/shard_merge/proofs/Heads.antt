@@ -1,0 +1,284 @@
+-- What the name of a piece tells is that piece, of that sweep.
+use Rattle.std.proofs.Common.{◌≡◌, ◌<◌, ◌≤◌, ◌==◌, ◌^◌, ℕ, Bool, true, false, suc, List, [], ◌∷◌, ◌++◌, map, length, length-drop, get_or, take, drop, ◌-◌, codes, decimal, lit<, arith, refl, sym, ap, subst, ◌∙◌}
+use Rattle.std.specs.Prelude.{Option, Some, None, Result, Ok, Err, IfOk, IfErr, bytes_eq, if◌then◌else◌}
+use Rattle.std.specs.Borrow.{Bor}
+use Rattle.std.specs.Option.{ForSome, MatchOption}
+use Rattle.std.proofs.lemmas.Str.Pattern.{IsSplitOnceResult, split_after, split_parts}
+use Rattle.std.specs.List.{slice_split}
+use Rattle.std.proofs.lemmas.Fmt.{decimal_injective}
+use Rattle.std.proofs.lemmas.List.{append_cancel_left, length-map, take_all}
+use Rattle.decimals.specs.Numbers.{IsDecimal}
+use Rattle.sweep_plan.specs.Sweep.{Sweep}
+use Rattle.sweep_plan.specs.Asked.{AsksForSeeds, IsSweepOf, IsWidth, RefusesSweep, seeds_text, setting_words}
+use Rattle.sweep_plan.specs.Axes.{axes_of}
+use Rattle.sweep_plan.proofs.Gathered.{axes_in}
+use Rattle.sweep_plan.specs.declared.fault.PlanFault.{PlanFault}
+use Rattle.sweep_plan.specs.declared.fault.PlanFault.TheVariants as unread
+use Rattle.sweep_plan.specs.declared.seeds.Seeds.{Seeds}
+use Rattle.sweep_plan.proofs.Names.{bytes_eq_false}
+use Rattle.sweep_plan.proofs.Words.{cut_once, decimal_lacks, joined_split, unlike, lacks_from_test}
+use Rattle.shards.specs.declared.piece.Piece.{Piece}
+use Rattle.shards.specs.Pieces.{IsPiece, IsPieceWord, piece_text}
+use Rattle.shards.specs.Names.{plan_text, seeds_word}
+use Rattle.sweep.specs.Runs.{IsAskedFor}
+use Rattle.sweep.specs.Pieces.{piece_header}
+use Rattle.shard_merge.specs.Joined.{IsMark}
+use Rattle.shard_merge.specs.Reasons.{BeginsAs, BeginsAsNone, RefusesName, SaysWidth}
+use Rattle.shard_merge.proofs.SameSweep.{asked_axes, joined_is, no_dash, no_setting_says, same_rest, same_seeds, same_settings, until_words, words_lack, words_of}
+
+-- the piece of a word is one
+pub same_piece : (word : List ℕ) (q p : Piece) → IsPieceWord word q → word ≡ piece_text p → IsPiece p → q ≡ p
+same_piece word q p is same sound =
+    let one = is.sound.most in
+    let two = is.sound.few in
+    let three = sound.most in
+    let four = sound.few in
+    let parts = cut_once 47 (decimal q.number) (decimal p.number) (decimal q.of) (decimal p.of)
+    (decimal_lacks q.number 47 (omega arith) (lit< tt)) (decimal_lacks p.number 47 (omega arith) (lit< tt)) (is.written ∙ same) in
+    let number = decimal_injective q.number p.number (omega arith) (omega arith) parts.0 in
+    let of = decimal_injective q.of p.of (omega arith) (omega arith) parts.1 in
+    (λ i. record { number = number i; of = of i })
+
+-- a name that tells of nothing, unless memory was refused
+pub name_refused : (text : List ℕ) (e : PlanFault) → (e ≡ unread.Words → BeginsAsNone text) → RefusesName text e
+name_refused text unread.Words none = none refl
+name_refused text unread.Memory none = tt
+
+-- a text that begins with the first line that its name tells of, and one that doesn't
+pub begun : (text mark : List ℕ) (revived : Bool) (sweep : Sweep) (p : Piece) → IsAskedFor sweep → IsMark mark → IsPiece p
+    → (rest : List ℕ) × (text ≡ piece_header revived mark sweep p ++ rest) → BeginsAs text mark revived sweep p
+begun text mark revived sweep p asked marked sound front = record { asked = asked; marked = marked; sound = sound; rest = front.0; written = front.1 }
+
+pub not_begun : (text m : List ℕ) (r revived : Bool) (s : Sweep) (q : Piece) → r ≡ revived
+    → ((mark : List ℕ) (told : Bool) (sweep : Sweep) (p : Piece) → BeginsAs text mark told sweep p → (m ≡ mark) × (s ≡ sweep) × (q ≡ p))
+    → ((rest : List ℕ) → ¬ (text ≡ piece_header r m s q ++ rest)) → (mark : List ℕ) (sweep : Sweep) (p : Piece) → ¬ (BeginsAs text mark revived sweep p)
+not_begun text m r revived s q same only none mark sweep p begins =
+    let its = only mark revived sweep p begins in
+    none begins.rest (begins.written ∙ (λ i. piece_header (sym same i) (sym its.0 i) (sym its.1 i) (sym its.2 i) ++ begins.rest))
+
+-- one that begins so with neither table begins as none
+pub neither : (text : List ℕ) → ((mark : List ℕ) (sweep : Sweep) (p : Piece) → ¬ (BeginsAs text mark false sweep p))
+    → ((mark : List ℕ) (sweep : Sweep) (p : Piece) → ¬ (BeginsAs text mark true sweep p)) → BeginsAsNone text
+neither text untold told mark false sweep p = untold mark sweep p
+neither text untold told mark true sweep p = told mark sweep p
+
+-- ---- the words of a sweep, cut at their spaces
+
+pub words_are : (words : List ℕ) (sweep : Sweep) → IsAskedFor sweep → words ≡ plan_text sweep → slice_split (λ byte. byte == 32) words ≡ words_of sweep
+words_are words sweep asked is =
+    ap (slice_split (λ byte. byte == 32)) (is ∙ sym (joined_is sweep)) ∙ joined_split 32 (words_of sweep) (omega arith) (words_lack sweep asked)
+
+-- the word of seeds, where it is no dash
+abbrev pub seeds_given : List ℕ → Option (List ℕ)
+seeds_given word = if bytes_eq word (codes "-") then None else Some word
+
+-- that word asks for the seeds again
+pub seeds_again : (word : Option (List ℕ)) (seeds : Option Seeds) → AsksForSeeds word seeds → AsksForSeeds (seeds_given (seeds_word seeds)) seeds
+seeds_again None None asks = tt
+seeds_again None (Some r) asks = absurd asks
+seeds_again (Some word) None asks = absurd asks
+seeds_again (Some word) (Some r) asks =
+    let other : bytes_eq (seeds_text r) (codes "-") ≡ false = bytes_eq_false (seeds_text r) (codes "-") (no_dash r word asks) in
+    let given : seeds_given (seeds_text r) ≡ Some (seeds_text r) = ap (λ b. if b then None else Some (seeds_text r)) other in
+    subst (λ o. AsksForSeeds o (Some r)) (sym given) (record { written = refl; ordered = asks.ordered; low = asks.low })
+
+-- seeds of one word are one
+one_seeds : (word : Option (List ℕ)) (r s : Option Seeds) → AsksForSeeds word r → AsksForSeeds word s → r ≡ s
+one_seeds None None None asks also = refl
+one_seeds None None (Some s) asks also = absurd also
+one_seeds None (Some r) s asks also = absurd asks
+one_seeds (Some word) None s asks also = absurd asks
+one_seeds (Some word) (Some r) None asks also = absurd also
+one_seeds (Some word) (Some r) (Some s) asks also = same_seeds (Some word) (Some word) (Some r) (Some s) asks also (asks.written ∙ sym also.written)
+
+-- the words behind the first are those of a width, or none, and of settings, none of which says a width where none is read
+pub record AreParted (rest : List (List ℕ)) (until : Option ℕ) (settings : List (List ℕ)) : Type 0 where
+  pub words : rest ≡ until_words until ++ settings
+  pub low : ForSome until (λ w. w < 2 ^ 64)
+  pub apart : until ≡ None → (value : List ℕ) (more : List (List ℕ)) → ¬ (settings ≡ (codes "until=" ++ value) ∷ more)
+
+-- the plan that was read of the words of a sweep is that sweep
+module _ (words : List ℕ) (sweep : Sweep) (asked : IsAskedFor sweep) (is : words ≡ plan_text sweep) (first : List ℕ) (rest : List (List ℕ)) (seeds : Option (List ℕ))
+    (cut : slice_split (λ byte. byte == 32) words ≡ first ∷ rest) (given : seeds ≡ seeds_given first) where
+  parts : first ∷ rest ≡ seeds_word sweep.seeds ∷ (until_words sweep.until ++ setting_words sweep.settings)
+  parts = sym cut ∙ words_are words sweep asked is
+
+  seeds_asked : AsksForSeeds seeds sweep.seeds
+  seeds_asked =
+      let same : first ≡ seeds_word sweep.seeds = (let all = parts in cc) in
+      subst (λ o. AsksForSeeds o sweep.seeds) (sym (given ∙ ap seeds_given same)) (seeds_again asked.seeds sweep.seeds asked.asked.seeded)
+
+  rest_is : until_words sweep.until ++ setting_words sweep.settings ≡ rest
+  rest_is = let all = parts in cc
+
+  module _ (until : Option ℕ) (settings : List (List ℕ)) (parted : AreParted rest until settings) where
+    both_are : (sweep.until ≡ until) × (setting_words sweep.settings ≡ settings)
+    both_are = same_rest sweep.until until (axes_of sweep.settings) settings asked.asked.width parted.low (asked_axes sweep asked) parted.apart (rest_is ∙ parted.words)
+
+    pub plan_is : (plan : Sweep) → IsSweepOf settings seeds until plan → plan ≡ sweep
+    plan_is plan read =
+        let sets = same_settings plan.settings sweep.settings (axes_in settings plan.settings read.settings.axes) (asked_axes sweep asked) (read.settings.axes.written ∙ sym both_are.1) in
+        let one = one_seeds seeds plan.seeds sweep.seeds read.seeded seeds_asked in
+        let wide : plan.until ≡ sweep.until = read.wanted ∙ sym both_are.0 in
+        (λ i. record { settings = sets i; seeds = one i; until = wide i })
+
+    pub plan_there : (e : PlanFault) → RefusesSweep settings seeds until e → e ≡ unread.Words → ⊥
+    plan_there unread.Memory refused same = cc
+    plan_there unread.Words refused same =
+        refused sweep (record {
+          settings = record {
+            axes = record { written = both_are.1; begins = asked.asked.settings.axes.begins; level = asked.asked.settings.axes.level; sound = asked.asked.settings.axes.sound };
+            once = asked.asked.settings.once;
+          };
+          seeded = seeds_asked;
+          few = asked.asked.few;
+          wanted = both_are.0;
+          width = asked.asked.width;
+        })
+
+  -- a width that is said is written as a number
+  pub width_told : (value : List ℕ) (more : List (List ℕ)) → rest ≡ (codes "until=" ++ value) ∷ more → ((n : ℕ) → ¬ (IsDecimal value n)) → ⊥
+  width_told value more says none = by sweep.until asked.asked.width (rest_is ∙ says)
+    where
+      by : (until : Option ℕ) → ForSome until IsWidth → until_words until ++ setting_words sweep.settings ≡ (codes "until=" ++ value) ∷ more → ⊥
+      by None sound same = no_setting_says (axes_of sweep.settings) value more (asked_axes sweep asked) same
+      by (Some w) sound same =
+          let most = (sound w refl).most in
+          let head : codes "until=" ++ decimal w ≡ codes "until=" ++ value = cc in
+          none w (record { written = append_cancel_left (codes "until=") (decimal w) value head; low = omega (arith, most) })
+
+-- the same of what reading the words gave, where these are the first and the rest of them
+abbrev pub AreCut : List ℕ → List ℕ → List (List ℕ) → Type 0
+AreCut words first rest = (sweep : Sweep) → IsAskedFor sweep → words ≡ plan_text sweep → slice_split (λ byte. byte == 32) words ≡ first ∷ rest
+
+pub plans_are : {E : Type 0} (words first : List ℕ) (rest : List (List ℕ)) (seeds : Option (List ℕ)) (until : Option ℕ) (settings : List (List ℕ)) (r : Result Sweep E)
+    → seeds ≡ seeds_given first → AreCut words first rest → AreParted rest until settings → IfOk r (IsSweepOf settings seeds until)
+    → IfOk r (λ plan. (sweep : Sweep) → IsAskedFor sweep → words ≡ plan_text sweep → plan ≡ sweep)
+plans_are words first rest seeds until settings (Ok plan) given cut parted read = λ sweep asked is. plan_is words sweep asked is first rest seeds (cut sweep asked is) given until settings parted plan read
+plans_are words first rest seeds until settings (Err e) given cut parted read = tt
+
+pub no_plans_are : {T : Type 0} (words first : List ℕ) (rest : List (List ℕ)) (seeds : Option (List ℕ)) (until : Option ℕ) (settings : List (List ℕ)) (r : Result T PlanFault)
+    → seeds ≡ seeds_given first → AreCut words first rest → AreParted rest until settings → IfErr r (RefusesSweep settings seeds until)
+    → IfErr r (λ fault. fault ≡ unread.Words → (sweep : Sweep) → IsAskedFor sweep → ¬ (words ≡ plan_text sweep))
+no_plans_are words first rest seeds until settings (Ok x) given cut parted refused = tt
+no_plans_are words first rest seeds until settings (Err e) given cut parted refused =
+    λ word sweep asked is. plan_there words sweep asked is first rest seeds (cut sweep asked is) given until settings parted e refused word
+
+-- the first of the words, and those behind it
+pub split_first : (items : List (Bor (List ℕ))) (d : Bor (List ℕ)) (words : List ℕ) → 0 < length items
+    → map (λ (word : Bor (List ℕ)). word.now) items ≡ slice_split (λ byte. byte == 32) words
+    → slice_split (λ byte. byte == 32) words ≡ (get_or items 0 d).now ∷ map (λ (word : Bor (List ℕ)). word.now) (drop 1 items)
+split_first [] d words some same = absurd (omega (arith, some))
+split_first (x ∷ xs) d words some same = sym same
+
+-- all that is behind the first
+pub behind_first : (items : List (Bor (List ℕ))) → take (length items - 1) (drop 1 items) ≡ drop 1 items
+behind_first items = take_all (length items - 1) (drop 1 items) (omega (arith, length-drop 1 items))
+
+-- words that ask for a sweep
+pub asked_by : (words : List (List ℕ)) (seeds : Option (List ℕ)) (until : Option ℕ) (plan : Sweep) → IsSweepOf words seeds until plan → IsAskedFor plan
+asked_by words seeds until plan is = record { settings = words; seeds = seeds; until = until; asked = is }
+
+-- no words at all are those of no sweep
+pub none_split : (items : List (Bor (List ℕ))) (words : List ℕ) (sweep : Sweep) → IsAskedFor sweep → words ≡ plan_text sweep → length items ≡ 0
+    → map (λ (word : Bor (List ℕ)). word.now) items ≡ slice_split (λ byte. byte == 32) words → ⊥
+none_split items words sweep asked is none same =
+    let all = same ∙ words_are words sweep asked is in
+    let long : length (map (λ (word : Bor (List ℕ)). word.now) items) ≡ suc (length (until_words sweep.until ++ setting_words sweep.settings)) = ap length all in
+    omega (arith, long, length-map items (λ (word : Bor (List ℕ)). word.now), none)
+
+pub some_split : (items : List (Bor (List ℕ))) (words : List ℕ) (sweep : Sweep) → IsAskedFor sweep → words ≡ plan_text sweep
+    → map (λ (word : Bor (List ℕ)). word.now) items ≡ slice_split (λ byte. byte == 32) words → 0 < length items
+some_split [] words sweep asked is same = absurd (none_split [] words sweep asked is refl same)
+some_split (x ∷ xs) words sweep asked is same = omega arith
+
+-- the words of a plan, cut at the first
+pub words_cut : (items listed : List (Bor (List ℕ))) (first d : Bor (List ℕ)) (words : List ℕ) → listed ≡ items → first ≡ get_or listed 0 d
+    → map (λ (word : Bor (List ℕ)). word.now) items ≡ slice_split (λ byte. byte == 32) words
+    → (sweep : Sweep) → IsAskedFor sweep → words ≡ plan_text sweep
+    → slice_split (λ byte. byte == 32) words ≡ first.now ∷ map (λ (word : Bor (List ℕ)). word.now) (take (length listed - 1) (drop 1 listed))
+words_cut items listed first d words same is all sweep asked text =
+    let head : first.now ≡ (get_or items 0 d).now = ap (λ (w : Bor (List ℕ)). w.now) (is ∙ ap (λ (l : List (Bor (List ℕ))). get_or l 0 d) same) in
+    let behind : map (λ (word : Bor (List ℕ)). word.now) (take (length listed - 1) (drop 1 listed)) ≡ map (λ (word : Bor (List ℕ)). word.now) (drop 1 items) =
+    ap (map (λ (word : Bor (List ℕ)). word.now)) (behind_first listed ∙ ap (drop 1) same) in
+    split_first items d words (some_split items words sweep asked text all) all ∙ (λ i. sym head i ∷ sym behind i)
+
+-- ---- the words behind the first
+
+-- none says a width: all are settings
+pub none_parted : (items : List (Bor (List ℕ))) → ((value : List ℕ) → ¬ (SaysWidth (map (λ (word : Bor (List ℕ)). word.now) items) value))
+    → AreParted (map (λ (word : Bor (List ℕ)). word.now) (take (length items - 1) (drop 1 items))) None (map (λ (word : Bor (List ℕ)). word.now) (take (length items - 1) (drop 1 items)))
+none_parted items none = record { words = refl; low = (λ w is. cc); apart = (λ same value more says. by items none value more says) }
+  where
+    by : (all : List (Bor (List ℕ))) → ((value : List ℕ) → ¬ (SaysWidth (map (λ (word : Bor (List ℕ)). word.now) all) value)) → (value : List ℕ) (more : List (List ℕ))
+        → ¬ (map (λ (word : Bor (List ℕ)). word.now) (take (length all - 1) (drop 1 all)) ≡ (codes "until=" ++ value) ∷ more)
+    by [] none value more says = cc
+    by (x ∷ xs) none value more says =
+        none value (x.now, more, ap (λ l. x.now ∷ l) (sym (ap (map (λ (word : Bor (List ℕ)). word.now)) (behind_first (x ∷ xs))) ∙ says))
+
+-- the second says this width: those behind it are settings
+pub one_parted : (items : List (Bor (List ℕ))) (value : List ℕ) (width : ℕ) → SaysWidth (map (λ (word : Bor (List ℕ)). word.now) items) value → IsDecimal value width
+    → AreParted (map (λ (word : Bor (List ℕ)). word.now) (take (length items - 1) (drop 1 items))) (Some width) (map (λ (word : Bor (List ℕ)). word.now) (take (length items - 2) (drop 2 items)))
+one_parted [] value width says is = let none : 0 ≡ suc (suc (length says.1)) = ap length says.2 in absurd (omega arith)
+one_parted (x ∷ []) value width says is =
+    let none : 1 ≡ suc (suc (length says.1)) = ap length says.2 in
+    absurd (omega arith)
+one_parted (x ∷ y ∷ items) value width says is =
+    let low = is.low in
+    let whole : x.now ∷ y.now ∷ map (λ (word : Bor (List ℕ)). word.now) items ≡ says.0 ∷ (codes "until=" ++ value) ∷ says.1 = says.2 in
+    let second : y.now ≡ codes "until=" ++ value = cc in
+    let left = length (x ∷ y ∷ items) - 2 in
+    let third : map (λ (word : Bor (List ℕ)). word.now) (take left (drop 2 (x ∷ y ∷ items))) ≡ map (λ (word : Bor (List ℕ)). word.now) items =
+    ap (map (λ (word : Bor (List ℕ)). word.now)) (take_all left items (omega arith)) in
+    record {
+      words = ap (map (λ (word : Bor (List ℕ)). word.now)) (behind_first (x ∷ y ∷ items))
+          ∙ (λ i. (second ∙ ap (λ l. codes "until=" ++ l) (sym is.written)) i ∷ sym third i);
+      low = (λ w same. (let one : width ≡ w = cc in omega (arith, low, one)));
+      apart = (λ none. cc);
+    }
+
+-- what it says is a number
+pub told_number : (items : List (Bor (List ℕ))) (first value words : List ℕ) (sweep : Sweep) → IsAskedFor sweep → words ≡ plan_text sweep
+    → SaysWidth (map (λ (word : Bor (List ℕ)). word.now) items) value → slice_split (λ byte. byte == 32) words ≡ first ∷ map (λ (word : Bor (List ℕ)). word.now) (take (length items - 1) (drop 1 items))
+    → ((n : ℕ) → ¬ (IsDecimal value n)) → ⊥
+told_number [] first value words sweep asked is says cut none = let empty : 0 ≡ suc (suc (length says.1)) = ap length says.2 in absurd (omega arith)
+told_number (x ∷ items) first value words sweep asked is says cut none =
+    let whole : x.now ∷ map (λ (word : Bor (List ℕ)). word.now) items ≡ says.0 ∷ (codes "until=" ++ value) ∷ says.1 = says.2 in
+    let rest : map (λ (word : Bor (List ℕ)). word.now) items ≡ (codes "until=" ++ value) ∷ says.1 = cc in
+    width_told words sweep asked is first (map (λ (word : Bor (List ℕ)). word.now) (take (length (x ∷ items) - 1) (drop 1 (x ∷ items)))) (seeds_given first) cut refl value says.1
+    (ap (map (λ (word : Bor (List ℕ)). word.now)) (behind_first (x ∷ items)) ∙ rest) none
+
+-- ---- what a word says of a width
+
+abbrev Parted : Type 0
+Parted = Option (Bor (List ℕ) × Bor (List ℕ))
+
+pub width_parts : (word value : List ℕ) (parted : Parted) → word ≡ codes "until=" ++ value → IsSplitOnceResult 61 word parted
+    → MatchOption parted ⊥ (λ x. (x.0.now ≡ codes "until") × (x.1.now ≡ value))
+width_parts word value parted is cut = split_after 61 word (codes "until") value parted cut (lit< tt) is (unlike 61 (codes "until") (lacks_from_test 61 (codes "until") refl))
+
+-- a name and a value behind an equals sign
+pub width_read : (word : List ℕ) (parted : Parted) (name value : Bor (List ℕ)) → parted ≡ Some (name, value) → IsSplitOnceResult 61 word parted → name.now ≡ codes "until"
+    → word ≡ codes "until=" ++ value.now
+width_read word parted name value some cut is =
+    let parts = rw some at (split_parts 61 word parted cut (lit< tt)) in
+    parts.0 ∙ ap (λ l. l ++ 61 ∷ value.now) is
+
+pub width_long : (items : List (Bor (List ℕ))) (value : List ℕ) → SaysWidth (map (λ (word : Bor (List ℕ)). word.now) items) value → 2 ≤ length items
+width_long items value says =
+    let long : length (map (λ (word : Bor (List ℕ)). word.now) items) ≡ suc (suc (length says.1)) = ap length says.2 in
+    omega (arith, long, length-map items (λ (word : Bor (List ℕ)). word.now))
+
+pub width_second : (items : List (Bor (List ℕ))) (d : Bor (List ℕ)) (value : List ℕ) → SaysWidth (map (λ (word : Bor (List ℕ)). word.now) items) value
+    → (get_or items 1 d).now ≡ codes "until=" ++ value
+width_second [] d value says = let none : 0 ≡ suc (suc (length says.1)) = ap length says.2 in absurd (omega arith)
+width_second (x ∷ []) d value says = let none : 1 ≡ suc (suc (length says.1)) = ap length says.2 in absurd (omega arith)
+width_second (x ∷ y ∷ items) d value says =
+    let whole : x.now ∷ y.now ∷ map (λ (word : Bor (List ℕ)). word.now) items ≡ says.0 ∷ (codes "until=" ++ value) ∷ says.1 = says.2 in
+    cc
+
+pub second_width : (items : List (Bor (List ℕ))) (d : Bor (List ℕ)) (value : List ℕ) → 2 ≤ length items → (get_or items 1 d).now ≡ codes "until=" ++ value
+    → SaysWidth (map (λ (word : Bor (List ℕ)). word.now) items) value
+second_width [] d value long is = absurd (omega (arith, long))
+second_width (x ∷ []) d value long is = absurd (omega (arith, long))
+second_width (x ∷ y ∷ items) d value long is = (x.now, map (λ (word : Bor (List ℕ)). word.now) items, ap (λ l. x.now ∷ l ∷ map (λ (word : Bor (List ℕ)). word.now) items) is)

@@ -1,0 +1,36 @@
+-- What stands behind the first line of a piece: its runs' lines, or its cases where these have as many runs as are enough.
+use Rattle.std.specs.Prelude.{ℕ, ◌-◌, List, ◌++◌, Option, Some, None, take, drop}
+use Rattle.sweep_plan.specs.Sweep.{Sweep, case_count, run_count, seed_count}
+use Rattle.figures.specs.Notes.{Note}
+use Rattle.figures.specs.declared.summary.CaseSummary.{CaseSummary}
+use Rattle.shards.specs.declared.piece.Piece.{Piece}
+use Rattle.shards.specs.Pieces.{first_run, past_run}
+use Rattle.sweep.specs.Summaries.{IsGathered, summaries_in}
+use Rattle.table_rows.specs.Lines.{AreLines, ReadsLines}
+use Rattle.table_rows.specs.Cases.{AreCases, ReadsCases}
+use Rattle.shard_merge.specs.declared.told.Told.{Told}
+
+-- how many of so many things the piece has, and which of them these are
+abbrev pub share : ℕ → Piece → ℕ
+share total p = past_run p total - first_run p total
+
+abbrev pub share_of : {X : Type 0} → ℕ → Piece → List X → List X
+share_of total p things = take (share total p) (drop (first_run p total) things)
+
+-- the text is that of a sweep that has a width, or none: a line for each run of the piece, or its cases
+abbrev pub AreBehind : Option ℕ → Sweep → Piece → List ℕ → Type 0
+AreBehind None sweep p text = AreLines text (share (run_count sweep) p)
+AreBehind (Some width) sweep p text = AreCases width (seed_count sweep.seeds) text (share (case_count sweep.settings) p)
+
+-- the same, with what was told before, and is told then: the notes of the lines are gathered, or the cases summed up
+abbrev pub ReadsBehind : Option ℕ → Sweep → Piece → List ℕ → Told → Told → Type 0
+ReadsBehind None sweep p text before after =
+    ReadsLines text (share (run_count sweep) p)
+    (λ more. (each : ℕ) (notes : List Note) → IsGathered each notes before.gathering → IsGathered each (notes ++ more) after.gathering)
+ReadsBehind (Some width) sweep p text before after =
+    ReadsCases width (seed_count sweep.seeds) text (share (case_count sweep.settings) p) before.cases.items after.cases.items
+
+-- the summaries of the cases
+abbrev pub summaries_told : Option ℕ → Told → List CaseSummary
+summaries_told None told = summaries_in told.gathering
+summaries_told (Some width) told = told.cases.items

@@ -1,0 +1,29 @@
+//! Why shards aren't joined: a text is no shard, of another sweep, doubled or torn, a shard is missing, the table's
+//! sink failed, or memory was refused.
+use thiserror::Error;
+
+/// Why texts weren't put together. Places are counted from 0.
+#[derive(Clone, Copy, Debug, PartialEq, Eq, Error)]
+pub enum JoinFault {
+    /// The text at this place is no piece of a sweep.
+    #[error("no piece of a sweep")]
+    NoPiece(usize),
+    /// The text at this place is a piece of another sweep than the first.
+    #[error("of another sweep")]
+    Other(usize),
+    /// The text at this place is the same piece as one before it.
+    #[error("there twice")]
+    Doubled(usize),
+    /// The text at this place is a piece that isn't whole.
+    #[error("torn")]
+    Torn(usize),
+    /// The piece of this number, counted from 1, isn't there.
+    #[error("missing")]
+    Missing(u64),
+    /// The table's sink failed.
+    #[error("write")]
+    Write,
+    /// Memory was refused.
+    #[error("memory")]
+    Memory,
+}

@@ -1,0 +1,234 @@
+//! What the first line of a piece tells.
+ghost use Rattle.std.specs.Prelude.{◌≡◌, ◌==◌, ◌≤◌, ◌++◌, ◌∷◌, All, List, ℕ, Bool, None, Some, option_map, true, false, if◌then◌else◌, IfOk, IfErr, IfSome, IsNone, bytes_eq, codes, get_or, length, map};
+ghost use Rattle.std.specs.List.{slice_split};
+ghost use Rattle.sweep_plan.specs.Sweep.{Sweep};
+ghost use Rattle.sweep_plan.specs.declared.fault.PlanFault.TheVariants as unread;
+ghost use Rattle.shards.specs.declared.piece.Piece.{Piece as Part};
+ghost use Rattle.shards.specs.Pieces.{IsPiece, piece_text};
+ghost use Rattle.shards.specs.Names.{plan_text};
+ghost use Rattle.sweep.specs.Runs.{IsAskedFor};
+ghost use Rattle.shard_merge.specs.Joined.{IsMark};
+ghost use Rattle.sweep.specs.Pieces.{piece_header};
+ghost use Rattle.shard_merge.specs.declared.fault.JoinFault.TheVariants as join;
+ghost use Rattle.shard_merge.specs.Reasons.{BeginsAs, BeginsAsNone, RefusesName, SaysWidth};
+
+use crate::fault::JoinFault;
+use decimals::number;
+use shards::Piece;
+use std::alloc::Global;
+use sweep::write_front;
+use sweep_plan::{Plan, PlanFault};
+use trace::Put;
+
+/// What the name of a piece tells.
+#[derive(Drop)]
+pub(crate) struct Head<'a> {
+    /// Which piece it is.
+    pub(crate) piece: Piece,
+    /// The mark of the scenario's text.
+    pub(crate) mark: &'a str,
+    /// The sweep.
+    pub(crate) plan: Plan,
+    /// Whether its tables tell of members that were taken for alive again.
+    pub(crate) revived: bool,
+}
+
+/// What the first line of a text tells, where that is the first line of a piece whose table tells, or doesn't, of members
+/// that were taken for alive again.
+pub(crate) fn head_of<'a>(
+    alloc: Global,
+    text: &'a str,
+    revived: bool,
+) -> Result<Option<Head<'a>>, JoinFault>
+    ensures found { IfOk result (λ found. IfSome found (λ head. BeginsAs text.entry.now head.mark.now head.revived head.plan head.piece)) }
+    ensures none { IfOk result (λ found. IsNone found → (mark : List ℕ) (sweep : Sweep) (p : Part) → ¬ (BeginsAs text.entry.now mark revived sweep p)) }
+    ensures memory { IfErr result (λ fault. fault ≡ join.Memory) }
+{
+    let head = match read_head(alloc, text, revived) {
+        Ok(head) => head,
+        Err(PlanFault::Words) => return Ok(None),
+        Err(PlanFault::Memory) => return Err(JoinFault::Memory),
+    };
+    let begins = begins_as(alloc, text.as_bytes(), &head, head.piece)?;
+    if !begins {
+        return Ok(None);
+    }
+    Ok(Some(head))
+}
+
+/// What the name of a text tells; the name doesn't tell of the table, so that is given.
+///
+/// Faults: `Words` where it is no name of a piece; `Memory`.
+fn read_head<'a>(alloc: Global, text: &'a str, revived: bool) -> Result<Head<'a>, PlanFault>
+    ensures piece { IfOk result (λ head. IsPiece head.piece) }
+    ensures asked { IfOk result (λ head. IsAskedFor head.plan) }
+    ensures marked { IfOk result (λ head. IsMark head.mark.now) }
+    ensures same { IfOk result (λ head. head.revived ≡ revived) }
+    ensures only { IfOk result (λ head. (mark : List ℕ) (told : Bool) (sweep : Sweep) (p : Part) → BeginsAs text.entry.now mark told sweep p
+        → (head.mark.now ≡ mark) × (head.plan ≡ sweep) × (head.piece ≡ p)) }
+    ensures refused { IfErr result (RefusesName text.entry.now) }
+{
+    let Some((word, rest)) = parts_of_name(text) else {
+        return Err(PlanFault::Words);
+    };
+    let Some(piece) = Piece::read(word) else {
+        return Err(PlanFault::Words);
+    };
+    let Some((mark, words)) = rest.split_once(' ') else {
+        return Err(PlanFault::Words);
+    };
+    let plan = read_plan(alloc, words)?;
+    Ok(Head {
+        piece,
+        mark,
+        plan,
+        revived,
+    })
+}
+
+/// Which piece a text says that it is, and the rest of its name.
+fn parts_of_name<'a>(text: &'a str) -> Option<(&'a str, &'a str)>
+    ensures quoteless { IfSome result (λ parts. All (λ byte. (byte == 34) ≡ false) parts.1.now) }
+    ensures some { IfSome result (λ parts. (mark : List ℕ) (revived : Bool) (sweep : Sweep) (p : Part) → BeginsAs text.entry.now mark revived sweep p
+        → (parts.0.now ≡ piece_text p) × (parts.1.now ≡ mark ++ 32 ∷ plan_text sweep)) }
+    ensures none { IsNone result → BeginsAsNone text.entry.now }
+{
+    let Some(inside) = text.strip_prefix('"') else {
+        return None;
+    };
+    let Some((name, _)) = inside.split_once('"') else {
+        return None;
+    };
+    name.split_once(' ')
+}
+
+/// Whether a text begins with the first line of this piece of the sweep.
+pub(crate) fn begins_as(
+    alloc: Global,
+    text: &[u8],
+    head: &Head<'_>,
+    piece: Piece,
+) -> Result<bool, JoinFault>
+    ensures begins { IfOk result (λ it. it ≡ true → (rest : List ℕ) × (text.now ≡ piece_header head.now.revived head.now.mark.now head.now.plan piece ++ rest)) }
+    ensures other { IfOk result (λ it. it ≡ false → (rest : List ℕ) → ¬ (text.now ≡ piece_header head.now.revived head.now.mark.now head.now.plan piece ++ rest)) }
+    ensures memory { IfErr result (λ fault. fault ≡ join.Memory) }
+{
+    let header = header_of(alloc, head, piece)?;
+    Ok(text.strip_prefix(header.as_slice()).is_some())
+}
+
+/// The first line of a piece of the sweep.
+pub(crate) fn header_of(alloc: Global, head: &Head<'_>, piece: Piece) -> Result<Vec<u8>, JoinFault>
+    ensures header { IfOk result (λ header. header.items ≡ piece_header head.now.revived head.now.mark.now head.now.plan piece) }
+    ensures memory { IfErr result (λ fault. fault ≡ join.Memory) }
+{
+    let mut header = Put::new(Vec::new(alloc));
+    match write_front(
+        alloc,
+        &head.plan,
+        piece,
+        head.mark,
+        head.revived,
+        &mut header,
+    ) {
+        Ok(()) => Ok(header.into_inner()),
+        Err(_) => Err(JoinFault::Memory),
+    }
+}
+
+/// The number of the piece that a text says that it is.
+pub(crate) fn number_of(text: &str) -> Option<u64>
+    ensures some { IfSome result (λ number. 1 ≤ number) }
+    ensures only { IfSome result (λ number. (mark : List ℕ) (revived : Bool) (sweep : Sweep) (p : Part) → BeginsAs text.now mark revived sweep p → p.number ≡ number) }
+    ensures none { IsNone result → BeginsAsNone text.now }
+{
+    let Some((word, _)) = parts_of_name(text) else {
+        return None;
+    };
+    let Some(piece) = Piece::read(word) else {
+        return None;
+    };
+    Some(piece.number)
+}
+
+/// The sweep that these words ask for: the range of its seeds, or a dash, the width of its cases' intervals where it has one,
+/// and its settings.
+fn read_plan(alloc: Global, words: &str) -> Result<Plan, PlanFault>
+    ensures asked { IfOk result IsAskedFor }
+    ensures only { IfOk result (λ plan. (sweep : Sweep) → IsAskedFor sweep → words.now ≡ plan_text sweep → plan ≡ sweep) }
+    ensures refused { IfErr result (λ fault. fault ≡ unread.Words → (sweep : Sweep) → IsAskedFor sweep → ¬ (words.now ≡ plan_text sweep)) }
+{
+    let all = words_of(alloc, words)?;
+    if all.is_empty() {
+        return Err(PlanFault::Words);
+    }
+    let listed = all.as_slice();
+    let first = first_or(listed, words);
+    let Some(word) = width_behind(listed) else {
+        return Plan::read(alloc, &listed[1..], seeds_of(first), None);
+    };
+    let Some(width) = number(word) else {
+        return Err(PlanFault::Words);
+    };
+    Plan::read(alloc, &listed[2..], seeds_of(first), Some(width))
+}
+
+/// What the word behind the first says of a width, where it does.
+fn width_behind<'a>(listed: &[&'a str]) -> Option<&'a str>
+    ensures some { IfSome result (λ value. SaysWidth (map (λ word. word.now) listed.now) value.now) }
+    ensures long { IfSome result (λ value. 2 ≤ length listed.now) }
+    ensures none { IsNone result → (value : List ℕ) → ¬ (SaysWidth (map (λ word. word.now) listed.now) value) }
+{
+    if listed.len() < 2 {
+        return None;
+    }
+    width_in(listed[1])
+}
+
+/// What a word says of a width, where it does: what stands behind `until=`.
+fn width_in<'a>(word: &'a str) -> Option<&'a str>
+    ensures some { IfSome result (λ value. word.entry.now ≡ codes "until=" ++ value.now) }
+    ensures none { IsNone result → (value : List ℕ) → ¬ (word.entry.now ≡ codes "until=" ++ value) }
+{
+    let Some((name, value)) = word.split_once('=') else {
+        return None;
+    };
+    if name != "until" {
+        return None;
+    }
+    Some(value)
+}
+
+/// The first of some words; another where there is none.
+fn first_or<'a>(listed: &[&'a str], other: &'a str) -> &'a str
+    ensures { result ≡ get_or listed.now 0 other.entry }
+{
+    if listed.is_empty() {
+        return other;
+    }
+    listed[0]
+}
+
+/// Words with spaces between them, one by one.
+fn words_of<'a>(alloc: Global, words: &'a str) -> Result<Vec<&'a str>, PlanFault>
+    ensures all { IfOk result (λ all. map (λ word. word.now) all.items ≡ slice_split (λ byte. byte == 32) words.entry.now) }
+    ensures memory { IfErr result (λ fault. fault ≡ unread.Memory) }
+{
+    let mut all = Vec::new(alloc);
+    for word in words.split(' ') {
+        if all.push(word).is_err() {
+            return Err(PlanFault::Memory);
+        }
+    }
+    Ok(all)
+}
+
+/// The word of the seeds, where there is one.
+fn seeds_of<'a>(word: &'a str) -> Option<&'a str>
+    ensures { option_map (λ seeds. seeds.now) result ≡ (if bytes_eq word.entry.now (codes "-") then None else Some word.entry.now) }
+{
+    if word == "-" {
+        return None;
+    }
+    Some(word)
+}

@@ -1,0 +1,85 @@
+//! What is told of the cases of pieces that are read.
+ghost use Rattle.std.specs.Prelude.{◌≡◌, ◌<◌, ◌≤◌, [], IfErr, OnOk};
+ghost use Rattle.table_rows.specs.Refused.{Refuses};
+ghost use Rattle.shard_merge.specs.Behind.{share};
+ghost use Rattle.shards.specs.Pieces.{IsPiece};
+ghost use Rattle.sweep.specs.Runs.{IsAskedFor};
+
+use figures::CaseSummary;
+use shards::Piece;
+use std::alloc::Global;
+use sweep::Gathering;
+use sweep_plan::Plan;
+use table_rows::{LineFault, read_cases, read_lines};
+
+/// What is told of the cases of a sweep while its pieces are read.
+#[derive(Drop)]
+pub(crate) struct Told {
+    /// What is kept of the runs, where each case runs with each seed.
+    gathering: Gathering,
+    /// The summaries, where cases have as many runs as are enough.
+    cases: Vec<CaseSummary>,
+}
+
+impl Told {
+    ghost use Rattle.shard_merge.specs.Behind.{AreBehind, ReadsBehind, summaries_told};
+    ghost use Rattle.sweep.specs.Summaries.{IsGathered};
+
+    /// Nothing yet, of a sweep whose cases have at most so many runs each.
+    pub(crate) fn new(alloc: Global, each: usize) -> Told
+        requires some { 0 < each }
+        requires few { each ≤ 1000000 }
+        ensures runs { IsGathered each [] result.gathering }
+        ensures cases { result.cases.items ≡ [] }
+    {
+        Told {
+            gathering: Gathering::new(alloc, each as u64),
+            cases: Vec::new(alloc),
+        }
+    }
+
+    /// Reads what stands behind the first line of a piece.
+    pub(crate) fn read(
+        &mut self,
+        alloc: Global,
+        plan: &Plan,
+        piece: Piece,
+        lines: &str,
+    ) -> Result<(), LineFault>
+        requires asked { IsAskedFor plan.now }
+        requires piece { IsPiece piece }
+        ensures read { OnOk result (ReadsBehind plan.now.until plan.now piece lines.now self.old self.new) }
+        ensures refused { IfErr result (Refuses (AreBehind plan.now.until plan.now piece lines.now)) }
+    {
+        let each = plan.runs_of_case();
+        match plan.until() {
+            Some(width) => {
+                let count = share(piece, plan.cases());
+                read_cases(alloc, lines, width, each, count, &mut self.cases)
+            }
+            None => {
+                let count = share(piece, plan.runs());
+                read_lines(alloc, lines, count, &mut self.gathering)
+            }
+        }
+    }
+
+    /// The summaries of the cases of a sweep that has a width, or none.
+    pub(crate) fn into_summaries(self, until: Option<u64>) -> Vec<CaseSummary>
+        ensures { result.items ≡ summaries_told until self }
+    {
+        match until {
+            Some(_width) => self.cases,
+            None => self.gathering.into_summaries(),
+        }
+    }
+}
+
+/// How many of so many a piece has.
+fn share(piece: Piece, all: usize) -> usize
+    requires piece { IsPiece piece }
+    requires few { all ≤ 1000000 }
+    ensures { result ≡ share all piece }
+{
+    piece.past(all) - piece.first(all)
+}

@@ -1,0 +1,72 @@
+//! The words that ask for a sweep, as one text.
+ghost use Rattle.std.specs.Prelude.{◌≡◌, ◌++◌, ◌∷◌, flat_map, string_bytes, IfOk, OnOk};
+ghost use Rattle.sweep_plan.specs.Axes.{axes_of};
+ghost use Rattle.sweep_plan.specs.Asked.{axis_text};
+ghost use Rattle.shards.specs.Names.{seeds_word, until_text, plan_text};
+
+use base::Memory;
+use std::alloc::Global;
+use sweep_plan::{Plan, Seeds, Setting, axis_end, axis_text};
+
+/// The words that ask for a sweep: the range of its seeds, or a dash where it has none, the width of its cases' intervals where
+/// it has one, and each key that is set with its values, or keys that go together, with spaces between them, as
+/// `1..200 until=5 swim.period=200,300`. No key of a setting is named `until`.
+pub fn plan_text(alloc: Global, plan: &Plan) -> Result<String, Memory>
+    ensures { IfOk result (λ text. string_bytes text ≡ plan_text plan.now) }
+{
+    let mut text = seeds_word(alloc, plan.seeds())?;
+    push_width(alloc, &mut text, plan.until())?;
+    push_settings(alloc, &mut text, plan.settings())?;
+    Ok(text)
+}
+
+/// The word of the seeds.
+fn seeds_word(alloc: Global, seeds: Option<Seeds>) -> Result<String, Memory>
+    ensures { IfOk result (λ text. string_bytes text ≡ seeds_word seeds) }
+{
+    match seeds {
+        Some(seeds) => {
+            let first = seeds.first;
+            let last = seeds.last;
+            Ok(format!(in alloc; "{first}..{last}")?)
+        }
+        None => Ok(String::from_str(alloc, "-")?),
+    }
+}
+
+/// Adds a space and the word of the width, where there is one.
+fn push_width(alloc: Global, text: &mut String, until: Option<u64>) -> Result<(), Memory>
+    ensures { OnOk result (string_bytes text.new ≡ string_bytes text.old ++ until_text until) }
+{
+    match until {
+        Some(width) => {
+            let word = format!(in alloc; " until={width}")?;
+            text.push_str(word.as_str())?;
+            Ok(())
+        }
+        None => Ok(()),
+    }
+}
+
+/// Adds a space and the word of each axis.
+fn push_settings(alloc: Global, text: &mut String, settings: &[Setting]) -> Result<(), Memory>
+    ensures { OnOk result (string_bytes text.new ≡ string_bytes text.old ++ flat_map (λ axis. 32 ∷ axis_text axis) (axes_of settings.now)) }
+{
+    let mut from = 0;
+    while from < settings.len() {
+        let end = axis_end(settings, from);
+        push_axis(alloc, text, &settings[from..end])?;
+        from = end;
+    }
+    Ok(())
+}
+
+/// Adds a space and the word of an axis.
+fn push_axis(alloc: Global, text: &mut String, axis: &[Setting]) -> Result<(), Memory>
+    ensures { OnOk result (string_bytes text.new ≡ string_bytes text.old ++ 32 ∷ axis_text axis.now) }
+{
+    let word = axis_text(alloc, axis)?;
+    text.push_str(" ")?;
+    text.push_str(word.as_str())?;
+    Ok(())
+}

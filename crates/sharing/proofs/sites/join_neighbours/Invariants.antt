@@ -1,5 +1,0 @@
-use Rattle.sharing.specs.Parts.{AreSites}
-use Rattle.sharing.proofs.sites.join_neighbours.Given as goal
-
-abbrev pub invariant-loop-other : goal.invariant-loop-other
-invariant-loop-other l = AreSites l.sites

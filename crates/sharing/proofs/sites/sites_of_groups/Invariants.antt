@@ -1,5 +1,0 @@
-use Rattle.sharing.specs.Parts.{AreSites}
-use Rattle.sharing.proofs.sites.sites_of_groups.Given as goal
-
-abbrev pub invariant-loop-group : goal.invariant-loop-group
-invariant-loop-group l = AreSites l.sites.items

@@ -1,0 +1,4 @@
+pub mod Counted
+pub mod Joined
+pub mod Lines
+pub mod Parts

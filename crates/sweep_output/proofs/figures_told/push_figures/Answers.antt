@@ -1,0 +1,15 @@
+use Rattle.std.proofs.Common.{◌≡◌, ◌∙◌, ◌++◌, ◌∷◌, [], ap, codes, decimal, map, string_bytes}
+use Rattle.figures.specs.Lines.{where_told}
+use Rattle.sweep_output.specs.Objects.{figure_members, first_members, last_members, member}
+use Rattle.sweep_output.proofs.Parts.{then_also, three_joined}
+use Rattle.sweep_output.proofs.figures_told.push_figures.Goals as goal
+
+pub returns : goal.returns
+unfolding figure_members
+returns c =
+    let case = c.args.case.now in
+    let old = map string_bytes c.args.members.now.items in
+    let revived = where_told c.args.revived (member (codes "revived") (decimal case.revived) ∷ []) in
+    then_also c.push_last.result _ _ c.push_last.ensures
+    (λ is. is ∙ ap (λ l. l ++ last_members case) (c.in_ok-push_revived.ensures ∙ ap (λ l. l ++ revived) c.in_ok-push_first.ensures)
+    ∙ three_joined old (first_members case) revived (last_members case))

@@ -1,0 +1,89 @@
+//! The objects of two cases.
+use super::case_objects;
+use figures::{CaseSummary, Histogram};
+use goals::Want;
+use std::test::Fail;
+use sweep_plan::Plan;
+
+/// Three runs, of which members were thrown out in two; not all crashes were confirmed.
+const THREE_RUNS: CaseSummary = CaseSummary {
+    runs: 3,
+    crashes: 6,
+    suspect_p5: Some(0),
+    suspect_p50: Some(150),
+    suspect_p95: Some(200),
+    confirm_p5: Some(400),
+    confirm_p50: Some(500),
+    confirm_p95: None,
+    confirm_p99: None,
+    confirm_greatest: None,
+    confirm_times: Histogram {
+        width: 26,
+        bins: [0, 0, 0, 0, 0, 0, 0, 0, 0, 0, 0, 0, 0, 0, 0, 2, 0, 0, 0, 2],
+    },
+    last_p5: Some(500),
+    last_p50: Some(950),
+    last_p95: None,
+    last_greatest: None,
+    false_suspect: 133,
+    thrown_out: 2,
+    revived: 2,
+    runs_with: 2,
+    share_low: 208,
+    share_high: 938,
+    messages: Some(5),
+};
+
+/// One run that ends at moment 0.
+const ONE_RUN: CaseSummary = CaseSummary {
+    runs: 1,
+    crashes: 0,
+    suspect_p5: None,
+    suspect_p50: None,
+    suspect_p95: None,
+    confirm_p5: None,
+    confirm_p50: None,
+    confirm_p95: None,
+    confirm_p99: None,
+    confirm_greatest: None,
+    confirm_times: Histogram {
+        width: 1,
+        bins: [0; 20],
+    },
+    last_p5: None,
+    last_p50: None,
+    last_p95: None,
+    last_greatest: None,
+    false_suspect: 0,
+    thrown_out: 0,
+    revived: 0,
+    runs_with: 0,
+    share_low: 0,
+    share_high: 793,
+    messages: None,
+};
+
+/// Their lines, where `confirm_p50<=500` is wanted.
+const LINES: &str =
+    "{\"swim.period\":200,\"lifeguard.probe\":true,\"runs\":3,\"suspect_p50\":150,\"confirm_p50\":500,\
+\"confirm_p99\":null,\"confirm_greatest\":null,\"last_p50\":950,\"last_greatest\":null,\"false_suspect\":1.33,\
+\"thrown_out\":2,\"revived\":2,\"runs_with\":2,\"share_low\":20.8,\"share_high\":93.8,\"messages\":0.05,\"front\":true,\
+\"meets\":\"yes\",\"best\":true}
+{\"swim.period\":250,\"lifeguard.probe\":true,\"runs\":1,\"suspect_p50\":null,\"confirm_p50\":null,\
+\"confirm_p99\":null,\"confirm_greatest\":null,\"last_p50\":null,\"last_greatest\":null,\"false_suspect\":0.00,\
+\"thrown_out\":0,\"revived\":0,\"runs_with\":0,\"share_low\":0.0,\"share_high\":79.3,\"messages\":null,\"front\":true,\
+\"meets\":\"no\",\"best\":false}
+";
+
+#[test]
+fn cases_are_objects(rt: HostRuntime) -> Result<(), Fail> {
+    let words = ["swim.period=200,250", "lifeguard.probe=true"];
+    let plan = Plan::read(rt.alloc(), &words, None, None)?;
+    let want = Want::read("confirm_p50<=500").expect(&rt, "a want");
+    if plan.cases() != 2 {
+        panic!(&rt; "two cases");
+    }
+    let text = case_objects(rt.alloc(), true, &plan, &[want], &[THREE_RUNS, ONE_RUN])?;
+    assert!(rt; text.as_str() == LINES, "{text}");
+    Ok(())
+}

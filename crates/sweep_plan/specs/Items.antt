@@ -1,0 +1,35 @@
+-- Items of lists: how they are named, and how a key keeps such a name.
+use Rattle.std.specs.Prelude.{ℕ, ◌-◌, List, [], ◌∷◌, ◌++◌, Bool, false, ◌&&◌, ◌||◌, ◌==◌, nat_lt, length, filter, replicate}
+use Rattle.std.specs.List.{list_all}
+use Rattle.std.specs.Char.{is_ascii_lowercase, is_ascii_digit}
+use Rattle.std.specs.Option.{option_map_or}
+use Rattle.toml.specs.Data.{Data}
+use Rattle.schema.specs.Values.{text_if}
+use Rattle.schema.specs.declared.schema.FormatKey.{FormatKey}
+use Rattle.schema.specs.declared.schema.FormatKey.TheVariants as key
+use Rattle.sweep_plan.specs.declared.items.ItemName.{ItemName}
+
+-- a text that says which item it is, behind a dot; nothing where the item has none at the key
+abbrev pub name_part : FormatKey → Data → List ℕ
+name_part k d = option_map_or (λ text. 46 ∷ text) (text_if k d) []
+
+-- the name of an item: that of a group, the member that is meant, or the groups from which and to which a path or a cut goes; each behind a dot
+abbrev pub name_of_item : Data → List ℕ
+name_of_item d = name_part key.Name d ++ name_part key.Member d ++ name_part key.From d ++ name_part key.To d
+
+-- names are made of small letters, digits, dashes and dots
+abbrev pub is_letter : ℕ → Bool
+is_letter b = ((is_ascii_lowercase b || is_ascii_digit b) || (b == 45)) || (b == 46)
+
+-- a name in a word begins with a dot, and has at most 44 bytes: so many have the names of two groups and a number of nine digits, each behind a dot
+abbrev pub is_item_name : List ℕ → Bool
+is_item_name [] = false
+is_item_name (first ∷ rest) = ((first == 46) && nat_lt (length rest) 44) && list_all is_letter rest
+
+-- a name is kept in 44 bytes, filled up with zeros
+abbrev pub kept_name : List ℕ → ItemName
+kept_name name = record { bytes = name ++ replicate (44 - length name) 0 }
+
+-- the name that is kept: what stands there of letters
+abbrev pub item_text : ItemName → List ℕ
+item_text item = filter is_letter item.bytes

@@ -1,0 +1,93 @@
+//! The keys of items of lists, by their names.
+ghost use Rattle.std.specs.Prelude.{◌≡◌, ◌∷◌, [], IfSome, IsNone};
+ghost use Rattle.std.specs.List.{flat_map};
+ghost use Rattle.schema.specs.Schema.{spelling_of};
+ghost use Rattle.sweep_plan.specs.Keys.{in_table, keys_of_items, keys_of_table, listed};
+ghost use Rattle.sweep_plan.specs.Listed.{IsItemIn, IsNamedIn, NamesNone};
+ghost use Rattle.sweep_plan.specs.declared.items.ItemName.{ItemName as Wanted};
+
+use crate::items::ItemName;
+use crate::keys::{SettingKey, is_plain};
+use schema::{FormatKey, KeyRule, Kind, Section, Version};
+
+/// The key of this name among those of items of lists: the list's name, that of the item and the key's, with dots
+/// between them.
+#[tactic(auto, unfolding(crate::specs::Keys::listed))]
+pub(crate) fn listed_key(word: &[u8]) -> Option<SettingKey>
+    ensures some { IfSome result (IsNamedIn listed word.now) }
+    ensures none { IsNone result → NamesNone listed word.now }
+{
+    key_of_lists(Section::Top.rows(Version::Three), word)
+}
+
+/// The key of this name among those that rows of the whole text give to items.
+fn key_of_lists(rows: &[KeyRule], word: &[u8]) -> Option<SettingKey>
+    ensures some { IfSome result (IsNamedIn (flat_map keys_of_items rows.now) word.now) }
+    ensures none { IsNone result → NamesNone (flat_map keys_of_items rows.now) word.now }
+{
+    for row in rows {
+        if let Some(key) = key_of_list(row, word) {
+            return Some(key);
+        }
+    }
+    None
+}
+
+/// The key of this name among those that a row of the whole text gives to items.
+fn key_of_list(row: &KeyRule, word: &[u8]) -> Option<SettingKey>
+    ensures some { IfSome result (IsNamedIn (keys_of_items row.now) word.now) }
+    ensures none { IsNone result → NamesNone (keys_of_items row.now) word.now }
+{
+    match row.kind {
+        Kind::List(section) => key_in_list(row.key, section.rows(Version::Three), word),
+        Kind::Whole { .. } | Kind::Switch | Kind::Text | Kind::Table(_) => None,
+    }
+}
+
+/// The key of this name among those that rows give to the items of a list.
+fn key_in_list(list: FormatKey, rows: &[KeyRule], word: &[u8]) -> Option<SettingKey>
+    ensures some { IfSome result (IsNamedIn (keys_of_table list rows.now) word.now) }
+    ensures none { IsNone result → NamesNone (keys_of_table list rows.now) word.now }
+{
+    for row in rows {
+        if let Some(key) = key_of_row(list, row, word) {
+            return Some(key);
+        }
+    }
+    None
+}
+
+/// The key of this name where it is that which a row gives to the items of a list.
+fn key_of_row(list: FormatKey, row: &KeyRule, word: &[u8]) -> Option<SettingKey>
+    ensures some { IfSome result (IsNamedIn (keys_of_table list (row.now ∷ [])) word.now) }
+    ensures none { IsNone result → NamesNone (keys_of_table list (row.now ∷ [])) word.now }
+{
+    if !is_plain(row.kind) {
+        return None;
+    }
+    match item_in(list.text().as_bytes(), row.key.text().as_bytes(), word) {
+        Some(item) => Some(SettingKey {
+            table: Some(list),
+            item: Some(item),
+            key: row.key,
+        }),
+        None => None,
+    }
+}
+
+/// The item's name in a word that is the name of a list, that of an item and the key's, with dots between them.
+fn item_in(list: &[u8], key: &[u8], word: &[u8]) -> Option<ItemName>
+    ensures some { IfSome result (IsItemIn list.now key.now word.now) }
+    ensures none { IsNone result → (item : Wanted) → ¬ (IsItemIn list.now key.now word.now item) }
+{
+    let Some(rest) = word.strip_prefix(list) else {
+        return None;
+    };
+    let Some(front) = rest.strip_suffix(key) else {
+        return None;
+    };
+    let Some(name) = front.strip_suffix(".".as_bytes()) else {
+        return None;
+    };
+    ItemName::read(name)
+}

@@ -1,0 +1,15 @@
+-- What a run that was made tells in its line.
+use Rattle.std.specs.Prelude.{◌<◌, ◌^◌, Bool, All}
+use Rattle.std.specs.Option.{ForSome}
+use Rattle.sweep_plan.specs.Values.{FitsToml}
+use Rattle.figures.specs.Figures.{figures_of}
+use Rattle.figures.specs.Lines.{figures_in_order}
+use Rattle.figures.specs.Notes.{IsSmall}
+use Rattle.sweep.specs.Runs.{Made, noted}
+
+-- it is written in few digits: each of its values, its figures and those of its note is at most 2^63 - 1
+pub record IsTellable (m : Made) : Type 0 where
+  pub note : IsSmall (noted m)
+  pub values : All (λ c. FitsToml c.value) m.case
+  pub seed : m.scenario.seed < 2 ^ 63
+  pub figures : (revived : Bool) → All (λ f. ForSome f (λ n. n < 2 ^ 63)) (figures_in_order revived (figures_of m.scenario m.rows))

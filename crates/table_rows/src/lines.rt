@@ -1,0 +1,63 @@
+//! Lines with their notes, one after the other.
+ghost use Rattle.std.specs.Prelude.{ℕ, List, ◌≡◌, ◌∷◌, ◌++◌, [], OnOk, IfOk, IfErr};
+ghost use Rattle.figures.specs.Notes.{Note};
+ghost use Rattle.table_rows.specs.Lines.{AreLines, HasLine, ReadsLine, ReadsLines};
+ghost use Rattle.table_rows.specs.Refused.{Refuses};
+
+use crate::fault::LineFault;
+use base::Memory;
+use figures::{NoteFault, RunNote};
+use std::alloc::Global;
+use sweep::Gather;
+
+/// Reads the first line of a text, gathers its note, and gives what is left of the text.
+///
+/// Faults: `Torn` where the text begins with no line; `Memory`.
+pub fn read_line<'a, G: Gather>(
+    alloc: Global,
+    text: &'a str,
+    gathering: &mut G,
+) -> Result<&'a str, LineFault>
+    ensures read { IfOk result (λ left. ReadsLine text.entry.now left.now
+        (λ note. (each : ℕ) (notes : List Note) → G.has gathering.old each notes → G.has gathering.new each (notes ++ note ∷ []))) }
+    ensures refused { IfErr result (Refuses (HasLine text.entry.now)) }
+{
+    let Some((word, rest)) = text.split_once(',') else {
+        return Err(LineFault::Torn);
+    };
+    let Some((_body, left)) = rest.split_once('\n') else {
+        return Err(LineFault::Torn);
+    };
+    let note = match RunNote::read(alloc, word) {
+        Ok(note) => note,
+        Err(NoteFault::Word) => return Err(LineFault::Torn),
+        Err(NoteFault::Memory) => return Err(LineFault::Memory),
+    };
+    match gathering.add(alloc, &note) {
+        Ok(()) => Ok(left),
+        Err(Memory) => Err(LineFault::Memory),
+    }
+}
+
+/// Reads the lines of a text, so many, and gathers their notes.
+///
+/// Faults: `Torn` where the text isn't so many lines; `Memory`.
+pub fn read_lines<G: Gather>(
+    alloc: Global,
+    text: &str,
+    count: usize,
+    gathering: &mut G,
+) -> Result<(), LineFault>
+    ensures read { OnOk result (ReadsLines text.now count
+        (λ more. (each : ℕ) (notes : List Note) → G.has gathering.old each notes → G.has gathering.new each (notes ++ more))) }
+    ensures refused { IfErr result (Refuses (AreLines text.now count)) }
+{
+    let mut left = text;
+    for _line in 0..count {
+        left = read_line(alloc, left, gathering)?;
+    }
+    if left.is_empty() {
+        return Ok(());
+    }
+    Err(LineFault::Torn)
+}

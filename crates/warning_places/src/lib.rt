@@ -1,8 +1,0 @@
-//! Where in a scenario's text what it is warned of stands.
-#![tactic(auto)]
-
-mod lines;
-mod placing;
-mod spans;
-
-pub use placing::places_of;
