@@ -56,7 +56,7 @@ pub(crate) fn write_all<'r, 'b, T: RowSink<P>, P, K: OfRun, R: Wait>(
             Ok(turn) => turn,
             Err(fault) => {
                 let fault = drained(rt, &mut takers, &mut patience, fault);
-                return Err(first_fault(so_far, fault));
+                return Err(fault_beside(so_far, fault));
             }
         };
         so_far = take_on::<T, P>(so_far, alloc, &turn.rows, scenario, &mut tallies, place);
@@ -69,7 +69,7 @@ pub(crate) fn write_all<'r, 'b, T: RowSink<P>, P, K: OfRun, R: Wait>(
 }
 
 /// Of the writer's own fault, where there is one, and another the first.
-fn first_fault(so_far: Result<(), Fault>, fault: Fault) -> Fault
+fn fault_beside(so_far: Result<(), Fault>, fault: Fault) -> Fault
     ensures { result ≡ fault_beside so_far fault }
 {
     match so_far {

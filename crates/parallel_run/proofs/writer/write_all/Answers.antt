@@ -24,7 +24,7 @@ next_turn-requires g c = record { all = takes _ _ _ _ _ _ _ _ _ _ c.loop.invaria
 pub returns-in-Err-clause-trace : goal.returns-in-Err-clause-trace
 returns-in-Err-clause-trace g c =
     let failed = g.T.RowSink.failed in
-    subst (λ fault. KeepsTrace c.args.writer.scenario.now (g.T.RowSink.held c.args.place.now) (g.T.RowSink.held c.loop.place) (failed c.args.place.now) (failed c.loop.place) (Err fault)) (sym c.first_fault.ensures)
+    subst (λ fault. KeepsTrace c.args.writer.scenario.now (g.T.RowSink.held c.args.place.now) (g.T.RowSink.held c.loop.place) (failed c.args.place.now) (failed c.loop.place) (Err fault)) (sym c.fault_beside.ensures)
     (ends_by _ _ _ _ _ _ _ _ _ _ c.loop.invariant.writing c.drained-fault.result c.drained-fault.ensures)
 
 pub take_on-so_far-requires-clause-named : goal.take_on-so_far-requires-clause-named
