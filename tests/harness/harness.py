@@ -1,4 +1,5 @@
-"""What the scripts of tests/ share: where things are, how programs are called, and the last line that ./test adds up."""
+"""What the scripts of tests/ share: where things are, how programs are called, how cases are counted, and the last line
+that ./test adds up."""
 
 import argparse
 import shutil
@@ -15,6 +16,9 @@ TOP = TESTS.parent
 BUILT = TOP / 'crates' / 'swimsim' / 'out' / 'swimsim'
 # no call takes as long as this
 SECONDS = 300
+
+# how a run ends whose write was refused: its status, standard output and standard error
+NOT_WRITTEN = (5, b'', b'swimsim: run F3\n')
 
 # what a call answered: its status, what it left on standard output and on standard error
 Ran = namedtuple('Ran', 'status out err')
@@ -58,15 +62,31 @@ def end(passed, failed, skipped=None):
     sys.exit(1 if failed else 0)
 
 
+class Skipped(Exception):
+    """A case that this machine or this program can't show, and why."""
+
+
 def run_cases(cases, made_in=lambda room: room):
-    """Runs cases that are functions which assert, each with what is made in a new folder; prints those that fail, and ends
-    the script."""
-    failed = 0
+    """Runs cases that are functions which assert, each with what is made in a new folder; prints those that fail and those
+    that are skipped, and ends the script."""
+    failed = skipped = 0
     for case in cases:
         with tempfile.TemporaryDirectory() as room:
             try:
                 case(made_in(Path(room)))
-            except (AssertionError, OSError, subprocess.CalledProcessError):
+            except Skipped as why:
+                skipped += 1
+                print(f'skipped {case.__name__}: {why}')
+            except Exception:  # a case that can't be run has failed, and the others go on
                 failed += 1
                 print(f'FAILED {case.__name__}\n{traceback.format_exc()}')
-    end(len(cases) - failed, failed)
+    end(len(cases) - failed - skipped, failed, skipped or None)
+
+
+def judge_cases(cases):
+    """Prints cases, which are names with what is wrong, empty where nothing is, as they come, and ends the script."""
+    passed = failed = 0
+    for name, fault in cases:
+        print(f'{"WRONG" if fault else "well "} {name}{": " + fault if fault else ""}')
+        passed, failed = passed + (not fault), failed + bool(fault)
+    end(passed, failed)

@@ -35,8 +35,7 @@ from pathlib import Path
 
 import paths  # noqa: F401 (puts the folders of what follows on the path)
 from harness import call, end, first_line, parser_of, program_at
-from hasty import HASTY, LONG
-from long_runs import far
+from hasty import HASTY, LONG, far
 from stand_in import NO_COMPILER, StandIn
 
 SCENARIO = '''version = 1

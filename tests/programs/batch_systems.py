@@ -5,20 +5,19 @@
 
 A cluster of one machine is started in a folder of its own (Debian's slurm-wlm, with munge), runs an array of 8
 pieces by examples/slurm/pieces.sbatch, and is stopped again; GNU parallel then makes the same pieces. Where a
-package isn't there, its case is told as skipped. It takes some ten seconds. The last line is
-`N passed, M failed, K skipped`, and the status is 1 where M is over 0.
+package isn't there, its case is skipped, and the script says so. It takes some ten seconds. The last line is
+`N passed, M failed`, with `, K skipped` where some were, and the status is 1 where M is over 0.
 """
 
+import functools
 import os
 import shutil
 import socket
 import subprocess
-import tempfile
 import time
-from pathlib import Path
 
 import paths  # noqa: F401 (puts the folders of what follows on the path)
-from harness import TOP, end, parser_of
+from harness import TOP, Skipped, parser_of, program_at, run_cases
 
 SCENARIO = TOP / 'tests' / 'data' / 'sweeps' / 'lossy.toml'
 OPTIONS = ['--seeds', '1..5', '--set', 'suspicion.alpha=1,3,10']
@@ -54,10 +53,6 @@ SchedulerParameters=sched_interval=1,batch_sched_delay=0
 NodeName={host} NodeAddr=127.0.0.1 CPUs={cpus} State=UNKNOWN
 PartitionName=all Nodes={host} Default=YES MaxTime=5 State=UP
 '''
-
-
-class Skipped(Exception):
-    """A case that can't be made here, and why."""
 
 
 def need(*names):
@@ -130,6 +125,27 @@ class Cluster:
                 daemon.wait()
 
 
+def whole(program, room):
+    """The table and the lines of the whole sweep, by one process."""
+    lines = subprocess.run([program, 'sweep', SCENARIO, '--table', 'whole.csv', *OPTIONS], cwd=room, check=True,
+                           stdout=subprocess.PIPE, timeout=SECONDS).stdout
+    return (room / 'whole.csv').read_bytes(), lines
+
+
+def joined(make):
+    """A case in a new folder: makes the pieces there, joins them, and compares."""
+    @functools.wraps(make)
+    def case(place):
+        program, room = place
+        make(program, room)
+        pieces = [f'piece-{number}.csv' for number in range(PIECES, 0, -1)]
+        lines = subprocess.run([program, 'join', *pieces, '--table', 'joined.csv'], cwd=room, check=True,
+                               stdout=subprocess.PIPE, timeout=SECONDS).stdout
+        assert ((room / 'joined.csv').read_bytes(), lines) == whole(program, room), 'joined otherwise than whole'
+    return case
+
+
+@joined
 def by_slurm(program, room):
     """Makes the pieces by an array of Slurm's."""
     need('munged', 'slurmctld', 'slurmd', 'sbatch', 'sinfo')
@@ -143,6 +159,7 @@ def by_slurm(program, room):
             raise RuntimeError(told.decode())
 
 
+@joined
 def by_parallel(program, room):
     """Makes the pieces by GNU parallel; `:` is this machine in its list of those to log in to."""
     need('parallel')
@@ -151,39 +168,9 @@ def by_parallel(program, room):
     subprocess.run(words, cwd=room, check=True, timeout=SECONDS, stdin=subprocess.DEVNULL)
 
 
-def whole(program, room):
-    """The table and the lines of the whole sweep, by one process."""
-    lines = subprocess.run([program, 'sweep', SCENARIO, '--table', 'whole.csv', *OPTIONS], cwd=room, check=True,
-                           stdout=subprocess.PIPE, timeout=SECONDS).stdout
-    return (room / 'whole.csv').read_bytes(), lines
-
-
-def check(program, make):
-    """Makes the pieces in a new folder, joins them, and compares."""
-    with tempfile.TemporaryDirectory() as name:
-        room = Path(name)
-        make(program, room)
-        pieces = [f'piece-{number}.csv' for number in range(PIECES, 0, -1)]
-        lines = subprocess.run([program, 'join', *pieces, '--table', 'joined.csv'], cwd=room, check=True,
-                               stdout=subprocess.PIPE, timeout=SECONDS).stdout
-        if ((room / 'joined.csv').read_bytes(), lines) != whole(program, room):
-            raise RuntimeError('joined otherwise than whole')
-
-
 def main():
-    program = parser_of(__doc__).parse_args().program.resolve()
-    passed = failed = skipped = 0
-    for make in (by_slurm, by_parallel):
-        try:
-            check(program, make)
-            passed += 1
-        except Skipped as why:
-            print(f'skipped {make.__name__}: {why}')
-            skipped += 1
-        except (RuntimeError, OSError, subprocess.SubprocessError) as error:
-            print(f'FAILED {make.__name__}: {error}')
-            failed += 1
-    end(passed, failed, skipped)
+    program = program_at(parser_of(__doc__).parse_args().program)
+    run_cases((by_slurm, by_parallel), lambda room: (program, room))
 
 
 if __name__ == '__main__':

@@ -18,7 +18,7 @@ import time
 from pathlib import Path
 
 import paths  # noqa: F401 (puts the folders of what follows on the path)
-from harness import TESTS, TOP, call, end, parser_of, program_at
+from harness import TESTS, TOP, call, judge_cases, parser_of, program_at
 
 ROOM = TESTS / 'data' / 'explain' / 'accepted'
 LINES = ('explain',)
@@ -127,22 +127,17 @@ def quiet_runs(program):
         yield f'quiet run {number} by chance', rows_differ(program, text, 4)
 
 
-def main():
-    program = program_at(parser_of(__doc__, TOP / 'swimsim').parse_args().program)
-    names = sorted(file.stem for file in ROOM.glob('*.txt'))
-    failed = 0
-    for name in names:
+def cases(program):
+    """All cases: their names, and what is wrong."""
+    for name in sorted(file.stem for file in ROOM.glob('*.txt')):
         wrong = list(failures(program, name))
-        failed += bool(wrong)
-        print(f'{name}: {" and ".join(wrong) + " differ" if wrong else "as worked out"}')
-    late = delay(program)
-    failed += bool(late)
-    print(f'large: {late or "in time"}')
-    cases = list(quiet_runs(program))
-    for name, wrong in cases:
-        failed += bool(wrong)
-        print(f'{name}: {wrong or "as told"}')
-    end(len(names) + 1 + len(cases) - failed, failed)
+        yield name, f'{" and ".join(wrong)} differ' if wrong else ''
+    yield 'large', delay(program)
+    yield from quiet_runs(program)
+
+
+def main():
+    judge_cases(cases(program_at(parser_of(__doc__, TOP / 'swimsim').parse_args().program)))
 
 
 if __name__ == '__main__':

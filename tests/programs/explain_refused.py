@@ -21,7 +21,7 @@ from pathlib import Path
 
 import paths  # noqa: F401 (puts the folders of what follows on the path)
 import explain_places
-from harness import TESTS, call, end, parser_of, program_at
+from harness import TESTS, call, judge_cases, parser_of, program_at
 
 REFUSED = TESTS / 'data' / 'explain' / 'refused'
 HEAD = b'version = 1\nseed = 7\nend = 5000\nswim = { period = 1000, timeout = 300 }\nlink = { delay = 10 }\n'
@@ -146,13 +146,8 @@ def main():
     parser.add_argument('--large', action='store_true', help='great texts have 100 MB')
     options = parser.parse_args()
     size = 100_000_000 if options.large else 1_000_000
-    passed = failed = 0
     with tempfile.TemporaryDirectory() as room:
-        for name, fault in cases(program_at(options.program), Path(room), size):
-            print(f'{"WRONG" if fault else "well "} {name}{": " + fault if fault else ""}')
-            passed += not fault
-            failed += bool(fault)
-    end(passed, failed)
+        judge_cases(cases(program_at(options.program), Path(room), size))
 
 
 if __name__ == '__main__':

@@ -3,37 +3,17 @@ sites that go to workers in every way."""
 
 import itertools
 
-from hasty import LONG
+from harness import NOT_WRITTEN
+from hasty import LONG, far
 from model import rows_of
 from model_text import report_of, trace_of
 from program import Case, expect, expect_ran
 from worked import scenario_of
 
-REFUSED = (5, b'', b'swimsim: run F3\n')
-
 WAYS = (['--workers', '2'], ['--workers', '3', '--parts', '3'], ['--workers', '64', '--parts', '64'])
 
 # what has more bytes than each room for a trace
 ROOMS = (0, 1000, 200_000, 1_500_000)
-
-FAR_HEAD = '''version = 1
-seed = 5
-end = {end}
-[swim]
-period = 100
-timeout = 30
-[link]
-delay = {delay}
-'''
-
-
-def far(sites, count, end, delay=1000):
-    """So many sites of so many members, each so many ticks from the next, within which a message takes one tick."""
-    names = [f's{nth}' for nth in range(sites)]
-    groups = [f'[[group]]\nname = "{name}"\ncount = {count}\n' for name in names]
-    paths = [f'[[path]]\nfrom = "{name}"\nto = "{name}"\ndelay = 1\n' for name in names]
-    return FAR_HEAD.format(end=end, delay=delay) + ''.join(groups + paths)
-
 
 def run(program, way):
     """Runs what the folder has; gives what the run answered, and its trace and report."""
@@ -64,7 +44,7 @@ def check_cut_off(program, text, way, room):
     whole = run(program, [])[1]
     program.keep('t.csv', '')
     ran = program.call(['run', 's.toml', '--trace', 't.csv', '--report', 'r.txt', *way], room=room)
-    expect_ran(ran, *REFUSED)
+    expect_ran(ran, *NOT_WRITTEN)
     expect('trace', program.held('t.csv'), whole[:room])
     expect('report', program.held('r.txt'), b'')
 

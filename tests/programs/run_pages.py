@@ -3,7 +3,7 @@
 from harness import TOP
 from model_run_page import page_of
 from model_text import rows_in
-from program import Case, DATA, expect, expect_ran
+from program import Case, expect, expect_ran
 from worked import FOLDER as WORKED, scenario_of, text_of
 
 EXAMPLES = TOP / 'examples'

@@ -15,18 +15,15 @@ whatever else this one does (stand_in.py), so that a run by several workers star
   trace is a beginning;
 - a sweep with `--until` makes not many more runs than it shows.
 
-Its last line is `N passed, M failed, K skipped`. It needs a C compiler; where there is none all cases are skipped.
+Its last line is `N passed, M failed`, with `, K skipped` where some were. It needs a C compiler; where there is none all cases are skipped.
 """
 
 import os
 import subprocess
-import tempfile
-import traceback
-from pathlib import Path
 
 import paths  # noqa: F401 (puts the folders of what follows on the path)
-from harness import TESTS, end, parser_of, program_at
-from long_runs import REFUSED, far
+from harness import NOT_WRITTEN, TESTS, Skipped, parser_of, program_at, run_cases
+from hasty import far
 from program import call_with_room
 from stand_in import NO_COMPILER, StandIn
 from sweeps import LONG, UNEVEN
@@ -42,10 +39,6 @@ LIMITS = (0, 1, 4096, 200_000, 1_500_000)
 
 # so many seeds, of which `--until 100` wants one
 SEEDS = '1..600'
-
-
-class Skipped(Exception):
-    """A case that this machine or this program can't show, and why."""
 
 
 class Bench:
@@ -153,7 +146,7 @@ def cut_off(bench):
             bench.trace.write_bytes(b'')
             environment = bench.stand_in.environment(**bench.stand_in.processors(5))
             ran = call_with_room(words, limit, env=environment)
-            assert ran == REFUSED, (workers, limit, ran)
+            assert ran == NOT_WRITTEN, (workers, limit, ran)
             assert bench.trace.read_bytes() == whole[:limit], (workers, limit)
 
 
@@ -171,21 +164,14 @@ CASES = (one_worker, several_workers, sweep_by_several, sweep_of_long_runs, few_
 
 def main():
     program = program_at(parser_of(__doc__).parse_args().program)
-    failed, skipped = 0, 0
-    for case in CASES:
-        with tempfile.TemporaryDirectory() as name:
-            bench = Bench(program, Path(name))
-            try:
-                if not bench.stand_in.is_there:
-                    raise Skipped(NO_COMPILER)
-                case(bench)
-            except Skipped as why:
-                skipped += 1
-                print(f'skipped {case.__name__}: {why}')
-            except (AssertionError, OSError):
-                failed += 1
-                print(f'FAILED {case.__name__}\n{traceback.format_exc()}')
-    end(len(CASES) - failed - skipped, failed, skipped)
+
+    def bench_in(folder):
+        bench = Bench(program, folder)
+        if not bench.stand_in.is_there:
+            raise Skipped(NO_COMPILER)
+        return bench
+
+    run_cases(CASES, bench_in)
 
 
 if __name__ == '__main__':

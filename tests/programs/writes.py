@@ -4,14 +4,13 @@ import os
 import threading
 from contextlib import contextmanager
 
-from harness import call, first_line
-from long_runs import far
+from harness import NOT_WRITTEN, call, first_line
+from hasty import far
 from program import Case, DATA, expect, expect_ran
 from worked import text_of
 
 WORKED = DATA / 'worked'
 SWEEP = ['sweep', 's.toml', '--table', 't.csv', '--seeds', '1..2', '--set', 'swim.period=1000,1200']
-REFUSED = (5, b'', b'swimsim: run F3\n')
 WAYS = ([], ['--workers', '1', '--parts', '2'], ['--workers', '2', '--parts', '2'],
         ['--workers', '3', '--parts', '64'])
 
@@ -58,7 +57,7 @@ def check_room(program, name, way, sizes):
         ran = program.call(['run', 's.toml', '--trace', 't.csv', '--report', 'r.txt', *way], room=room)
         is_done = room >= max(len(trace), len(report))
         rows = f'rows {trace.count(10) - 1}\n'.encode()
-        expect_ran(ran, *((0, rows, b'') if is_done else REFUSED), what=f'{room} bytes, ')
+        expect_ran(ran, *((0, rows, b'') if is_done else NOT_WRITTEN), what=f'{room} bytes, ')
         expect(f'{room} bytes, trace', program.held('t.csv'), trace[:room])
         expect(f'{room} bytes, report', program.held('r.txt'), report if room >= max(len(trace), len(report)) else b'')
         expect(f'{room} bytes, names', sorted(os.listdir(program.folder)), ['r.txt', 's.toml', 't.csv'])
@@ -73,7 +72,7 @@ def check_page_room(program, way, sizes):
     page, trace, report = (program.held(name) for name in ('p.html', 't.csv', 'r.txt'))
     for room in filter(lambda size: size < len(page), sizes):
         program.keep('p.html', 'an older page\n')
-        expect_ran(program.call(words, room=room), *REFUSED, what=f'{room} bytes, ')
+        expect_ran(program.call(words, room=room), *NOT_WRITTEN, what=f'{room} bytes, ')
         expect(f'{room} bytes, trace', program.held('t.csv'), trace[:room])
         expect(f'{room} bytes, report', program.held('r.txt'), report if room >= max(len(trace), len(report)) else b'')
         expect(f'{room} bytes, page', program.held('p.html'), b'')
@@ -87,7 +86,7 @@ def check_table_room(program, workers, sizes):
         begin(program, 'two-members')
         ran = program.call([*SWEEP, '--workers', workers], room=room)
         if room < len(table):
-            expect_ran(ran._replace(err=first_line(ran.err)), *REFUSED, what=f'{room} bytes, ')
+            expect_ran(ran._replace(err=first_line(ran.err)), *NOT_WRITTEN, what=f'{room} bytes, ')
         expect(f'{room} bytes, table', program.held('t.csv'), table[:room])
 
 
@@ -95,7 +94,7 @@ def check_full(program, words, left):
     """Calls with a device that takes nothing for a file: fault 3, and these files are left."""
     begin(program, 'two-members')
     ran = program.call(words)
-    expect_ran(ran._replace(err=first_line(ran.err)), *REFUSED)
+    expect_ran(ran._replace(err=first_line(ran.err)), *NOT_WRITTEN)
     for name, held in left.items():
         expect(f'what {name} holds', program.held(name), held)
 
@@ -115,7 +114,7 @@ def check_pipe(program, text, way):
     reader.start()
     ran = program.call(['run', 's.toml', '--trace', 't.csv', '--report', 'r.txt', *way])
     reader.join(10)
-    expect_ran(ran, *REFUSED)
+    expect_ran(ran, *NOT_WRITTEN)
     expect('what was read', taken, [b'moment,member,fr'])
     expect('what r.txt holds', program.held('r.txt'), b'')
 
