@@ -1,13 +1,14 @@
 """The words that docs/GLOSSARY.md retires, and where they still stand.
 
 The last section of docs/GLOSSARY.md has a table of them: a row has the retired words with commas between them, what to write
-in their place, and where they may still stand. That is a document's path, `--help` for what the program prints of its
-words, or `names` for public names of crates. Words in backquotes and in blocks of code are those of formats and count for
+in their place, and where they may still stand. That is a document's name, `help` for what the program prints of its
+words and its manual's page, or `names` for public names of crates. Words in backquotes and in blocks of code are those of formats and count for
 nothing, nor do names of files.
 """
 
 import re
 from collections import namedtuple
+from pathlib import Path
 
 from rules import CRATES, TOP
 
@@ -56,12 +57,12 @@ def texts():
     """What is looked at: its source, its file, and its text, in which a line is one of the file."""
     for name in DOCUMENTS:
         text = without_code((TOP / name).read_text())
-        yield name, name, text.partition(SECTION)[0] if name == GLOSSARY else text
-    yield MANUAL, MANUAL, (TOP / MANUAL).read_text()
+        yield Path(name).stem, name, text.partition(SECTION)[0] if name == GLOSSARY else text
+    yield 'help', MANUAL, (TOP / MANUAL).read_text()
     for crate in OF_HELP:
         for path in sorted((CRATES / crate / 'src').rglob('*.rt')):
             code = ('' if line.lstrip().startswith(('//', 'ghost ')) else line for line in path.read_text().splitlines())
-            yield '--help', str(path.relative_to(TOP)), '\n'.join(' ; '.join(STRING.findall(line)) for line in code)
+            yield 'help', str(path.relative_to(TOP)), '\n'.join(' ; '.join(STRING.findall(line)) for line in code)
     for path in sorted(CRATES.glob('*/src/**/*.rt')):
         names = (PUBLIC.match(line) for line in path.read_text().splitlines())
         yield 'names', str(path.relative_to(TOP)), '\n'.join(spaced(name[1]) if name else '' for name in names)
