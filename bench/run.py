@@ -13,7 +13,7 @@ A new process begins as a copy of this script, so peak memory below the script's
 With --counts each line has the instructions and the writes to memory per event, and how many of the writes miss a first
 cache of 32 KB. Other work on the machine doesn't change them. Valgrind's cachegrind counts them, in some fifty times the time
 of a run; those of the same run up to moment 0 are subtracted, and printed in thousands. The second simulator
-(tests/model.py) counts the events.
+(tests/model/model.py) counts the events.
 """
 
 import argparse
@@ -27,7 +27,7 @@ from pathlib import Path
 
 TOP = Path(__file__).resolve().parent.parent
 BUILT = TOP / 'crates' / 'swimsim' / 'out' / 'swimsim'
-sys.path.append(str(TOP / 'tests'))
+sys.path.append(str(TOP / 'tests' / 'model'))
 
 import model  # noqa: E402
 from scenarios import NEWEST, document_of, judge  # noqa: E402

@@ -15,8 +15,8 @@ CRATES = TOP / 'crates'
 Layer = namedtuple('Layer', 'name about crates')
 # a file of definitions: its name, what its first comment says of it, and the definitions
 Specs = namedtuple('Specs', 'crate name about definitions')
-# a definition: its name, and the rule that the comment above it says, or nothing
-Definition = namedtuple('Definition', 'name rule')
+# a definition: its name, the rule that the comment above it says, or nothing, and the line at which it stands
+Definition = namedtuple('Definition', 'name rule line')
 # a function: its crate and file, its name, whether other crates can call it, or else other files, and its contract
 Function = namedtuple('Function', 'crate file name is_public is_open clauses')
 # a clause of a contract: `requires` or `ensures`, its name if it has one, and the definitions that it cites, as
@@ -45,11 +45,15 @@ def layers():
     return found
 
 
+def root_of(crate):
+    """A crate's first source."""
+    return next(path for path in (CRATES / crate / 'src' / name for name in ('lib.rt', 'main.rt')) if path.exists())
+
+
 def about_crate(crate):
     """What a crate's own first comment says of it: its first paragraph."""
-    source = next(path for path in (CRATES / crate / 'src' / name for name in ('lib.rt', 'main.rt')) if path.exists())
     lines = []
-    for line in source.read_text().splitlines():
+    for line in root_of(crate).read_text().splitlines():
         if not line.startswith('//! '):
             break
         lines.append(line[4:].strip())
@@ -83,7 +87,7 @@ def specs_of(crate):
             continue
         lines = path.read_text().splitlines()
         about = lines[0][2:].strip() if lines and lines[0].startswith('--') else ''
-        definitions = [Definition(name, comment_above(lines, place))
+        definitions = [Definition(name, comment_above(lines, place), place + 1)
                        for place in range(len(lines)) if (name := declared_in(lines, place))]
         found.append(Specs(crate, path.stem, about, definitions))
     return found

@@ -1,0 +1,189 @@
+"""Sweeps of tests/data/sweeps in pieces: each piece as the model gives it, and all of them joined as the whole."""
+
+import json
+import random
+
+from model_sweeps import cases_text, swept, table_of
+from program import Case, DATA, Wrong, expect, expect_ran
+from scenarios import document_of
+from sweeps import FOLDER, expect_progress, seeds_of, settings_of, words_of
+from worked import text_of
+
+# into how many pieces each sweep is cut; of some there are more than runs
+COUNTS = (1, 2, 3, 7, 61)
+
+
+def check(program, sweep, count):
+    """Makes all pieces of a sweep, joins them in some order, and compares both."""
+    text = text_of(DATA / sweep['base']).encode()
+    options, words = words_of(sweep)
+    settings = settings_of(sweep['set'])
+    until = sweep.get('until')
+    _, cases = swept(document_of(text), settings, seeds_of(sweep.get('seeds')), until=until)
+    program.keep('s.toml', text)
+    names = [f'piece-{number}.csv' for number in range(1, count + 1)]
+    for number, name in enumerate(names, 1):
+        ran = program.call(['sweep', 's.toml', '--table', name, '--shard', f'{number}/{count}', *options])
+        expect_ran(ran, 0, b'', b'', f'piece {number}')
+        expect(name, program.held(name), table_of(text, settings, words, cases, until, (number, count)).encode())
+    random.Random(count).shuffle(names)
+    ran = program.call(['join', *names, '--table', 't.csv'])
+    expect_ran(ran, 0, cases_text(settings, cases).encode(), b'', 'join')
+    expect('table', program.held('t.csv'), table_of(text, settings, words, cases, until).encode())
+    expect('joined again', program.call(['join', 't.csv', '--table', 'again.csv']), ran)
+    expect('table again', program.held('again.csv'), program.held('t.csv'))
+
+
+def check_resumed(program, sweep, piece):
+    """Cuts the table of a piece, or of the whole sweep, off at some of its bytes, and goes on with it: at the end it is the
+    table that was made in one go."""
+    text = text_of(DATA / sweep['base'])
+    options, _ = words_of(sweep)
+    program.keep('s.toml', text)
+    words = ['sweep', 's.toml', '--table', 't.csv', '--shard', piece, *options]
+    whole_words = [word for word in words if word not in ('--shard', piece)]
+    expect('status', program.call(whole_words if piece == '1/1' else words).status, 0)
+    whole = program.held('t.csv')
+    first, *ends = [place + 1 for place, byte in enumerate(whole) if byte == 10]
+    for cut in sorted({0, 1, first // 2, *(end + more for end in (first, *ends) for more in (-50, -1, 0, 1))}):
+        program.keep('t.csv', whole[:cut])
+        expect_ran(program.call([*words, '--resume']), 0, b'', b'', f'cut at {cut}')
+        expect(f'cut at {cut}', program.held('t.csv'), whole)
+    if 'until' not in sweep and len(ends) > 1:
+        # what stood counts as made
+        program.keep('t.csv', whole[:ends[0]])
+        told = program.call([*words, '--resume', '--progress']).err
+        expect_progress(told, len(ends), None)
+        if told.startswith(b'1/'):
+            raise Wrong(f'progress: {told}')
+    (program.folder / 't.csv').unlink()
+    expect_ran(program.call([*words, '--resume']), 0, b'', b'', 'no table')
+    expect('no table', program.held('t.csv'), whole)
+    last = whole[ends[-2]:] if len(ends) > 1 else whole[first:]
+    others = [b'another table\n', whole.replace(piece.encode(), b'1/3', 1), whole + last]
+    # with a width the notes of lines are read
+    others += [whole[:first] + b'no note\n', whole[:first] + b'\xff\n'] if 'until' in sweep else []
+    for held in others:
+        program.keep('t.csv', held)
+        expect_ran(program.call([*words, '--resume']), 3, b'', b'swimsim: piece t.csv of another sweep\n', 'another')
+        expect('another', program.held('t.csv'), held)
+
+
+def without_notes(table):
+    """The table without the field that stands before each line, as sweeps wrote it once."""
+    header, *lines = table.splitlines(keepends=True)
+    return header.partition(b'",')[2] + b''.join(line.partition(b',')[2] for line in lines)
+
+
+def keep_halves(program, sweep):
+    """Makes the two pieces of a sweep and the whole, beside an older table; gives the words of `words_of`."""
+    options, words = words_of(sweep)
+    program.keep('s.toml', text_of(DATA / sweep['base']))
+    program.keep('t.csv', 'an older table\n')
+    for number in (1, 2):
+        program.call(['sweep', 's.toml', '--table', f'{number}.csv', '--shard', f'{number}/2', *options])
+    program.call(['sweep', 's.toml', '--table', 'all.csv', *options])
+    program.keep('plain.csv', without_notes(program.held('all.csv')))
+    return options, words
+
+
+def expect_refused(program, wanted):
+    """Joins pieces of these names: each is told by its line, and the table stays as it was."""
+    for names, line in wanted:
+        ran = program.call(['join', *names, '--table', 't.csv'])
+        expect_ran(ran, 3, b'', f'swimsim: {line}\n'.encode(), ' '.join(names))
+        expect('table', program.held('t.csv'), b'an older table\n')
+
+
+def check_refused(program, sweep):
+    """Joins what isn't the pieces of one sweep: each is told by its line, and the table stays as it was."""
+    options, _ = keep_halves(program, sweep)
+    program.call(['sweep', 's.toml', '--table', 'other.csv', '--shard', '2/2', '--set', 'end=77', *options])
+    program.keep('torn.csv', program.held('2.csv')[:-1])
+    program.keep('short.csv', b''.join(program.held('2.csv').splitlines(keepends=True)[:-1]))
+    expect_refused(program, [
+        (['1.csv'], 'piece 2 missing'),
+        (['2.csv', '2.csv'], 'piece 2.csv twice'),
+        (['1.csv', 'torn.csv'], 'piece torn.csv torn'),
+        (['1.csv', 'short.csv'], 'piece short.csv torn'),
+        (['1.csv', 'other.csv'], 'piece other.csv of another sweep'),
+        (['1.csv', 's.toml'], 'no piece s.toml'),
+        (['all.csv', 'all.csv'], 'piece all.csv twice'),
+        (['all.csv', '1.csv', '2.csv'], 'piece 1.csv of another sweep'),
+        (['1.csv', '2.csv', 'all.csv'], 'piece all.csv of another sweep'),
+        (['plain.csv'], 'no piece plain.csv'),
+    ])
+
+
+def check_widths_refused(program, sweep):
+    """Joins what isn't the pieces of one sweep with a width: cases that are cut short, go on, or are of another width."""
+    _, words = keep_halves(program, sweep)
+    first, second = (program.held(f'{number}.csv').splitlines(keepends=True) for number in (1, 2))
+    width = words[1].encode()
+    program.keep('torn.csv', b''.join(second)[:-1])
+    program.keep('short.csv', b''.join(second[:-1]))
+    program.keep('long.csv', b''.join([*second, second[-1]]))
+    program.keep('more.csv', b''.join([*second, *first[1:]]))
+    program.keep('none.csv', second[0])
+    program.keep('wider.csv', b''.join(second).replace(width, b'until=100', 1))
+    program.keep('widest.csv', b''.join(second).replace(width, b'until=101', 1))
+    program.keep('whole.csv', b''.join(second).replace(b' ' + width, b'', 1))
+    expect_refused(program, [
+        (['1.csv'], 'piece 2 missing'),
+        (['2.csv', '1.csv', '2.csv'], 'piece 2.csv twice'),
+        (['1.csv', 'torn.csv'], 'piece torn.csv torn'),
+        (['short.csv', '1.csv'], 'piece short.csv torn'),
+        (['1.csv', 'long.csv'], 'piece long.csv torn'),
+        (['1.csv', 'more.csv'], 'piece more.csv torn'),
+        (['1.csv', 'none.csv'], 'piece none.csv torn'),
+        (['1.csv', 'wider.csv'], 'piece wider.csv of another sweep'),
+        (['1.csv', 'whole.csv'], 'piece whole.csv of another sweep'),
+        (['1.csv', 'widest.csv'], 'piece widest.csv of another sweep'),
+        (['widest.csv'], 'no piece widest.csv'),
+    ])
+
+
+def check_told(program, sweep, count):
+    """Joins pieces with all that may be asked of them, and makes their page: each is what the whole sweep tells and writes."""
+    text = text_of(DATA / sweep['base'])
+    options, _ = words_of(sweep)
+    wants = [word for want in sweep.get('want', ['out<=0.1', 'messages<=1000']) for word in ('--want', want)]
+    program.keep('s.toml', text)
+    names = [f'piece-{number}.csv' for number in range(count, 0, -1)]
+    for number, name in enumerate(reversed(names), 1):
+        program.call(['sweep', 's.toml', '--table', name, '--shard', f'{number}/{count}', *options])
+    for told in (wants, [*wants, '--jsonl'], [], ['--jsonl']):
+        whole = program.call(['sweep', 's.toml', '--table', 'w.csv', '--page', 'w.html', *options, *told])
+        for page in ([], ['--page', 'p.html', '--name', 's.toml']):
+            ran = program.call(['join', *names, '--table', 't.csv', *page, *told])
+            expect_ran(ran, 0, whole.out, b'', ' '.join(['join', *page, *told]))
+            expect('table', program.held('t.csv'), program.held('w.csv'))
+        expect('page', program.held('p.html'), program.held('w.html'))
+    expect_ran(program.call(['page', *names, '--out', 'q.html', '--name', 's.toml']), 0, b'', b'', 'page')
+    expect('page alone', program.held('q.html'), program.held('w.html'))
+    named = program.held('w.html').replace(b's.toml', names[0].encode())
+    for words in (['page', *names, '--out', 'q.html'], ['join', *names, '--table', 't.csv', '--page', 'q.html']):
+        program.keep('q.html', 'an older page\n')
+        expect(f'{words[0]} ended', program.call(words).status, 0)
+        expect('page with the first name', program.held('q.html'), named)
+    program.keep('q.html', 'an older page\n')
+    program.keep('plain.csv', without_notes(program.held('w.csv')))
+    for held in ('plain.csv', 's.toml'):
+        expect_ran(program.call(['page', held, '--out', 'q.html']), 3, b'', f'swimsim: no piece {held}\n'.encode(), held)
+        expect('older page', program.held('q.html'), b'an older page\n')
+
+
+def cases():
+    """Each sweep of the list, in each number of pieces."""
+    listed = json.loads((FOLDER / 'sweeps.json').read_text())
+    for sweep in listed:
+        for count in COUNTS:
+            yield Case(f'pieces: {sweep["about"]}, {count}', check, (sweep, count))
+        for count in (1, 3):
+            yield Case(f'pieces: {sweep["about"]}, all that is told of {count}', check_told, (sweep, count))
+    narrow, wider = [sweep for sweep in listed if 'until' in sweep][:2]
+    yield Case('pieces: what join refuses', check_refused, (listed[0],))
+    yield Case('pieces: what join refuses where there is a width', check_widths_refused, (narrow,))
+    for piece in ('2/3', '1/1'):
+        yield Case(f'pieces: {piece} that was cut off', check_resumed, (listed[0], piece))
+        yield Case(f'pieces: {piece} that was cut off, with a width', check_resumed, (wider, piece))

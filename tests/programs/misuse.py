@@ -1,0 +1,332 @@
+#!/usr/bin/env python3
+"""Uses the program as nobody should, and sees that no use loses data or answers a wrong status.
+
+    tests/programs/misuse.py [--program FILE]
+
+The program is the one that ./swimsim has built, or FILE; nothing of it is built here. Each use has a folder of its
+own, with a scenario that takes, prints what it tried, and is wrong where it ends by a signal, answers another status than
+is wanted, or leaves other bytes. Its last line is `N passed, M failed`. Linux only; it takes seconds.
+"""
+
+import os
+import shutil
+import subprocess
+import sys
+import tempfile
+import threading
+import time
+from pathlib import Path
+
+import paths  # noqa: F401 (puts the folders of what follows on the path)
+from harness import call, end, parser_of, program_at
+from program import TWO_MEMBERS
+
+RUN = ('run', 's.toml', '--trace')
+OLD = b'an older result\n'
+
+
+class Uses:
+    """Runs the uses, and counts them."""
+
+    def __init__(self, program):
+        self.program, self.well, self.wrong = program, 0, 0
+
+    def call(self, folder, words, **how):
+        """Status, standard output and error of the program, which has to end within 20 seconds."""
+        return call([self.program, *words], 20, cwd=folder, **how)
+
+    def judge(self, what, is_well, seen=''):
+        """Prints what was tried, and whether it went well."""
+        print(f'{"well " if is_well else "WRONG"} {what}{"" if is_well else f": {seen}"}')
+        self.well += is_well
+        self.wrong += not is_well
+
+
+def folder_of(room, name):
+    """A folder with the scenario."""
+    folder = room / name
+    folder.mkdir()
+    (folder / 's.toml').write_text(TWO_MEMBERS)
+    return folder
+
+
+def names(uses, room, whole):
+    """One file under two names: nothing is made, and nothing is lost."""
+    ways = {'the same name': lambda f: 'x', './x': lambda f: './x', 'a link': lambda f: os.symlink('x', f / 'l') or 'l',
+            'a hard link': lambda f: os.link(f / 'x', f / 'h') or 'h'}
+    for number, (way, name_in) in enumerate(ways.items()):
+        folder = folder_of(room, f'names-{number}')
+        (folder / 'x').write_bytes(OLD)
+        left = uses.call(folder, [*RUN, 'x', '--report', name_in(folder)])
+        uses.judge(f'trace and report by {way}', left[0] == 1 and (folder / 'x').read_bytes() == OLD, left)
+        (folder / 'x').write_text(TWO_MEMBERS)
+        for option in (['--trace', name_in_again(folder, way)], ['--trace', 't', '--report', name_in_again(folder, way)]):
+            left = uses.call(folder, ['run', 'x', *option])
+            is_well = left[0] == 1 and (folder / 'x').read_text() == TWO_MEMBERS and not (folder / 't').exists()
+            uses.judge(f'the scenario as {option[-2][2:]} by {way}', is_well, left)
+    folder = folder_of(room, 'output')
+    with open(folder / 'out', 'wb') as out:
+        left = uses.call(folder, [*RUN, 'out'], stdout=out, stderr=subprocess.PIPE)
+    uses.judge('the trace as standard output', left[0] == 1 and left[2] == b'swimsim: file out\n', left)
+    left = uses.call(folder, [*RUN, '/dev/null', '--report', '/dev/null'])
+    uses.judge('/dev/null twice', left[0] == 0 and left[1] == b'rows 6\n', left)
+
+
+def name_in_again(folder, way):
+    """The second name of x in the folder, once it is there."""
+    return {'the same name': 'x', './x': './x', 'a link': 'l', 'a hard link': 'h'}[way]
+
+
+def texts(uses, room, whole):
+    """Texts that no scenario is: deep, long, or no text."""
+    folder = folder_of(room, 'texts')
+    path = b'.'.join([b'a'] * 80) + b' = '
+    deepest = path + (b'{' + path) * 80 + b'1' + b'}' * 80 + b'\n'
+    for what, text in (('100,000 lists within each other', b'a = ' + b'[' * 100_000), ('100 MB', b'#' + b'x' * 100_000_000),
+                       ('6,480 tables within each other', deepest),
+                       ('bytes that are no text', bytes(range(256))), ('nothing', b'')):
+        (folder / 'f').write_bytes(text)
+        left = uses.call(folder, ['check', 'f'])
+        uses.judge(what, left[0] in (3, 5) and left[1] == b'', left)
+    for what, name in (('a folder', '.'), ('no file', 'absent'), ('a file below a file', 's.toml/x')):
+        left = uses.call(folder, ['check', name])
+        uses.judge(f'{what} as the scenario', left[0] == 1, left)
+
+
+def outputs(uses, room, whole):
+    """Files and outputs that take nothing."""
+    folder = folder_of(room, 'outputs')
+    (folder / 't').write_bytes(OLD)
+    left = uses.call(folder, [*RUN, '/dev/full'])
+    uses.judge('a full disk for the trace', left[0] == 5 and left[1] == b'', left)
+    left = uses.call(folder, [*RUN, 'u', '--report', '/dev/full'])
+    uses.judge('a full disk for the report', left[0] == 5 and (folder / 'u').read_bytes() == whole, left)
+    for report in ('no/folder', '.'):
+        left = uses.call(folder, [*RUN, 't', '--report', report])
+        uses.judge(f'{report} for the report', left[0] == 1 and (folder / 't').read_bytes() == OLD, left)
+    with open('/dev/full', 'wb') as full:
+        left = uses.call(folder, [*RUN, 'u'], stdout=full, stderr=subprocess.PIPE)
+        uses.judge('standard output that is full', left[0] == 1, left)
+        left = uses.call(folder, ['check', 'absent'], stderr=full)
+        uses.judge('standard error that is full', left[0] == 1, left)
+    for closed in ('>&-', '2>&-', '>&- 2>&-', '<&-'):
+        ran = call(['sh', '-c', f'"$0" run s.toml --trace u {closed}', uses.program], cwd=folder)
+        wanted = 1 if closed.startswith('>') else 0
+        uses.judge(f'outputs closed by {closed}', ran.status == wanted and (folder / 'u').read_bytes() == whole, ran)
+
+
+def pipes(uses, room, whole):
+    """Pipes with names, for what is read and what is written."""
+    folder = folder_of(room, 'pipes')
+    for name in ('in', 'out'):
+        os.mkfifo(folder / name)
+    taken = []
+    threads = [threading.Thread(target=lambda: (folder / 'in').write_text(TWO_MEMBERS), daemon=True),
+               threading.Thread(target=lambda: taken.append((folder / 'out').read_bytes()), daemon=True)]
+    for thread in threads:
+        thread.start()
+    left = uses.call(folder, ['run', 'in', '--trace', 'out'])
+    for thread in threads:
+        thread.join(10)
+    uses.judge('pipes as scenario and trace', left[0] == 0 and taken == [whole], left)
+
+
+def ends(uses, room, whole):
+    """Runs that are killed, short of memory, or two at once."""
+    folder = folder_of(room, 'ends')
+    long_run = TWO_MEMBERS.replace('end = 3', 'end = 400000').replace('count = 2', 'count = 500')
+    (folder / 'long.toml').write_text(long_run)
+    started = subprocess.Popen([uses.program, 'run', 'long.toml', '--trace', 'k'], cwd=folder, stdout=subprocess.PIPE)
+    time.sleep(0.3)
+    started.kill()
+    out = started.communicate()[0]
+    uses.judge('a run that is killed', started.returncode in (-9, 0) and (out == b'') == (started.returncode == -9), started)
+    for kilobytes in (4_000, 8_000, 16_000, 32_000, 64_000, 256_000):
+        (folder / 'm').unlink(missing_ok=True)
+        line = f'ulimit -v {kilobytes}; exec "$0" run s.toml --trace m --workers 2 --parts 2'
+        ran = call(['sh', '-c', line, uses.program], cwd=folder)
+        left = (folder / 'm').read_bytes() if (folder / 'm').exists() else b''
+        # below some size the system itself can't start a program
+        is_well = (left == whole) if ran.status == 0 else whole.startswith(left) and (ran.status in (5, 127, 126) or not left)
+        uses.judge(f'{kilobytes} kB of memory (status {ran.status})', is_well, ran)
+    both = [subprocess.Popen([uses.program, *RUN, 'b'], cwd=folder, stdout=subprocess.PIPE) for _ in range(2)]
+    statuses = [it.wait(20) for it in both]
+    uses.judge('two runs on one file', statuses == [0, 0] and (folder / 'b').read_bytes() == whole, statuses)
+
+
+def words(uses, room, whole):
+    """Words that are no text, and the program under a name that is none."""
+    folder = folder_of(room, 'words')
+    left = uses.call(folder, [b'check', b'\xff.toml'])
+    uses.judge('a word that is no text', left[0] == 2, left)
+    odd = os.fsencode(folder) + b'/\xff'
+    shutil.copy(uses.program, odd)
+    ran = call([odd, b'check', b's.toml'], cwd=folder)
+    uses.judge('the program under a name that is no text', ran.status == 0, ran)
+    left = uses.call(folder, ['check', 'a\nb'])
+    uses.judge('a name of two lines is told in one', left[0] == 1 and left[2].count(b'\n') == 1, left)
+
+
+def sizes(uses, room, whole):
+    """More than there may be in a version of the format, and long lists."""
+    folder = folder_of(room, 'sizes')
+    second = TWO_MEMBERS.replace('version = 1', 'version = 2')
+    cut = '[[cut]]\nfrom = "n"\nto = "n"\nat = 1\nuntil = 2\n'
+    for what, text, status, line in (('4,097 members', second.replace('count = 2', 'count = 4097'), 3, b'swimsim: scenario rule 5\n'),
+                                     ('twice 2,049', second.replace('count = 2', 'count = 2049').replace('[[group]]', '[[group]]\nname = "m"\ncount = 2049\n[[group]]'),
+                                      3, b'swimsim: scenario rule 10\n'),
+                                     ('a cut in version 1', TWO_MEMBERS + cut, 3, b'swimsim: scenario rule 3\n'),
+                                     ('version 4', TWO_MEMBERS.replace('version = 1', 'version = 4'), 3, b'swimsim: scenario rule 5\n'),
+                                     ('50,000 cuts', second + cut * 50_000, 0, b'')):
+        (folder / 'f').write_text(text)
+        left = uses.call(folder, ['check', 'f'])
+        uses.judge(what, (left[0], left[2]) == (status, line), left)
+    for what, division in (('a list of 60,000 parts', ','.join(['0'] * 60_000)), ('a list of commas', ',' * 100_000), ('an empty list', '')):
+        left = uses.call(folder, [*RUN, 't', '--division', division])
+        uses.judge(what, left[0] == 4 and not (folder / 't').exists(), left)
+    (folder / 'old').write_bytes(OLD)
+    left = uses.call(folder, [*RUN, 'old', '--report', 's.toml'])
+    uses.judge('an older trace beside the scenario as report', left[0] == 1 and (folder / 'old').read_bytes() == OLD, left)
+
+
+def removals(uses, room, whole):
+    """Runs that fail while others use their files: nothing is removed that isn't theirs."""
+    folder = folder_of(room, 'removals')
+    (folder / 'victim').write_bytes(OLD)
+    (folder / 'gone').mkdir()
+    os.mkfifo(folder / 'pipe')
+    started = subprocess.Popen([uses.program, *RUN, 't', '--report', 'pipe', '--page', 'gone/p'], cwd=folder,
+                               stdout=subprocess.PIPE, stderr=subprocess.PIPE)
+    time.sleep(1)
+    (folder / 't').unlink(missing_ok=True)
+    (folder / 't').symlink_to('victim')
+    (folder / 'gone').rmdir()
+    (folder / 'pipe').read_bytes()
+    out, err = started.communicate(timeout=20)
+    is_well = started.returncode == 1 and (folder / 'victim').read_bytes() == OLD and (folder / 't').is_symlink()
+    uses.judge('a trace that became a link while the report waited', is_well, (started.returncode, out, err))
+    wrong = []
+    for _ in range(30):
+        (folder / 'u').unlink(missing_ok=True)
+        fails = subprocess.Popen([uses.program, *RUN, 'u', '--report', 'no/folder'], cwd=folder, stderr=subprocess.PIPE)
+        left = uses.call(folder, [*RUN, 'u'])
+        fails.communicate(timeout=20)
+        if (fails.returncode, left[0]) != (1, 0) or not (folder / 'u').exists() or (folder / 'u').read_bytes() != whole:
+            wrong.append((fails.returncode, left))
+    uses.judge('a run that fails beside one on the same trace', not wrong, wrong)
+    left = uses.call(folder, [*RUN, 'new', '--report', 'no/folder'])
+    uses.judge('a failed run makes nothing', left[0] == 1 and not (folder / 'new').exists(), left)
+
+
+def replaced(uses, room, whole):
+    """What reports and pages replace: an old one never stands beside a new trace, and a new one is whole."""
+    folder = folder_of(room, 'replaced')
+    long_run = TWO_MEMBERS.replace('end = 3', 'end = 400000').replace('count = 2', 'count = 500')
+    (folder / 'long.toml').write_text(long_run)
+    for name in ('t', 'r', 'p'):
+        (folder / name).write_bytes(OLD)
+    outputs = ['--report', 'r', '--page', 'p']
+    started = subprocess.Popen([uses.program, 'run', 'long.toml', '--trace', 't', *outputs], cwd=folder, stdout=subprocess.PIPE)
+    for _ in range(200):
+        time.sleep(0.05)
+        if (folder / 't').stat().st_size not in (0, len(OLD)):
+            break
+    started.kill()
+    started.communicate()
+    held = [(folder / name).read_bytes() for name in ('r', 'p')]
+    uses.judge('a killed run beside an older report', started.returncode == -9 and held == [b'', b''], held)
+    (folder / 'h').hardlink_to(folder / 'p')
+    (folder / 'l').symlink_to('r')
+    (folder / 'r').chmod(0o600)
+    (folder / 'first').write_bytes(b'')
+    left = uses.call(folder, [*RUN, 'first', '--report', 'first-r', '--page', 'first-p'])
+    report, page = ((folder / f'first-{name}').read_bytes() for name in ('r', 'p'))
+    left = uses.call(folder, [*RUN, 't', '--report', 'l', '--page', 'p'])
+    is_well = left[0] == 0 and (folder / 'l').is_symlink() and (folder / 'r').read_bytes() == report
+    uses.judge('a report through a link', is_well, left)
+    uses.judge('a report keeps its permissions', (folder / 'r').stat().st_mode & 0o777 == 0o600, (folder / 'r').stat())
+    uses.judge('a page that has two names', (folder / 'p').read_bytes() == (folder / 'h').read_bytes() == page, left)
+    wanted = ['first', 'first-p', 'first-r', 'h', 'l', 'long.toml', 'p', 'r', 's.toml', 't']
+    uses.judge('nothing else is left', sorted(os.listdir(folder)) == wanted, os.listdir(folder))
+
+
+def error_stream(uses, room, whole):
+    """Standard error as a file of the run, which would get the run's line in its midst."""
+    folder = folder_of(room, 'error')
+    os.link(folder / 's.toml', folder / 'scenario')
+    for option, words in (('trace', [*RUN, 'e']), ('report', [*RUN, 't', '--report', './e']),
+                          ('page', [*RUN, 't', '--page', 'e']), ('table', ['sweep', 's.toml', '--table', 'e', '--progress'])):
+        with open(folder / 'e', 'wb') as err:
+            left = uses.call(folder, words, stdout=subprocess.PIPE, stderr=err)
+        is_well = left[0] == 1 and (folder / 'e').read_bytes().startswith(b'swimsim: file ') and not (folder / 't').exists()
+        uses.judge(f'the {option} as standard error', is_well, left)
+    left = uses.call(folder, [*RUN, '/dev/stderr'])
+    uses.judge('the trace as standard error, by its own name', left[0] == 1 and left[2] == b'swimsim: file /dev/stderr\n', left)
+    with open('/dev/null', 'wb') as nothing:
+        left = uses.call(folder, [*RUN, '/dev/stderr'], stdout=subprocess.PIPE, stderr=nothing)
+    uses.judge('the trace as standard error that is /dev/null', left[0] == 0, left)
+    ran = subprocess.run(['sh', '-c', '"$0" run s.toml --trace t >out 2>&1', uses.program], cwd=folder)
+    uses.judge('both streams in one file', ran.returncode == 0 and (folder / 'out').read_bytes() == b'rows 6\n', ran)
+
+
+def pieces(uses, room, whole):
+    """Pieces that are joined into one of themselves, or without room: each is left as it was."""
+    folder = folder_of(room, 'pieces')
+    for number in (1, 2):
+        uses.call(folder, ['sweep', 's.toml', '--table', f'{number}.csv', '--seeds', '1..4', '--shard', f'{number}/2'])
+    held = [(folder / f'{number}.csv').read_bytes() for number in (1, 2)]
+    joining = ['1.csv', '2.csv']
+    for words in (['join', *joining, '--table', '2.csv'], ['join', *joining, '--table', './1.csv'],
+                  ['join', *joining, '--table', 't', '--page', '2.csv'], ['page', *joining, '--out', '2.csv']):
+        left = uses.call(folder, words)
+        is_well = left[0] == 1 and [(folder / name).read_bytes() for name in joining] == held and not (folder / 't').exists()
+        uses.judge(f'{" ".join(words)}', is_well, left)
+    names = sorted(os.listdir(folder))
+    for words in (['join', *joining, '--table', 'old'], ['page', *joining, '--out', 'old']):
+        (folder / 'old').write_bytes(OLD)
+        line = 'trap "" XFSZ; ulimit -f 0; exec "$0" "$@"'
+        ran = subprocess.run(['sh', '-c', line, uses.program, *words], cwd=folder, capture_output=True)
+        is_well = ran.returncode == 5 and (folder / 'old').read_bytes() == OLD and sorted(os.listdir(folder)) == sorted([*names, 'old'])
+        uses.judge(f'{words[0]} without room over an older file', is_well, ran)
+        (folder / 'old').unlink()
+
+
+def going_on(uses, room, whole):
+    """Tables that go on by --resume: through a link, and where they can't be cut off, as pipes and devices."""
+    folder = folder_of(room, 'going_on')
+    words = ['sweep', 's.toml', '--shard', '1/1', '--seeds', '1..9', '--resume', '--table']
+    uses.call(folder, [*words, 'whole'])
+    table = (folder / 'whole').read_bytes()
+    (folder / 't').write_bytes(table[:-20])
+    (folder / 'link').symlink_to('t')
+    left = uses.call(folder, [*words, 'link'])
+    is_well = left[0] == 0 and (folder / 'link').is_symlink() and (folder / 't').read_bytes() == table
+    uses.judge('a table that goes on through a link', is_well, left)
+    left = uses.call(folder, [*words, '/dev/null'])
+    uses.judge('a table that goes on in /dev/null', left == (0, b'', b''), left)
+    os.mkfifo(folder / 'pipe')
+    for held, wanted, told in ((table[:-20], 1, b''), (b'', 0, table)):
+        started = subprocess.Popen([uses.program, *words, 'pipe'], cwd=folder, stdout=subprocess.PIPE, stderr=subprocess.PIPE)
+        (folder / 'pipe').write_bytes(held)
+        got = (folder / 'pipe').read_bytes() if wanted == 0 else b''
+        err = started.communicate(timeout=20)[1]
+        is_well = started.returncode == wanted and got == told and err == (b'' if wanted == 0 else b'swimsim: file pipe\n')
+        uses.judge(f'a table that goes on in a pipe that held {len(held)} bytes', is_well, (started.returncode, err, got))
+
+
+def main():
+    uses = Uses(program_at(parser_of(__doc__).parse_args().program))
+    with tempfile.TemporaryDirectory() as name:
+        room = Path(name)
+        folder = folder_of(room, 'whole')
+        status = uses.call(folder, [*RUN, 't'])[0]
+        if status != 0:
+            sys.exit(f'misuse: status {status} of a plain run')
+        whole = (folder / 't').read_bytes()
+        for group in (names, texts, outputs, pipes, ends, words, sizes, removals, replaced, error_stream, pieces, going_on):
+            group(uses, room, whole)
+    end(uses.well, uses.wrong)
+
+
+if __name__ == '__main__':
+    main()
