@@ -3,7 +3,7 @@ use Rattle.trace.specs.Text.{rows_text}
 use Rattle.trace.proofs.Beginnings.{beginning-none, Keeps-same}
 use Rattle.reports.proofs.Faults.{handed_on}
 use Rattle.run_output.proofs.Faults.{on_err, on_ok}
-use Rattle.run_output.proofs.taking.WrittenAndGatheredTakeRowsTraceAndGathered.take.Goals as goal
+use Rattle.run_output.proofs.taking.WrittenAndGatheredRowSinkTraceAndGathered.take.Goals as goal
 
 pub gather_all-requires-clause-so_far : goal.gather_all-requires-clause-so_far
 gather_all-requires-clause-so_far g c = (c.args.tallies.now, c.requires.gathered)

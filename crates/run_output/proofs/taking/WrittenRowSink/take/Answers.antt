@@ -1,7 +1,7 @@
 use Rattle.std.proofs.Common.{arith}
 use Rattle.run_output.proofs.Faults.{on_err}
 use Rattle.run_output.proofs.Failing.{same_failures, never_overflow, never_relay}
-use Rattle.run_output.proofs.taking.WrittenTakeRows.take.Goals as goal
+use Rattle.run_output.proofs.taking.WrittenRowSink.take.Goals as goal
 
 pub returns-in_err-write_rows-clause-part : goal.returns-in_err-write_rows-clause-part
 returns-in_err-write_rows-clause-part g c = on_err c.from_residual-in_err-write_rows.result c.in_err-write_rows.ensures.part
