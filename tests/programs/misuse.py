@@ -93,6 +93,25 @@ def texts(uses, room, whole):
         uses.judge(f'{what} as the scenario', left[0] == 1, left)
 
 
+def stacks(uses, room, whole):
+    """Texts of some 25 KB of tables and lists within each other, read with a stack of 2 MB, and of 1 MB."""
+    folder = folder_of(room, 'stacks')
+    path = b'.'.join([b'a'] * 80) + b' = '
+    deep = {'tables by dotted keys': path + (b'{' + path) * 150 + b'1' + b'}' * 150 + b'\n',
+            'tables': b'a = ' + b'{a = ' * 5_000 + b'1' + b'}' * 5_000 + b'\n',
+            'lists': b'a = ' + b'[' * 12_500 + b']' * 12_500 + b'\n',
+            'one header': b'[' + b'.'.join([b'a'] * 12_500) + b']\nb = 1\n',
+            'one list header': b'[[' + b'.'.join([b'a'] * 12_500) + b']]\nb = 1\n',
+            'one key': b'.'.join([b'a'] * 12_500) + b' = 1\n'}
+    for what, text in deep.items():
+        (folder / 'f').write_bytes(text)
+        for command in ('check', 'explain'):
+            for size in (2048, 1024):
+                line = f'ulimit -s {size}; exec "$0" {command} f'
+                left = call(['bash', '-c', line, uses.program], 20, cwd=folder)
+                uses.judge(f'{command} of {what}, {size} KB of stack', left[0] in (3, 5), left)
+
+
 def outputs(uses, room, whole):
     """Files and outputs that take nothing."""
     folder = folder_of(room, 'outputs')
@@ -323,7 +342,7 @@ def main():
         if status != 0:
             sys.exit(f'misuse: status {status} of a plain run')
         whole = (folder / 't').read_bytes()
-        for group in (names, texts, outputs, pipes, ends, words, sizes, removals, replaced, error_stream, pieces, going_on):
+        for group in (names, texts, stacks, outputs, pipes, ends, words, sizes, removals, replaced, error_stream, pieces, going_on):
             group(uses, room, whole)
     end(uses.well, uses.wrong)
 

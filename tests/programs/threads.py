@@ -9,7 +9,7 @@ whatever else this one does (stand_in.py), so that a run by several workers star
 - one worker starts no thread, neither for a run nor for a sweep;
 - a run of four sites by four workers starts more than two threads, of which each simulates, and a sweep too;
 - each of four long runs of a sweep is made by a thread of its own;
-- no more threads start than there are processors, or of two both and the one that writes;
+- no more threads start than there are free processors, or of two both and the one that writes;
 - all rows of a long run never wait in memory at once, by one worker and by several;
 - where a file takes no more, a run by several threads ends with status 5, however many rows are still to come, and the
   trace is a beginning;
@@ -58,9 +58,9 @@ class Bench:
         (self.folder / 's.toml').write_text(text)
         return [self.program, 'sweep', self.folder / 's.toml', '--table', self.table, '--workers', str(workers), *words]
 
-    def threads(self, words, processors):
-        """How many threads a call starts that finds so many processors."""
-        ran, threads = self.stand_in.counted(words, **self.stand_in.processors(processors))
+    def threads(self, words, processors, busy=0):
+        """How many threads a call starts that finds so many processors, of which other programs keep some busy."""
+        ran, threads = self.stand_in.counted(words, **self.stand_in.processors(processors, busy))
         assert ran.status == 0, ran
         return threads
 
@@ -105,6 +105,16 @@ def few_processors(bench):
     for processors in (1, 2, 3):
         threads = bench.threads(bench.run(far(4, 64, 3000), 64), processors)
         assert threads <= processors, (processors, threads)
+
+
+def busy_processors(bench):
+    """No more threads start than there are processors that no other program keeps busy; the bytes are the same."""
+    bench.threads(bench.run(far(4, 64, 3000), 1), 8)
+    whole = bench.trace.read_bytes()
+    for busy, most in ((0, 8), (2, 6), (5, 3), (6, 2), (7, 0), (8, 0), (20, 0)):
+        threads = bench.threads(bench.run(far(4, 64, 3000), 64), 8, busy)
+        assert threads <= most, (busy, threads)
+        assert bench.trace.read_bytes() == whole, busy
 
 
 def most_memory(bench, workers):
@@ -159,7 +169,7 @@ def width(bench):
     assert 3 * made < of_all, (made, of_all)
 
 
-CASES = (one_worker, several_workers, sweep_by_several, sweep_of_long_runs, few_processors, memory, cut_off, width)
+CASES = (one_worker, several_workers, sweep_by_several, sweep_of_long_runs, few_processors, busy_processors, memory, cut_off, width)
 
 
 def main():

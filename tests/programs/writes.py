@@ -11,6 +11,9 @@ from worked import text_of
 
 WORKED = DATA / 'worked'
 SWEEP = ['sweep', 's.toml', '--table', 't.csv', '--seeds', '1..2', '--set', 'swim.period=1000,1200']
+UNTIL = ['sweep', 's.toml', '--until', '50', '--seeds', '1..9', '--set', 'swim.period=1000,1200']
+JOIN = ['join', 'p1', 'p2', '--table', 't.csv']
+PAGE = ['page', 'p1', 'p2', '--out', 'p.html']
 WAYS = ([], ['--workers', '1', '--parts', '2'], ['--workers', '2', '--parts', '2'],
         ['--workers', '3', '--parts', '64'])
 
@@ -88,6 +91,36 @@ def check_table_room(program, workers, sizes):
         if room < len(table):
             expect_ran(ran._replace(err=first_line(ran.err)), *NOT_WRITTEN, what=f'{room} bytes, ')
         expect(f'{room} bytes, table', program.held('t.csv'), table[:room])
+
+
+def check_until_room(program, sizes):
+    """Sweeps until intervals are narrow, with room for so many bytes in the table, which is then a beginning."""
+    words = [*UNTIL, '--table', 't.csv']
+    begin(program, 'two-members')
+    expect('status', program.call(words).status, 0)
+    table = program.held('t.csv')
+    for room in filter(lambda size: size < len(table), sizes):
+        begin(program, 'two-members')
+        ran = program.call(words, room=room)
+        expect_ran(ran._replace(err=first_line(ran.err)), *REFUSED, what=f'{room} bytes, ')
+        expect(f'{room} bytes, table', program.held('t.csv'), table[:room])
+
+
+def check_whole_room(program, words, name, sizes):
+    """Joins two shards, or makes their page, with room for so many bytes in the file, which is as it was before then. Nothing
+    else is left."""
+    begin(program, 'two-members')
+    for shard in '12':
+        expect('status', program.call([*UNTIL, '--shard', f'{shard}/2', '--table', f'p{shard}']).status, 0)
+    expect('status', program.call(words).status, 0)
+    whole = program.held(name)
+    kept = sorted(os.listdir(program.folder))
+    for room in filter(lambda size: size < len(whole), sizes):
+        program.keep(name, 'an older one')
+        ran = program.call(words, room=room)
+        expect_ran(ran._replace(err=first_line(ran.err)), *REFUSED, what=f'{room} bytes, ')
+        expect(f'{room} bytes, {name}', program.held(name), b'an older one')
+        expect(f'{room} bytes, names', sorted(os.listdir(program.folder)), kept)
 
 
 def check_full(program, words, left):
@@ -204,6 +237,9 @@ def room_cases():
     for workers in ('1', '3'):
         for sizes in rooms(len((DATA / 'sweeps' / 'two-members.table').read_bytes())):
             yield Case(f'writes: table by {workers}, {sizes} bytes', check_table_room, (workers, sizes))
+    yield Case('writes: table of a sweep until intervals are narrow', check_until_room, (range(0, 20_000, 61),))
+    for words, name, step in ((JOIN, 't.csv', 61), (PAGE, 'p.html', 613)):
+        yield Case(f'writes: {words[0]}', check_whole_room, (words, name, range(0, 60_000, step)))
 
 
 def full_cases():
@@ -222,6 +258,7 @@ def full_cases():
     for way in WAYS_OF_SITES:
         yield Case(f'writes: closed pipe, four sites {way}', check_pipe, (far(4, 64, 6000), way))
     yield Case('writes: full table', check_full, (['sweep', 's.toml', '--table', '/dev/full'], {}))
+    yield Case('writes: full table until intervals are narrow', check_full, ([*UNTIL, '--table', '/dev/full'], {}))
 
 
 def output_cases():

@@ -2,6 +2,7 @@
 //! handed in, and answers the exit status.
 #![tactic(auto)]
 
+mod processors;
 mod program;
 mod simulation;
 mod surroundings;

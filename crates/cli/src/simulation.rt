@@ -8,6 +8,7 @@ ghost use Rattle.run_output.specs.Promise.{WritesRun, WritesBeginning, ReportOve
 ghost use Rattle.page_runs.specs.Pages.{WritesRunAndPage, BeginsRunAndPage};
 ghost use Rattle.cli.specs.Outcomes.{EndsRunBy};
 
+use crate::processors::fewer;
 use base::Fault;
 use page_runs::{RunShown, run_with_page};
 use partitioning::run_shared;
@@ -26,6 +27,8 @@ use trace::{Put, Sink};
 pub(crate) struct ByThreads<'r, R> {
     /// What starts the threads and lets them wait.
     pub(crate) rt: &'r R,
+    /// No more workers start than there are free processors.
+    pub(crate) processors: Workers,
 }
 
 impl<H: Threads + Wait + Sync> Simulator for ByThreads<'_, H> {
@@ -45,6 +48,7 @@ impl<H: Threads + Wait + Sync> Simulator for ByThreads<'_, H> {
         trace: T,
         report: R,
     ) -> (Put<T>, R, Result<Summary, Fault>) {
+        let workers = fewer(workers, self.processors);
         simulate(
             self.rt, alloc, scenario, division, workers, watch, trace, report,
         )
@@ -62,6 +66,7 @@ impl<H: Threads + Wait + Sync> Simulator for ByThreads<'_, H> {
         report: R,
         page: P,
     ) -> (Put<T>, R, Put<P>, Result<Summary, Fault>) {
+        let workers = fewer(workers, self.processors);
         simulate_with_page(
             self.rt, alloc, scenario, division, workers, shown, watch, trace, report, page,
         )
