@@ -102,7 +102,7 @@ def check_until_room(program, sizes):
     for room in filter(lambda size: size < len(table), sizes):
         begin(program, 'two-members')
         ran = program.call(words, room=room)
-        expect_ran(ran._replace(err=first_line(ran.err)), *REFUSED, what=f'{room} bytes, ')
+        expect_ran(ran._replace(err=first_line(ran.err)), *NOT_WRITTEN, what=f'{room} bytes, ')
         expect(f'{room} bytes, table', program.held('t.csv'), table[:room])
 
 
@@ -118,7 +118,7 @@ def check_whole_room(program, words, name, sizes):
     for room in filter(lambda size: size < len(whole), sizes):
         program.keep(name, 'an older one')
         ran = program.call(words, room=room)
-        expect_ran(ran._replace(err=first_line(ran.err)), *REFUSED, what=f'{room} bytes, ')
+        expect_ran(ran._replace(err=first_line(ran.err)), *NOT_WRITTEN, what=f'{room} bytes, ')
         expect(f'{room} bytes, {name}', program.held(name), b'an older one')
         expect(f'{room} bytes, names', sorted(os.listdir(program.folder)), kept)
 

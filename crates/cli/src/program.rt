@@ -120,7 +120,8 @@ fn perform<'a, S: AsStr, F: Files, O: Write, P: Write>(
         Asked::Help(help) => print_help(&help, out),
         Asked::Version => print_release(release, out),
         Asked::Run(words) => {
-            let summary = run(&ByThreads { rt, processors }, alloc, release, words, files, progress)?;
+            let by_threads = ByThreads { rt, processors };
+            let summary = run(&by_threads, alloc, release, words, files, progress)?;
             print_rows(summary.rows, out)
         }
         Asked::Check(file) => {
