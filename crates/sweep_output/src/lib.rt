@@ -6,8 +6,10 @@ mod members;
 mod objects;
 mod paging;
 mod telling;
-mod tests;
 
 pub use paging::{cases_page, put_text};
 pub use sweep_page::SweepShown;
 pub use telling::cases_told;
+
+#[cfg(test)]
+mod tests;

@@ -1,5 +1,5 @@
 //! The objects of two cases.
-use super::case_objects;
+use crate::objects::case_objects;
 use figures::{CaseSummary, Histogram};
 use goals::Want;
 use std::test::Fail;
