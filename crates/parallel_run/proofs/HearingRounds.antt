@@ -154,7 +154,7 @@ module _ {Q : Type 0} (set : Q → FinMap key_cmp Event) (basis : Basis) (own ro
         come =
             came ∙ ap (λ (w : Cluster). with_arrivals w (map pair_of events)) heard.come ∙ joined_joined heard.window.after (all_events heard.messages) (map pair_of events)
             ∙ ap (with_arrivals heard.window.after) (sym (events_more heard.messages message));
-        least = least_more told first next heard.messages message heard.least lesser_moment;
+        least = least_more told first next heard.messages message heard.least lesser;
       }
 
     -- the word of the next one that is heard
