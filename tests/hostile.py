@@ -313,6 +313,50 @@ def going_on(uses, room, whole):
         uses.judge(f'a table that goes on in a pipe that held {len(held)} bytes', is_well, (started.returncode, err, got))
 
 
+def damaged(uses, room, whole):
+    """Tables with damaged lines: `join` and `page` refuse each, and `--resume` makes it again."""
+    folder = folder_of(room, 'damaged')
+    words = ['sweep', 's.toml', '--set', 'swim.period=1000,1100', '--seeds', '1..20', '--resume', '--shard', '1/1', '--table']
+    uses.call(folder, [*words, 'whole'])
+    table = (folder / 'whole').read_bytes()
+    for number in (1, 2):
+        uses.call(folder, [*words[:-2], f'{number}/2', '--table', f'{number}.csv'])
+    header, *lines = table.splitlines(keepends=True)
+    other = (folder / '2.csv').read_bytes().splitlines(keepends=True)[1]
+    tables = {'with a digit changed': list(changed_digits(table, len(header)))}
+    for place in range(0, len(lines), 7):
+        before, here, behind = lines[:place], lines[place], lines[place + 1:]
+        for told, instead in (('with a line twice', [here, here]), ('without a line', []), ('with junk as a line', [b'junk\n']),
+                              ('with a hole', [bytes(len(here))]), ('with a hole up to a line feed', [bytes(len(here) - 1) + b'\n']),
+                              ('with a line of another place', [other])):
+            tables.setdefault(told, []).append(b''.join([header, *before, *instead, *behind]))
+        if behind:
+            swapped = [header, *before, behind[0], here, *behind[1:]]
+            tables.setdefault('with two lines swapped', []).append(b''.join(swapped))
+    for told, damages in tables.items():
+        seen = [refused(uses, folder, words, held, table) for held in damages]
+        uses.judge(f'{len(damages)} tables {told}', damages and all(is_well for is_well, _ in seen), next((it for is_well, it in seen if not is_well), ''))
+
+
+def changed_digits(table, first):
+    """The table with each digit behind its first line changed, one by one."""
+    for place in range(first, len(table)):
+        if table[place:place + 1].isdigit():
+            digit = b'%d' % ((table[place] - ord('0') + 1) % 10)
+            yield table[:place] + digit + table[place + 1:]
+
+
+def refused(uses, folder, words, held, table):
+    """Whether a table is refused by `join` and `page`, and made again by `--resume`; and what was seen."""
+    (folder / 't').write_bytes(held)
+    joined = uses.call(folder, ['join', 't', '--table', 'u'])
+    paged = uses.call(folder, ['page', 't', '--out', 'p'])
+    went = uses.call(folder, [*words, 't'])
+    again = (folder / 't').read_bytes()
+    is_well = joined[0] == paged[0] == 3 and went == (0, b'', b'') and again == table
+    return is_well and not (folder / 'u').exists() and not (folder / 'p').exists(), (joined, paged, went)
+
+
 def main():
     uses = Uses(program_at(parser_of(__doc__).parse_args().program))
     with tempfile.TemporaryDirectory() as name:
@@ -322,7 +366,7 @@ def main():
         if status != 0:
             sys.exit(f'hostile: status {status} of a plain run')
         whole = (folder / 't').read_bytes()
-        for group in (names, texts, outputs, pipes, ends, words, sizes, removals, replaced, error_stream, pieces, going_on):
+        for group in (names, texts, outputs, pipes, ends, words, sizes, removals, replaced, error_stream, pieces, going_on, damaged):
             group(uses, room, whole)
     end(uses.well, uses.wrong)
 

@@ -8,9 +8,9 @@ ghost use Rattle.sweep.specs.Runs.{IsAskedFor};
 use figures::CaseSummary;
 use shards::Piece;
 use std::alloc::Global;
-use sweep::Gathering;
+use sweep::{Gathering, are_lines_of};
 use sweep_plan::Plan;
-use table_rows::{LineFault, read_cases, read_lines};
+use table_rows::{LineFault, are_cases_of, read_cases, read_lines};
 
 /// What is told of the cases of a sweep while its pieces are read.
 #[derive(Drop)]
@@ -38,27 +38,39 @@ impl Told {
         }
     }
 
-    /// Reads what stands behind the first line of a piece.
+    /// Reads what stands behind the first line of a piece, each line of which must have its checksum with this key, and stand at
+    /// its place.
     pub(crate) fn read(
         &mut self,
         alloc: Global,
         plan: &Plan,
+        key: &[u8],
         piece: Piece,
         lines: &str,
     ) -> Result<(), LineFault>
         requires asked { IsAskedFor plan.now }
         requires piece { IsPiece piece }
-        ensures read { OnOk result (ReadsBehind plan.now.until plan.now piece lines.now self.old self.new) }
-        ensures refused { IfErr result (Refuses (AreBehind plan.now.until plan.now piece lines.now)) }
+        ensures read { OnOk result (ReadsBehind plan.now.until key.now plan.now piece lines.now self.old self.new) }
+        ensures refused { IfErr result (Refuses (AreBehind plan.now.until key.now plan.now piece lines.now)) }
     {
         let each = plan.runs_of_case();
         match plan.until() {
             Some(width) => {
-                let count = share(piece, plan.cases());
+                let all = plan.cases();
+                let first = piece.first(all);
+                let count = share(piece, all);
+                if !are_cases_of(alloc, plan, key, width, first, count, lines)? {
+                    return Err(LineFault::Torn);
+                }
                 read_cases(alloc, lines, width, each, count, &mut self.cases)
             }
             None => {
-                let count = share(piece, plan.runs());
+                let all = plan.runs();
+                let first = piece.first(all);
+                let count = share(piece, all);
+                if !are_lines_of(alloc, plan, key, first, count, lines.as_bytes())? {
+                    return Err(LineFault::Torn);
+                }
                 read_lines(alloc, lines, count, &mut self.gathering)
             }
         }

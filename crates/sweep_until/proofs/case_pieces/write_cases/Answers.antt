@@ -61,7 +61,7 @@ returns-in_err-make_cases-clause-part g c =
     let front = subst (λ b. Appends old begun (drop kept (piece_header b mark plan p))) c.tells_revived.ensures c.in_ok-write_front_behind.ensures.whole in
     let none = subst (HasCases tree plan width stretch old begun 0) (sym c.requires.fresh) (no_case tree plan stretch width old begun front) in
     on_err c.from_residual-in_err-make_cases.result
-    (c.in_err-make_cases.ensures.part stretch old (sym first) (omega (arith, first, past)) none)
+    (c.in_err-make_cases.ensures.part stretch old (sym c.in_ok-key.ensures) (sym first) (omega (arith, first, past)) none)
 
 pub returns-in_err-flush-clause-part : goal.returns-in_err-flush-clause-part
 returns-in_err-flush-clause-part g c =
@@ -85,7 +85,7 @@ returns-in_err-flush-clause-part g c =
     on_err c.from_residual-in_err-flush.result
     (begins_cases tree plan stretch width c.the_run_is_one.ensures c.a_run_exists.ensures c.requires.judged (rest_within plan p before c.requires.piece c.requires.few) old new (c.past-till.result - (c.first-first.result + before)) _
     (omega (arith, count))
-    (cases_kept tree plan stretch width old full new (c.past-till.result - (c.first-first.result + before)) _ c.flush.ensures.same (c.in_ok-make_cases.ensures.whole stretch old (sym first) none)))
+    (cases_kept tree plan stretch width old full new (c.past-till.result - (c.first-first.result + before)) _ c.flush.ensures.same (c.in_ok-make_cases.ensures.whole stretch old (sym c.in_ok-key.ensures) (sym first) none)))
 
 pub returns-in_err-flush-clause-causes : goal.returns-in_err-flush-clause-causes
 returns-in_err-flush-clause-causes g c = write_caused (view c.args.document.now) c.args.plan.now c.from_residual-in_err-flush.result _ c.from_residual-in_err-flush.ensures.1
@@ -110,4 +110,4 @@ returns-clause-whole g c =
     let none = subst (HasCases tree plan width stretch old begun 0) (sym c.requires.fresh) (no_case tree plan stretch width old begun front) in
     let count : c.past-till.result - (c.first-first.result + before) ≡ cases_in plan p - before = omega (arith, first, past) in
     subst (λ n. HasCases tree plan width stretch old new n c.make_cases.new.cases.items) count
-    (cases_kept tree plan stretch width old full new (c.past-till.result - (c.first-first.result + before)) _ c.flush.ensures.same (c.in_ok-make_cases.ensures.whole stretch old (sym first) none))
+    (cases_kept tree plan stretch width old full new (c.past-till.result - (c.first-first.result + before)) _ c.flush.ensures.same (c.in_ok-make_cases.ensures.whole stretch old (sym c.in_ok-key.ensures) (sym first) none))
