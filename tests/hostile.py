@@ -17,7 +17,7 @@ import threading
 import time
 from pathlib import Path
 
-from harness import call, end, parser_of, program_at
+from harness import call, end, first_line, parser_of, program_at
 from program import TWO_MEMBERS
 
 RUN = ('run', 's.toml', '--trace')
@@ -314,46 +314,64 @@ def going_on(uses, room, whole):
 
 
 def damaged(uses, room, whole):
-    """Tables with damaged lines: `join` and `page` refuse each, and `--resume` makes it again."""
-    folder = folder_of(room, 'damaged')
-    words = ['sweep', 's.toml', '--set', 'swim.period=1000,1100', '--seeds', '1..20', '--resume', '--shard', '1/1', '--table']
-    uses.call(folder, [*words, 'whole'])
-    table = (folder / 'whole').read_bytes()
-    for number in (1, 2):
-        uses.call(folder, [*words[:-2], f'{number}/2', '--table', f'{number}.csv'])
+    """Tables with damaged lines: `join` and `page` refuse each, and `--resume` makes it again, with a width and without."""
+    for name, until in (('damaged', []), ('damaged_cases', ['--until', '20'])):
+        folder = folder_of(room, name)
+        (folder / 'other.toml').write_text(TWO_MEMBERS + '# another text\n')
+        asked = ['--set', 'swim.period=1000,1100', '--seeds', '1..20', *until, '--table']
+        for shard in ('1/1', '1/2', '2/2'):
+            uses.call(folder, ['sweep', 's.toml', '--shard', shard, *asked, f'{shard[0]}-{shard[2]}.csv'])
+        uses.call(folder, ['sweep', 'other.toml', *asked, 'other.csv'])
+        whole_words = ['sweep', 's.toml', '--resume', '--shard', '1/1', *asked]
+        whole_table = (folder / '1-1.csv').read_bytes()
+        shard_words = ['sweep', 's.toml', '--resume', '--shard', '2/2', *asked]
+        shard_table = (folder / '2-2.csv').read_bytes()
+        others = [(folder / table).read_bytes().splitlines(keepends=True) for table in ('2-2.csv', 'other.csv')]
+        for told, damages in damages_of(whole_table, *others).items():
+            judge_damages(uses, folder, f'{told}{" and a width" if until else ""}', damages, [], whole_words, whole_table)
+        digits = list(changed_digits(shard_table))
+        judge_damages(uses, folder, f'with a digit changed{" and a width" if until else ""}', digits, ['1-2.csv'], shard_words, shard_table)
+
+
+def damages_of(table, shard, other):
+    """The table with lines that are damaged or stand at another place, by what is told of them."""
     header, *lines = table.splitlines(keepends=True)
-    other = (folder / '2.csv').read_bytes().splitlines(keepends=True)[1]
-    tables = {'with a digit changed': list(changed_digits(table, len(header)))}
-    for place in range(0, len(lines), 7):
+    tables = {}
+    for place in range(0, len(lines) - 1, 7):
         before, here, behind = lines[:place], lines[place], lines[place + 1:]
-        for told, instead in (('with a line twice', [here, here]), ('without a line', []), ('with junk as a line', [b'junk\n']),
-                              ('with a hole', [bytes(len(here))]), ('with a hole up to a line feed', [bytes(len(here) - 1) + b'\n']),
-                              ('with a line of another place', [other])):
-            tables.setdefault(told, []).append(b''.join([header, *before, *instead, *behind]))
-        if behind:
-            swapped = [header, *before, behind[0], here, *behind[1:]]
-            tables.setdefault('with two lines swapped', []).append(b''.join(swapped))
-    for told, damages in tables.items():
-        seen = [refused(uses, folder, words, held, table) for held in damages]
-        uses.judge(f'{len(damages)} tables {told}', damages and all(is_well for is_well, _ in seen), next((it for is_well, it in seen if not is_well), ''))
+        for told, instead in (('with a line twice', [here, here]), ('with two lines swapped', [behind[0], here]), ('without a line', []),
+                              ('with junk as a line', [b'junk\n']), ('with a hole', [bytes(len(here))]),
+                              ('with a hole up to a line feed', [bytes(len(here) - 1) + b'\n']),
+                              ('with a line of another place', [shard[1]]), ('with a line of another sweep', [other[place + 1]])):
+            left = behind[1:] if told == 'with two lines swapped' else behind
+            tables.setdefault(told, []).append(b''.join([header, *before, *instead, *left]))
+    return tables
 
 
-def changed_digits(table, first):
+def changed_digits(table):
     """The table with each digit behind its first line changed, one by one."""
-    for place in range(first, len(table)):
+    for place in range(table.index(b'\n'), len(table)):
         if table[place:place + 1].isdigit():
             digit = b'%d' % ((table[place] - ord('0') + 1) % 10)
             yield table[:place] + digit + table[place + 1:]
 
 
-def refused(uses, folder, words, held, table):
-    """Whether a table is refused by `join` and `page`, and made again by `--resume`; and what was seen."""
+def judge_damages(uses, folder, told, damages, others, words, table):
+    """Judges whether each damaged table is refused, and made again."""
+    seen = [refused(uses, folder, held, others, words, table) for held in damages]
+    first = next((it for is_well, it in seen if not is_well), '')
+    uses.judge(f'{len(damages)} tables {told}', damages and all(is_well for is_well, _ in seen), first)
+
+
+def refused(uses, folder, held, others, words, table):
+    """Whether a table is refused by `join` and `page`, beside others, and made again by `--resume`; and what was seen."""
     (folder / 't').write_bytes(held)
-    joined = uses.call(folder, ['join', 't', '--table', 'u'])
-    paged = uses.call(folder, ['page', 't', '--out', 'p'])
+    joined = uses.call(folder, ['join', *others, 't', '--table', 'u'])
+    paged = uses.call(folder, ['page', *others, 't', '--out', 'p'])
     went = uses.call(folder, [*words, 't'])
     again = (folder / 't').read_bytes()
-    is_well = joined[0] == paged[0] == 3 and went == (0, b'', b'') and again == table
+    told = [(status, out, first_line(err)) for status, out, err in (joined, paged)]
+    is_well = told == [(3, b'', b'swimsim: piece t torn\n')] * 2 and went == (0, b'', b'') and again == table
     return is_well and not (folder / 'u').exists() and not (folder / 'p').exists(), (joined, paged, went)
 
 

@@ -75,7 +75,7 @@ fn join_texts<'a, S: Sink>(
     }
 }
 
-/// The failure that a fault is told by: lines without checksums are told as no piece. A table in memory fails by want of that, and one that is thrown away never.
+/// The failure that a fault is told by. A table in memory fails by want of that, and one that is thrown away never.
 fn failure_of<'a>(names: &[&'a str], otherwise: &'a str, fault: JoinFault) -> Failure<'a>
     ensures { result ≡ piece_failure names.now otherwise.entry fault }
 {
@@ -93,7 +93,7 @@ fn failure_of<'a>(names: &[&'a str], otherwise: &'a str, fault: JoinFault) -> Fa
             Failure::Pieces(PieceFault::Torn(name_at(names, otherwise, place)))
         }
         JoinFault::Older(place) => {
-            Failure::Pieces(PieceFault::NoPiece(name_at(names, otherwise, place)))
+            Failure::Pieces(PieceFault::Older(name_at(names, otherwise, place)))
         }
         JoinFault::Missing(number) => Failure::Pieces(PieceFault::Missing(number)),
         JoinFault::Write | JoinFault::Memory => Failure::Memory,

@@ -1,6 +1,6 @@
 -- What stands of the table of a piece whose cases have as many runs as are enough, where it was cut off.
 use Rattle.std.specs.Prelude.{◌≡◌, ◌≤◌, ◌⊎◌, ◌+◌, ℕ, Bool, List, [], ◌++◌, length}
-use Rattle.std.specs.Str.{IsUtf8}
+use Rattle.std.specs.Str.{IsValidUpTo}
 use Rattle.sweep_plan.specs.Sweep.{Sweep}
 use Rattle.table_rows.specs.Cases.{BeginsWithCases, HasCaseOf}
 use Rattle.shards.specs.declared.piece.Piece.{Piece}
@@ -10,10 +10,10 @@ use Rattle.sweep.specs.Sums.{sweep_key}
 use Rattle.sweep.specs.declared.begun.BegunFault.{BegunFault}
 use Rattle.sweep_until.specs.Pieces.{cases_in, first_case}
 
--- a beginning of a text that was read: all of it, where it is UTF-8
+-- the beginning of a text that is UTF-8: all of it, or the longest there is
 pub record IsRead (text front unread : List ℕ) : Type 0 where
   pub written : text ≡ front ++ unread
-  pub valid : (unread ≡ []) ⊎ ¬ (IsUtf8 text)
+  pub longest : (unread ≡ []) ⊎ IsValidUpTo text (length front)
 
 -- Behind the first line come those of so many whole cases, from that of a number on, and no more of them than so many: the first bytes of the text, up to
 -- what is left.

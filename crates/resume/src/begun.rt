@@ -1,5 +1,6 @@
 //! What stands of the table of a piece of whole cases in a text.
-ghost use Rattle.std.specs.Prelude.{◌≡◌, ◌×◌, List, ℕ, Some, IfOk, IfErr};
+ghost use Rattle.std.specs.Prelude.{◌≡◌, List, ℕ, Some, IfOk, IfErr, take};
+ghost use Rattle.std.specs.Str.{IsValidUpTo};
 ghost use Rattle.toml.specs.View.{view};
 ghost use Rattle.shards.specs.Pieces.{IsPiece};
 ghost use Rattle.sweep.specs.Runs.{IsAskedFor};
@@ -54,15 +55,23 @@ pub fn begun_cases_of(
     })
 }
 
-/// The beginning of a text that can be read: all of it, where it is UTF-8.
+/// The beginning of a text that is UTF-8: all of it, or the longest there is.
 fn read_front<'a>(text: &'a [u8]) -> &'a str
     ensures { (unread : List ℕ) × IsRead text.entry.now result.now unread }
 {
     match from_utf8(text) {
         Ok(words) => words,
-        Err(error) => match from_utf8(&text[..error.valid_up_to()]) {
-            Ok(words) => words,
-            Err(_) => "",
-        },
+        Err(error) => read_up_to(text, error.valid_up_to()),
+    }
+}
+
+/// So many of a text's first bytes, which are UTF-8.
+fn read_up_to<'a>(text: &'a [u8], count: usize) -> &'a str
+    requires { IsValidUpTo text.now count }
+    ensures { result.now ≡ take count text.entry.now }
+{
+    match from_utf8(&text[..count]) {
+        Ok(words) => words,
+        Err(_) => "",
     }
 }

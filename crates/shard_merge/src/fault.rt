@@ -21,7 +21,7 @@ pub enum JoinFault {
     /// The text at this place is a piece that isn't whole.
     #[error("torn")]
     Torn(usize),
-    /// The text at this place is a piece whose lines have no checksums, as those of versions before 1.10.0.
+    /// The text at this place is a piece whose lines have no checksums, as those of versions before 1.11.0.
     #[error("without checksums")]
     Older(usize),
     /// The piece of this number, counted from 1, isn't there.

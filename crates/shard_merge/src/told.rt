@@ -1,9 +1,13 @@
 //! What is told of the cases of pieces that are read.
-ghost use Rattle.std.specs.Prelude.{◌≡◌, ◌<◌, ◌≤◌, [], IfErr, OnOk};
+ghost use Rattle.std.specs.Prelude.{◌≡◌, ◌<◌, ◌≤◌, ◌+◌, [], IfErr, OnOk};
+ghost use Rattle.sweep_plan.specs.Sweep.{case_count, run_count, seed_count};
+ghost use Rattle.table_rows.specs.Cases.{AreCases, AreCasesOf, ReadsCases};
+ghost use Rattle.table_rows.specs.Lines.{AreLines, ReadsLines};
 ghost use Rattle.table_rows.specs.Refused.{Refuses};
-ghost use Rattle.shard_merge.specs.Behind.{share};
+ghost use Rattle.shard_merge.specs.Behind.{GathersMore, share};
 ghost use Rattle.shards.specs.Pieces.{IsPiece};
 ghost use Rattle.sweep.specs.Runs.{IsAskedFor};
+ghost use Rattle.sweep.specs.Sums.{AreLinesOf};
 
 use figures::CaseSummary;
 use shards::Piece;
@@ -53,25 +57,20 @@ impl Told {
         ensures read { OnOk result (ReadsBehind plan.now.until key.now plan.now piece lines.now self.old self.new) }
         ensures refused { IfErr result (Refuses (AreBehind plan.now.until key.now plan.now piece lines.now)) }
     {
-        let each = plan.runs_of_case();
         match plan.until() {
             Some(width) => {
                 let all = plan.cases();
                 let first = piece.first(all);
                 let count = share(piece, all);
-                if !are_cases_of(alloc, plan, key, width, first, count, lines)? {
-                    return Err(LineFault::Torn);
-                }
-                read_cases(alloc, lines, width, each, count, &mut self.cases)
+                let cases = &mut self.cases;
+                read_placed_cases(alloc, plan, key, width, first, count, lines, cases)
             }
             None => {
                 let all = plan.runs();
                 let first = piece.first(all);
                 let count = share(piece, all);
-                if !are_lines_of(alloc, plan, key, first, count, lines.as_bytes())? {
-                    return Err(LineFault::Torn);
-                }
-                read_lines(alloc, lines, count, &mut self.gathering)
+                let gathering = &mut self.gathering;
+                read_placed_lines(alloc, plan, key, first, count, lines, gathering)
             }
         }
     }
@@ -85,6 +84,52 @@ impl Told {
             None => self.gathering.into_summaries(),
         }
     }
+}
+
+/// Reads the lines of the runs from this number on, so many, and gathers their notes.
+fn read_placed_lines(
+    alloc: Global,
+    plan: &Plan,
+    key: &[u8],
+    first: usize,
+    count: usize,
+    lines: &str,
+    gathering: &mut Gathering,
+) -> Result<(), LineFault>
+    requires asked { IsAskedFor plan.now }
+    requires within { first + count ≤ run_count plan.now }
+    ensures read { OnOk result (ReadsLines lines.now count (GathersMore gathering.old gathering.new) × AreLinesOf key.now plan.now first lines.now count) }
+    ensures refused { IfErr result (Refuses (AreLines lines.now count × AreLinesOf key.now plan.now first lines.now count)) }
+{
+    if !are_lines_of(alloc, plan, key, first, count, lines.as_bytes())? {
+        return Err(LineFault::Torn);
+    }
+    read_lines(alloc, lines, count, gathering)
+}
+
+/// Reads the lines of the cases from this number on, so many, and adds their summaries.
+fn read_placed_cases(
+    alloc: Global,
+    plan: &Plan,
+    key: &[u8],
+    width: u64,
+    first: usize,
+    count: usize,
+    lines: &str,
+    cases: &mut Vec<CaseSummary>,
+) -> Result<(), LineFault>
+    requires asked { IsAskedFor plan.now }
+    requires narrow { width ≤ 100 }
+    requires within { first + count ≤ case_count plan.now.settings }
+    ensures read { OnOk result (ReadsCases width (seed_count plan.now.seeds) lines.now count cases.old.items cases.new.items
+        × AreCasesOf key.now plan.now width first lines.now count) }
+    ensures refused { IfErr result (Refuses (AreCases width (seed_count plan.now.seeds) lines.now count × AreCasesOf key.now plan.now width first lines.now count)) }
+{
+    if !are_cases_of(alloc, plan, key, width, first, count, lines)? {
+        return Err(LineFault::Torn);
+    }
+    let each = plan.runs_of_case();
+    read_cases(alloc, lines, width, each, count, cases)
 }
 
 /// How many of so many a piece has.

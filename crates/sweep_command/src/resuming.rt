@@ -31,7 +31,8 @@ pub(crate) struct Stays {
 
 /// What stays of the table that the words name, where they ask for a piece that goes on.
 ///
-/// Failures: `Pieces` where the file of the table holds no beginning of it, or lines without checksums; `File` where it can't be read; `Memory`.
+/// Failures: `Pieces` where the file of the table holds no beginning of it, or one of an earlier version, without checksums;
+/// `File` where it can't be read; `Memory`.
 pub(crate) fn find_standing<'a, F: Files>(
     alloc: Global,
     words: &SweepWords<'a>,
@@ -99,7 +100,7 @@ fn stays_in<'a>(
     match begun_in(alloc, &words.plan, piece, marked, text) {
         Ok(stays) => Ok(stays),
         Err(BegunFault::Other) => Err(Failure::Pieces(PieceFault::Other(words.table))),
-        Err(BegunFault::Older) => Err(Failure::Pieces(PieceFault::NoPiece(words.table))),
+        Err(BegunFault::Older) => Err(Failure::Pieces(PieceFault::Older(words.table))),
         Err(BegunFault::Memory) => Err(Failure::Memory),
     }
 }
