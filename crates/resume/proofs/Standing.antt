@@ -1,12 +1,39 @@
 -- What stands of the table of a piece of whole cases in a text.
-use Rattle.std.proofs.Common.{◌≡◌, ◌⊎◌, ◌≤◌, ◌+◌, ℕ, Bool, List, [], ◌++◌, inl, inr, length, refl, arith}
+use Rattle.std.proofs.Common.{◌≡◌, ◌⊎◌, ◌≤◌, ◌+◌, ◌-◌, ℕ, Bool, List, [], ◌++◌, inl, inr, length, length-append, take, drop, refl, sym, ap, subst, ◌∙◌, append-nil, arith}
+use Rattle.std.specs.Str.{IsValidUpTo}
+use Rattle.std.specs.List.{flat_map}
+use Rattle.std.proofs.lemmas.List.{length-take, take-append-drop}
 use Rattle.sweep_plan.specs.Sweep.{Sweep}
 use Rattle.shards.specs.declared.piece.Piece.{Piece}
 use Rattle.sweep.specs.Pieces.{piece_header}
 use Rattle.sweep.specs.Sums.{sweep_key}
 use Rattle.sweep_until.specs.Pieces.{cases_in, first_case}
-use Rattle.table_rows.specs.Cases.{BeginsWithCases, HasCaseOf}
+use Rattle.table_rows.specs.Cases.{BeginsWithCases, HasCaseOf, piece_case}
 use Rattle.resume.specs.Begun.{IsBegunCases, IsRead}
+
+-- ---- the beginning of a text that is UTF-8
+
+pub whole_read : (text front : List ℕ) → front ≡ text → IsRead text front []
+whole_read text front same = record { written = sym same ∙ sym (append-nil front); longest = inl refl }
+
+pub front_read : (text front : List ℕ) (count : ℕ) → IsValidUpTo text count → front ≡ take count text → IsRead text front (drop count text)
+front_read text front count valid same =
+    let long : length front ≡ count = ap length same ∙ length-take count text ∙ omega (arith, valid.short) in
+    record { written = sym (take-append-drop count text) ∙ ap (λ l. l ++ drop count text) (sym same); longest = inr (subst (IsValidUpTo text) (sym long) valid) }
+
+pub front_within : (text front unread : List ℕ) → IsRead text front unread → length front ≤ length text
+front_within text front unread read = omega (arith, ap length read.written ∙ length-append front unread)
+
+-- what comes behind the first line is no longer than the text
+pub rest_within : (header text rest : List ℕ) → text ≡ header ++ rest → length rest ≤ length text
+rest_within header text rest is = omega (arith, ap length is ∙ length-append header rest)
+
+-- nor is what is left of a front longer than that
+pub left_within : (key : List ℕ) (sweep : Sweep) (width first count : ℕ) (front left : List ℕ) → BeginsWithCases key sweep width first front left count → length left ≤ length front
+left_within key sweep width first count front left begins =
+    omega (arith, ap length begins.written ∙ length-append (flat_map piece_case begins.cases) left)
+
+-- ---- what stands of a piece's table
 
 module _ (revived : Bool) (mark : List ℕ) (sweep : Sweep) (width : ℕ) (p : Piece) (text : List ℕ) where
   abbrev header : List ℕ
@@ -20,10 +47,27 @@ module _ (revived : Bool) (mark : List ℕ) (sweep : Sweep) (width : ℕ) (p : P
   }
 
   -- the first line, and whole cases
-  pub long_stands : (rest front unread left : List ℕ) (kept cases : ℕ) → text ≡ header ++ rest → IsRead rest front unread
-      → BeginsWithCases (sweep_key mark sweep) sweep width (first_case sweep p) front left cases → kept + length (left ++ unread) ≡ length text → cases ≤ cases_in sweep p
-      → (cases ≡ cases_in sweep p) ⊎ ¬ (HasCaseOf (sweep_key mark sweep) sweep width (first_case sweep p + cases) left) → IsBegunCases revived mark sweep width p text kept cases
-  long_stands rest front unread left kept cases behind read begins stay few no_more = record {
-    stands = inr (record { rest = rest; written = behind; front = front; unread = unread; read = read; left = left; begins = begins; stay = stay; no_more = no_more });
-    few = few;
-  }
+  pub long_stands : (key : List ℕ) (first most : ℕ) → key ≡ sweep_key mark sweep → first ≡ first_case sweep p → most ≡ cases_in sweep p → (rest front left : List ℕ) (kept cases : ℕ)
+      → text ≡ header ++ rest → (unread : List ℕ) × IsRead rest front unread → BeginsWithCases key sweep width first front left cases
+      → kept + (length rest - length front) + length left ≡ length text → cases ≤ most → (cases ≡ most) ⊎ ¬ (HasCaseOf key sweep width (first + cases) left)
+      → IsBegunCases revived mark sweep width p text kept cases
+  long_stands key first most its_key at all rest front left kept cases behind read begins stay few no_more =
+      let unread = read.0 in
+      let long : length rest ≡ length front + length unread = ap length read.1.written ∙ length-append front unread in
+      let more : length (left ++ unread) ≡ length left + length unread = length-append left unread in
+      record {
+        stands = inr (record {
+          rest = rest;
+          written = behind;
+          front = front;
+          unread = unread;
+          read = read.1;
+          left = left;
+          begins = subst (λ k. BeginsWithCases k sweep width (first_case sweep p) front left cases) its_key (subst (λ n. BeginsWithCases key sweep width n front left cases) at begins);
+          stay = omega (arith, stay, long, more);
+          no_more = subst (λ n. (cases ≡ n) ⊎ ¬ (HasCaseOf (sweep_key mark sweep) sweep width (first_case sweep p + cases) left)) all
+              (subst (λ k. (cases ≡ most) ⊎ ¬ (HasCaseOf k sweep width (first_case sweep p + cases) left)) its_key
+              (subst (λ n. (cases ≡ most) ⊎ ¬ (HasCaseOf key sweep width (n + cases) left)) at no_more));
+        });
+        few = subst (λ n. cases ≤ n) all few;
+      }

@@ -1,5 +1,5 @@
 //! What stands of the table of a piece of whole cases in a text.
-ghost use Rattle.std.specs.Prelude.{◌≡◌, List, ℕ, Some, IfOk, IfErr, take};
+ghost use Rattle.std.specs.Prelude.{◌≡◌, ◌≤◌, ◌+◌, ◌-◌, List, ℕ, Some, IfOk, IfErr, length, take};
 ghost use Rattle.std.specs.Str.{IsValidUpTo};
 ghost use Rattle.toml.specs.View.{view};
 ghost use Rattle.shards.specs.Pieces.{IsPiece};
@@ -49,10 +49,21 @@ pub fn begun_cases_of(
     let most = piece.past(count) - first;
     let words = read_front(lines);
     let stood = cases_of_runs(alloc, plan, &key, width, first, most, words)?;
+    let kept = kept_of(text, lines, words, stood.left);
     Ok(BegunCases {
-        kept: text.len() - (lines.len() - (words.len() - stood.left.len())),
+        kept,
         cases: stood.count,
     })
+}
+
+/// How many bytes of a text stay: all but those of its lines that weren't read, and those that are left behind what was.
+fn kept_of(text: &[u8], lines: &[u8], words: &str, left: &str) -> usize
+    requires left { length left.now ≤ length words.now }
+    requires words { length words.now ≤ length lines.now }
+    requires lines { length lines.now ≤ length text.now }
+    ensures { result + (length lines.now - length words.now) + length left.now ≡ length text.now }
+{
+    text.len() - (lines.len() - words.len()) - left.len()
 }
 
 /// The beginning of a text that is UTF-8: all of it, or the longest there is.

@@ -42,7 +42,8 @@ pub(crate) fn lines_behind<'a>(
     let Some(rest) = text_at(texts, place).strip_prefix(header.as_slice()) else {
         return Err(JoinFault::Other(place));
     };
-    if is_older(alloc, rest)? {
+    let older = is_older(alloc, rest)?;
+    if older {
         return Err(JoinFault::Older(place));
     }
     let Ok(lines) = from_utf8(rest) else {

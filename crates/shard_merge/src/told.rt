@@ -62,15 +62,22 @@ impl Told {
                 let all = plan.cases();
                 let first = piece.first(all);
                 let count = share(piece, all);
-                let cases = &mut self.cases;
-                read_placed_cases(alloc, plan, key, width, first, count, lines, cases)
+                read_placed_cases(
+                    alloc,
+                    plan,
+                    key,
+                    width,
+                    first,
+                    count,
+                    lines,
+                    &mut self.cases,
+                )
             }
             None => {
                 let all = plan.runs();
                 let first = piece.first(all);
                 let count = share(piece, all);
-                let gathering = &mut self.gathering;
-                read_placed_lines(alloc, plan, key, first, count, lines, gathering)
+                read_placed_lines(alloc, plan, key, first, count, lines, &mut self.gathering)
             }
         }
     }
@@ -101,10 +108,11 @@ fn read_placed_lines(
     ensures read { OnOk result (ReadsLines lines.now count (GathersMore gathering.old gathering.new) × AreLinesOf key.now plan.now first lines.now count) }
     ensures refused { IfErr result (Refuses (AreLines lines.now count × AreLinesOf key.now plan.now first lines.now count)) }
 {
-    if !are_lines_of(alloc, plan, key, first, count, lines.as_bytes())? {
-        return Err(LineFault::Torn);
+    let placed = are_lines_of(alloc, plan, key, first, count, lines.as_bytes())?;
+    if placed {
+        return read_lines(alloc, lines, count, gathering);
     }
-    read_lines(alloc, lines, count, gathering)
+    Err(LineFault::Torn)
 }
 
 /// Reads the lines of the cases from this number on, so many, and adds their summaries.
@@ -125,11 +133,12 @@ fn read_placed_cases(
         × AreCasesOf key.now plan.now width first lines.now count) }
     ensures refused { IfErr result (Refuses (AreCases width (seed_count plan.now.seeds) lines.now count × AreCasesOf key.now plan.now width first lines.now count)) }
 {
-    if !are_cases_of(alloc, plan, key, width, first, count, lines)? {
-        return Err(LineFault::Torn);
+    let placed = are_cases_of(alloc, plan, key, width, first, count, lines)?;
+    if placed {
+        let each = plan.runs_of_case();
+        return read_cases(alloc, lines, width, each, count, cases);
     }
-    let each = plan.runs_of_case();
-    read_cases(alloc, lines, width, each, count, cases)
+    Err(LineFault::Torn)
 }
 
 /// How many of so many a piece has.

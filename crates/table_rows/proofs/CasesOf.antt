@@ -14,6 +14,7 @@ use Rattle.sweep_until.specs.declared.runs.CaseRuns.{CaseRuns}
 use Rattle.table_rows.specs.Cases.{AreCasesOf, BeginsWithCases, HasCase, HasCaseOf, IsCase, IsCaseOf, ReadsCase, piece_case}
 use Rattle.table_rows.specs.Items.{BeginsWith}
 use Rattle.table_rows.specs.Lines.{Line, notes_of, piece_line}
+use Rattle.table_rows.proofs.Items.{none_left}
 use Rattle.table_rows.proofs.OneCase.{same_case}
 use Rattle.table_rows.proofs.OneLine.{laid}
 use Rattle.table_rows.proofs.Read.{zipped_both}
@@ -112,6 +113,20 @@ module _ (key : List ℕ) (sweep : Sweep) (width : ℕ) where
         by (inr it) (inl same) = absurd (omega (arith, it.0, same))
         by (inr it) (inr none) = none it.1
 
+    -- and one of which so many were read, and nothing is left, is
+    pub all_so : (first count stood : ℕ) (text left : List ℕ) → BeginsWithCases key sweep width first text left stood → stood ≤ count → count ≤ stood → length left ≡ 0
+        → AreCasesOf key sweep width first text count
+    all_so first count stood text left begins few all none =
+        let same : stood ≡ count = omega (arith, few, all) in
+        subst (λ n. BeginsWithCases key sweep width first text [] n) same
+        (subst (λ l. BeginsWithCases key sweep width first text l stood) (none_left left none) begins)
+
+-- a text is no shorter than what is left of it behind a case
+pub left_within : (width each : ℕ) (text left : List ℕ) (kept : CaseRuns) → ReadsCase width each text left kept → length left ≤ length text
+left_within width each text left kept reads =
+    let long : length text ≡ length (piece_case reads.begins.one) + length left = ap length reads.begins.written ∙ length-append (piece_case reads.begins.one) left in
+    omega (arith, long)
+
 -- ---- the case of a number
 
 module _ (key : List ℕ) (sweep : Sweep) (width each number : ℕ) (counted : each ≡ seed_count sweep.seeds) (text : List ℕ) where
@@ -143,14 +158,10 @@ module _ (key : List ℕ) (sweep : Sweep) (width each number : ℕ) (counted : e
         count = count;
         few = omega (arith, few, counted);
         placed = subst (λ n. BeginsWithLines key sweep n (piece_case one) [] count) at
-            (subst (λ l. BeginsWithLines key sweep first l [] count) its_lines (subst (λ l. BeginsWithLines key sweep first lines l count) (nothing behind none) begins));
+            (subst (λ l. BeginsWithLines key sweep first l [] count) its_lines (subst (λ l. BeginsWithLines key sweep first lines l count) (none_left behind none) begins));
       };
       written = reads.begins.written;
     }
-      where
-        nothing : (xs : List ℕ) → length xs ≡ 0 → xs ≡ []
-        nothing [] none = refl
-        nothing (x ∷ xs) none = absurd (omega (arith, none))
 
     pub case_unplaced : ¬ (behind ≡ []) → (count ≡ each) ⊎ ¬ (HasLineOf key sweep (first + count) behind) → ¬ (HasCaseOf key sweep width number text)
     case_unplaced more no_more has =

@@ -1,5 +1,5 @@
 //! Cases whose lines are those of the runs at their places.
-ghost use Rattle.std.specs.Prelude.{◌≡◌, ◌⊎◌, ◌+◌, ◌<◌, ◌≤◌, true, false, IfOk, IfSome, IsNone};
+ghost use Rattle.std.specs.Prelude.{◌≡◌, ◌⊎◌, ◌+◌, ◌-◌, ◌<◌, ◌≤◌, true, false, length, take, IfOk, IfSome, IsNone};
 ghost use Rattle.sweep_plan.specs.Sweep.{case_count};
 ghost use Rattle.sweep.specs.Runs.{IsAskedFor};
 ghost use Rattle.table_rows.specs.Cases.{AreCasesOf, BeginsWithCases, HasCaseOf, IsCaseOf, piece_case};
@@ -67,7 +67,10 @@ pub fn are_cases_of(
     ensures none { IfOk result (λ it. it ≡ false → ¬ (AreCasesOf key.now plan.now width first text.now count)) }
 {
     let stood = cases_of_runs(alloc, plan, key, width, first, count, text)?;
-    Ok(stood.count == count && stood.left.is_empty())
+    if stood.count < count {
+        return Ok(false);
+    }
+    Ok(stood.left.is_empty())
 }
 
 /// What is left of a text behind the case of this number, where it begins with that.
@@ -92,10 +95,19 @@ fn behind_case<'a>(
         Err(LineFault::Torn) => return Ok(None),
         Err(LineFault::Memory) => return Err(Memory),
     };
-    let lines = &text.as_bytes()[..text.len() - left.len()];
-    let stood = lines_of_runs(alloc, plan, key, first_run(plan, number), each, lines)?;
-    if !stood.left.is_empty() {
-        return Ok(None);
+    let lines = before(text, left);
+    let first = first_run(plan, number);
+    let stood = lines_of_runs(alloc, plan, key, first, each, lines)?;
+    if stood.left.is_empty() {
+        return Ok(Some(left));
     }
-    Ok(Some(left))
+    Ok(None)
+}
+
+/// What a text has before what is left of it.
+fn before<'a>(text: &'a str, left: &str) -> &'a [u8]
+    requires { length left.now ≤ length text.now }
+    ensures { result.now ≡ take (length text.entry.now - length left.now) text.entry.now }
+{
+    &text.as_bytes()[..text.len() - left.len()]
 }

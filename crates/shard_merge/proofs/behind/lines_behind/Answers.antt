@@ -29,15 +29,15 @@ returns-in_default-strip_prefix-clause-refused c =
     absurd (cut begins.rest (begins.written ∙ ap (λ l. l ++ begins.rest) (sym (c.as_slice.ensures.value ∙ c.in_ok-header.ensures.header ∙ ap (piece_header head.revived head.mark.now head.plan) c.piece_at.ensures.same))))
 
 -- lines without checksums
-pub returns-then-is_older-clause-refused : goal.returns-then-is_older-clause-refused
-returns-then-is_older-clause-refused c =
+pub returns-then-older-clause-refused : goal.returns-then-older-clause-refused
+returns-then-older-clause-refused c =
     let head = c.args.head.now in
     let found = sym c.place_of_run.ensures ∙ c.in-Some.is in
     let rest = c.in-Some-strip_prefix.rest.now in
     let front = rw c.in-Some-strip_prefix.is at (strip_prefix_is Decides-eqb c.text_at.result.now _ c.strip_prefix.result c.strip_prefix.ensures.cases) in
     let whole = front ∙ ap (λ l. l ++ rest) (c.as_slice.ensures.value ∙ c.in_ok-header.ensures.header ∙ ap (piece_header head.revived head.mark.now head.plan) c.piece_at.ensures.same) in
     of_before c.args.texts.now head.mark.now head.revived head.plan head.piece c.requires.first c.args.places.now c.requires.places c.args.number _ rest
-    (record { found = found; text = _; there = c.text_at.ensures; written = whole }) (c.in_ok-is_older.ensures.older c.if-is_older.true)
+    (record { found = found; text = _; there = c.text_at.ensures; written = whole }) (c.in_ok-older.ensures.older c.if-older.true)
 
 -- what isn't UTF-8 is no lines
 pub returns-in_default-from_utf8-clause-refused : goal.returns-in_default-from_utf8-clause-refused
