@@ -315,10 +315,10 @@ def going_on(uses, room, whole):
 
 def damaged(uses, room, whole):
     """Tables with damaged lines: `join` and `page` refuse each, and `--resume` makes it again, with a width and without."""
-    for name, until in (('damaged', []), ('damaged_cases', ['--until', '20'])):
+    for name, until in (('damaged', []), ('damaged_cases', ['--until', '30'])):
         folder = folder_of(room, name)
         (folder / 'other.toml').write_text(TWO_MEMBERS + '# another text\n')
-        asked = ['--set', 'swim.period=1000,1100', '--seeds', '1..20', *until, '--table']
+        asked = ['--set', 'swim.period=1000,1100', '--seeds', '1..12', *until, '--table']
         for shard in ('1/1', '1/2', '2/2'):
             uses.call(folder, ['sweep', 's.toml', '--shard', shard, *asked, f'{shard[0]}-{shard[2]}.csv'])
         uses.call(folder, ['sweep', 'other.toml', *asked, 'other.csv'])
@@ -337,7 +337,7 @@ def damages_of(table, shard, other):
     """The table with lines that are damaged or stand at another place, by what is told of them."""
     header, *lines = table.splitlines(keepends=True)
     tables = {}
-    for place in range(0, len(lines) - 1, 7):
+    for place in range(0, len(lines) - 1, 5):
         before, here, behind = lines[:place], lines[place], lines[place + 1:]
         for told, instead in (('with a line twice', [here, here]), ('with two lines swapped', [behind[0], here]), ('without a line', []),
                               ('with junk as a line', [b'junk\n']), ('with a hole', [bytes(len(here))]),
