@@ -69,7 +69,7 @@ pub record BeginsWithLines (key : List ℕ) (sweep : Sweep) (first : ℕ) (text 
 abbrev pub AreLinesOf : List ℕ → Sweep → ℕ → List ℕ → ℕ → Type 0
 AreLinesOf key sweep first text count = BeginsWithLines key sweep first text [] count
 
--- the text begins with a note where a line has its checksum, as the lines of versions before 1.10.0 did
+-- the text begins with a note where a line has its checksum, as the lines of versions before 1.11.0 did
 pub record IsOlder (text : List ℕ) : Type 0 where
   pub word : List ℕ
   pub behind : List ℕ

@@ -44,7 +44,7 @@ pub enum BegunFault {
     /// It begins otherwise.
     #[error("of another sweep")]
     Other,
-    /// Its lines have no checksums, as those of versions before 1.10.0.
+    /// Its lines have no checksums, as those of versions before 1.11.0.
     #[error("without checksums")]
     Older,
     /// Memory was refused.

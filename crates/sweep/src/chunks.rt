@@ -35,12 +35,12 @@ const LOT: LotSize = LotSize {
     runs: 256,
 };
 
-/// Makes the runs of a sweep, and writes their table, which is that of its only piece: a header, ahead of which
-/// stands the piece's name, and a line for each run, in the order of the cases and of the seeds, each with its
-/// checksum and what its case keeps of it before it; at the end the table is flushed. `mark` tells which scenario's text is meant.
-/// Runs are made some at a time, as many side by side as there are workers, each of which keeps a cluster in
-/// memory; each time it is told how many were made. Gives what is told of each case, in their order. Each document
-/// must have been judged to be accepted. After a fault the table has got a beginning of that.
+/// Makes the runs of a sweep, and writes their table, which is that of its only piece: a header, ahead of which stands
+/// the piece's name, and a line for each run, in the order of the cases and of the seeds, each with its checksum and
+/// what its case keeps of it before it; at the end the table is flushed. `mark` tells which scenario's text is meant.
+/// Runs are made some at a time, as many side by side as there are workers, each of which keeps a cluster in memory;
+/// each time it is told how many were made. Gives what is told of each case, in their order. Each document must have
+/// been judged to be accepted. After a fault the table has got a beginning of that.
 ///
 /// Faults: `Memory`; `CounterOverflow` where a counter of some run, or a count of its tallies, would pass 2^63; `Write`
 /// where the sink failed.
@@ -83,8 +83,8 @@ pub fn sweep<S: Sink, P: Progress>(
     Ok(gathering.into_summaries())
 }
 
-/// Makes the runs from one number to before another, writes their lines, and gathers what is told of them. Those before it, from
-/// `first` on, count as made where it is told how many were. `key` is that of the lines' checksums.
+/// Makes the runs from one number to before another, writes their lines, and gathers what is told of them. Those before
+/// it, from `first` on, count as made where it is told how many were. `key` is that of the lines' checksums.
 pub(crate) fn make_runs<S: Sink, P: Progress, G: Gather>(
     rt: &(impl Threads + Sync),
     alloc: Global,

@@ -34,10 +34,10 @@ pub struct MadeRun {
     pub note: RunNote,
 }
 
-/// The runs of these shares, in their order; or why there is no run of a number: `Memory`; `CounterOverflow` where a counter of that run, or
-/// a count of its tallies, would pass 2^63. As many threads as there are shares, and no more than two for each processor, make
-/// the runs of the shares, side by side. `key` is that of the checksums of their lines. Each document must have been judged to be accepted. It fails where memory is refused
-/// for the list of runs.
+/// The runs of these shares, in their order; or why there is no run of a number: `Memory`; `CounterOverflow` where a
+/// counter of that run, or a count of its tallies, would pass 2^63. As many threads as there are shares, and no more
+/// than two for each processor, make the runs of the shares, side by side. `key` is that of the checksums of their
+/// lines. Each document must have been judged to be accepted. It fails where memory is refused for the list of runs.
 pub fn make_side_by_side(
     rt: &(impl Threads + Sync),
     alloc: Global,

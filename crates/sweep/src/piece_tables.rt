@@ -34,8 +34,8 @@ use toml::Value;
 use trace::{Put, Sink, WriteError, put_all};
 
 /// Makes the runs of a piece of a sweep, and writes its table: a header, ahead of which stands the piece's name, and a
-/// line for each run, each with its checksum and what its case keeps of it before it; at the end the table is flushed. `mark` tells which
-/// scenario's text is meant. All else is as in `sweep`.
+/// line for each run, each with its checksum and what its case keeps of it before it; at the end the table is flushed.
+/// `mark` tells which scenario's text is meant. All else is as in `sweep`.
 pub fn write_piece<S: Sink, P: Progress>(
     rt: &(impl Threads + Sync),
     alloc: Global,

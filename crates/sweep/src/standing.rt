@@ -105,7 +105,7 @@ fn is_placed(alloc: Global, plan: &Plan, number: usize, line: &[u8]) -> Result<b
     Ok(is_beginning(lead.as_bytes(), behind))
 }
 
-/// Whether a text begins with a note where a line has its checksum, as the lines of versions before 1.10.0 did.
+/// Whether a text begins with a note where a line has its checksum, as the lines of versions before 1.11.0 did.
 pub fn is_older(alloc: Global, text: &[u8]) -> Result<bool, Memory>
     ensures older { IfOk result (λ it. it ≡ true → IsOlder text.now) }
     ensures not { IfOk result (λ it. it ≡ false → ¬ (IsOlder text.now)) }

@@ -32,15 +32,15 @@ const LOT: LotSize = LotSize {
     runs: 32,
 };
 
-/// Makes the runs of a sweep, of each case with more and more of the seeds, in rising order, until the 95 % interval of the
-/// share of its runs in which members were thrown out, by Wilson, is at most so many hundredths wide, or with all seeds that
-/// are asked for. How many runs a case has depends on its own runs alone. Their table is written, which is that of the sweep's
-/// only piece: a header, ahead of which stands the piece's name, and a line for each run, in the order of the cases and of the
-/// seeds, each with its checksum and what its case keeps of it before it; at the end it is flushed. `mark` tells which scenario's text is meant.
-/// Runs of a case are made some at a time, as many side by side as there are workers; what was made beyond the last run that is
-/// wanted is thrown away. Each time it is told how many runs were made, those that are left out among them. Gives what is told of
-/// each case, in their order. Each document must have been judged to be accepted. After a fault the table has got a beginning of
-/// that.
+/// Makes the runs of a sweep, of each case with more and more of the seeds, in rising order, until the 95 % interval of
+/// the share of its runs in which members were thrown out, by Wilson, is at most so many hundredths wide, or with all
+/// seeds that are asked for. How many runs a case has depends on its own runs alone. Their table is written, which is
+/// that of the sweep's only piece: a header, ahead of which stands the piece's name, and a line for each run, in the
+/// order of the cases and of the seeds, each with its checksum and what its case keeps of it before it; at the end it
+/// is flushed. `mark` tells which scenario's text is meant. Runs of a case are made some at a time, as many side by
+/// side as there are workers; what was made beyond the last run that is wanted is thrown away. Each time it is told how
+/// many runs were made, those that are left out among them. Gives what is told of each case, in their order. Each
+/// document must have been judged to be accepted. After a fault the table has got a beginning of that.
 ///
 /// Faults: `Memory`; `CounterOverflow` where a counter of some run, or a count of its tallies, would pass 2^63; `Write` where the sink
 /// failed.
