@@ -20,11 +20,11 @@ first-first-requires-clause-few c = omega (arith, few_cases c.args.plan.now c.re
 pub past-requires-clause-few : goal.past-requires-clause-few
 past-requires-clause-few c = omega (arith, few_cases c.args.plan.now c.requires.asked, c.cases-count.ensures)
 
-pub cases_of_runs-stood-requires-clause-narrow : goal.cases_of_runs-stood-requires-clause-narrow
-cases_of_runs-stood-requires-clause-narrow c = a_width c.args.plan.now c.args.width c.requires.asked c.requires.wanted
+pub cases_of_runs-requires-clause-narrow : goal.cases_of_runs-requires-clause-narrow
+cases_of_runs-requires-clause-narrow c = a_width c.args.plan.now c.args.width c.requires.asked c.requires.wanted
 
-pub cases_of_runs-stood-requires-clause-within : goal.cases_of_runs-stood-requires-clause-within
-cases_of_runs-stood-requires-clause-within c =
+pub cases_of_runs-requires-clause-within : goal.cases_of_runs-requires-clause-within
+cases_of_runs-requires-clause-within c =
     let plan = c.args.plan.now in
     let first : c.first-first.result ≡ first_case plan c.args.piece = c.first-first.ensures.first ∙ ap (first_run c.args.piece) c.cases-count.ensures in
     let past : c.past.result ≡ past_run c.args.piece (case_count plan.settings) = c.past.ensures.past ∙ ap (past_run c.args.piece) c.cases-count.ensures in
