@@ -116,7 +116,8 @@ module _ (texts : List (Vec ℕ Global)) (mark : List ℕ) (revived : Bool) (swe
       → length more ≡ share (run_count sweep) (piece_at number of)
       → AreLinesOf key sweep (first_run (piece_at number of) (run_count sweep)) body (share (run_count sweep) (piece_at number of)) → ArePlaced mark sweep (lines ++ more)
   placed_more number lines more body long placed is many there =
-      let at : first_run (piece_at number of) (run_count sweep) ≡ 0 + length lines = first_is of (run_count sweep) number ∙ sym long in
+      let counted : length lines ≡ 0 + length lines = omega arith in
+      let at : first_run (piece_at number of) (run_count sweep) ≡ 0 + length lines = first_is of (run_count sweep) number ∙ sym long ∙ counted in
       let behind : AreLinesOf key sweep (0 + length lines) (flat_map piece_line more) (length more) =
       subst (λ n. AreLinesOf key sweep n (flat_map piece_line more) (length more)) at
       (subst (λ n. AreLinesOf key sweep (first_run (piece_at number of) (run_count sweep)) (flat_map piece_line more) n) (sym many)
@@ -132,7 +133,8 @@ module _ (texts : List (Vec ℕ Global)) (mark : List ℕ) (revived : Bool) (swe
       → ArePlacedCases mark sweep width (own ++ more)
   cases_more width number own more body long placed is many there =
       let total = case_count sweep.settings in
-      let at : first_run (piece_at number of) total ≡ 0 + length own = first_is of total number ∙ sym long in
+      let counted : length own ≡ 0 + length own = omega arith in
+      let at : first_run (piece_at number of) total ≡ 0 + length own = first_is of total number ∙ sym long ∙ counted in
       let behind : AreCasesOf key sweep width (0 + length own) (flat_map piece_case more) (length more) =
       subst (λ n. AreCasesOf key sweep width n (flat_map piece_case more) (length more)) at
       (subst (λ n. AreCasesOf key sweep width (first_run (piece_at number of) total) (flat_map piece_case more) n) (sym many)
