@@ -12,6 +12,9 @@ from worked import text_of
 # into how many pieces each sweep is cut; of some there are more than runs
 COUNTS = (1, 2, 3, 7, 61)
 
+# what is told of a table whose lines have no checksums
+OLDER = 'of an earlier version: make it again, or read it with that version'
+
 
 def check(program, sweep, count):
     """Makes all pieces of a sweep, joins them in some order, and compares both."""
@@ -60,17 +63,27 @@ def check_resumed(program, sweep, piece):
     expect_ran(program.call([*words, '--resume']), 0, b'', b'', 'no table')
     expect('no table', program.held('t.csv'), whole)
     last = whole[ends[-2]:] if len(ends) > 1 else whole[first:]
-    others = [b'another table\n', whole.replace(piece.encode(), b'1/3', 1), whole + last]
-    # with a width the notes of lines are read
-    others += [whole[:first] + b'no note\n', whole[:first] + b'\xff\n'] if 'until' in sweep else []
-    for held in others:
+    # what isn't the next line is cut off
+    for held in (whole + last, whole[:first] + b'no line\n', whole[:first] + b'\xff\n', whole[:first] + last + whole[first:]):
         program.keep('t.csv', held)
-        expect_ran(program.call([*words, '--resume']), 3, b'', b'swimsim: piece t.csv of another sweep\n', 'another')
-        expect('another', program.held('t.csv'), held)
+        expect_ran(program.call([*words, '--resume']), 0, b'', b'', 'damaged')
+        expect('damaged', program.held('t.csv'), whole)
+    refused = [(b'another table\n', 'of another sweep'), (whole.replace(piece.encode(), b'1/3', 1), 'of another sweep')]
+    refused += [(without_checksums(whole), OLDER)] if ends else []
+    for held, line in refused:
+        program.keep('t.csv', held)
+        expect_ran(program.call([*words, '--resume']), 3, b'', f'swimsim: piece t.csv {line}\n'.encode(), 'refused')
+        expect('refused', program.held('t.csv'), held)
+
+
+def without_checksums(table):
+    """The table without the checksum of each line, as earlier versions wrote it."""
+    header, *lines = table.splitlines(keepends=True)
+    return header + b''.join(line.partition(b' ')[2] for line in lines)
 
 
 def without_notes(table):
-    """The table without the field that stands before each line, as sweeps wrote it once."""
+    """The table without the field that stands before each line."""
     header, *lines = table.splitlines(keepends=True)
     return header.partition(b'",')[2] + b''.join(line.partition(b',')[2] for line in lines)
 
@@ -100,12 +113,22 @@ def check_refused(program, sweep):
     options, _ = keep_halves(program, sweep)
     program.call(['sweep', 's.toml', '--table', 'other.csv', '--shard', '2/2', '--set', 'end=77', *options])
     program.keep('torn.csv', program.held('2.csv')[:-1])
-    program.keep('short.csv', b''.join(program.held('2.csv').splitlines(keepends=True)[:-1]))
+    header, *lines = program.held('2.csv').splitlines(keepends=True)
+    program.keep('short.csv', b''.join([header, *lines[:-1]]))
+    program.keep('older.csv', without_checksums(program.held('2.csv')))
+    # lines that each are right, but not at their places
+    program.keep('swapped.csv', b''.join([header, *lines[1::-1], *lines[2:]]))
+    program.keep('doubled.csv', b''.join([header, *lines[:1], *lines[:1], *lines[2:]]))
+    program.keep('mixed.csv', b''.join([header, *lines[:-1], program.held('1.csv').splitlines(keepends=True)[-1]]))
     expect_refused(program, [
         (['1.csv'], 'piece 2 missing'),
         (['2.csv', '2.csv'], 'piece 2.csv twice'),
         (['1.csv', 'torn.csv'], 'piece torn.csv torn'),
         (['1.csv', 'short.csv'], 'piece short.csv torn'),
+        (['1.csv', 'swapped.csv'], 'piece swapped.csv torn'),
+        (['1.csv', 'doubled.csv'], 'piece doubled.csv torn'),
+        (['1.csv', 'mixed.csv'], 'piece mixed.csv torn'),
+        (['1.csv', 'older.csv'], f'piece older.csv {OLDER}'),
         (['1.csv', 'other.csv'], 'piece other.csv of another sweep'),
         (['1.csv', 's.toml'], 'no piece s.toml'),
         (['all.csv', 'all.csv'], 'piece all.csv twice'),

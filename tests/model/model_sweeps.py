@@ -187,8 +187,14 @@ def table_of(text, settings, words, cases, until=None, piece=(1, 1)):
     header, *lines = lines_of(settings, cases)
     notes = [note_of(figures) for _, runs in cases for _, figures in runs]
     first, past = shared_out(cases, number, pieces, until)
-    name = f'{number}/{pieces} {hashlib.sha256(text).hexdigest()} {" ".join(words)}'
-    return f'"{name}",{header}' + ''.join(f'{note},{line}' for note, line in zip(notes[first:past], lines[first:past]))
+    name = f'{hashlib.sha256(text).hexdigest()} {" ".join(words)}'
+    told = [f'{note},{line}' for note, line in zip(notes[first:past], lines[first:past])]
+    return f'"{number}/{pieces} {name}",{header}' + ''.join(f'{checksum_of(name, line)} {line}' for line in told)
+
+
+def checksum_of(name, line):
+    """The checksum of a line of the sweep of this name, which is what its pieces' names have behind their numbers."""
+    return hashlib.sha256(hashlib.sha256(name.encode()).digest() + line.encode()).hexdigest()[:8]
 
 
 # ---- Standard output ----

@@ -18,7 +18,7 @@ import time
 from pathlib import Path
 
 import paths  # noqa: F401 (puts the folders of what follows on the path)
-from harness import call, end, parser_of, program_at
+from harness import call, end, first_line, parser_of, program_at
 from program import TWO_MEMBERS
 
 RUN = ('run', 's.toml', '--trace')
@@ -333,6 +333,68 @@ def going_on(uses, room, whole):
         uses.judge(f'a table that goes on in a pipe that held {len(held)} bytes', is_well, (started.returncode, err, got))
 
 
+def damaged(uses, room, whole):
+    """Tables with damaged lines: `join` and `page` refuse each, and `--resume` makes it again, with a width and without."""
+    for name, until in (('damaged', []), ('damaged_cases', ['--until', '30'])):
+        folder = folder_of(room, name)
+        (folder / 'other.toml').write_text(TWO_MEMBERS + '# another text\n')
+        asked = ['--set', 'swim.period=1000,1100', '--seeds', '1..12', *until, '--table']
+        for shard in ('1/1', '1/2', '2/2'):
+            uses.call(folder, ['sweep', 's.toml', '--shard', shard, *asked, f'{shard[0]}-{shard[2]}.csv'])
+        uses.call(folder, ['sweep', 'other.toml', *asked, 'other.csv'])
+        whole_words = ['sweep', 's.toml', '--resume', '--shard', '1/1', *asked]
+        whole_table = (folder / '1-1.csv').read_bytes()
+        shard_words = ['sweep', 's.toml', '--resume', '--shard', '2/2', *asked]
+        shard_table = (folder / '2-2.csv').read_bytes()
+        others = [(folder / table).read_bytes().splitlines(keepends=True) for table in ('2-2.csv', 'other.csv')]
+        for told, damages in damages_of(whole_table, *others).items():
+            judge_damages(uses, folder, f'{told}{" and a width" if until else ""}', damages, [], whole_words, whole_table)
+        digits = list(changed_digits(shard_table))
+        judge_damages(uses, folder, f'with a digit changed{" and a width" if until else ""}', digits, ['1-2.csv'], shard_words, shard_table)
+
+
+def damages_of(table, shard, other):
+    """The table with lines that are damaged or stand at another place, by what is told of them."""
+    header, *lines = table.splitlines(keepends=True)
+    tables = {}
+    for place in range(0, len(lines) - 1, 5):
+        before, here, behind = lines[:place], lines[place], lines[place + 1:]
+        for told, instead in (('with a line twice', [here, here]), ('with two lines swapped', [behind[0], here]), ('without a line', []),
+                              ('with junk as a line', [b'junk\n']), ('with a hole', [bytes(len(here))]),
+                              ('with a hole up to a line feed', [bytes(len(here) - 1) + b'\n']),
+                              ('with a line of another place', [shard[1]]), ('with a line of another sweep', [other[place + 1]])):
+            left = behind[1:] if told == 'with two lines swapped' else behind
+            tables.setdefault(told, []).append(b''.join([header, *before, *instead, *left]))
+    return tables
+
+
+def changed_digits(table):
+    """The table with each digit behind its first line changed, one by one."""
+    for place in range(table.index(b'\n'), len(table)):
+        if table[place:place + 1].isdigit():
+            digit = b'%d' % ((table[place] - ord('0') + 1) % 10)
+            yield table[:place] + digit + table[place + 1:]
+
+
+def judge_damages(uses, folder, told, damages, others, words, table):
+    """Judges whether each damaged table is refused, and made again."""
+    seen = [refused(uses, folder, held, others, words, table) for held in damages]
+    first = next((it for is_well, it in seen if not is_well), '')
+    uses.judge(f'{len(damages)} tables {told}', damages and all(is_well for is_well, _ in seen), first)
+
+
+def refused(uses, folder, held, others, words, table):
+    """Whether a table is refused by `join` and `page`, beside others, and made again by `--resume`; and what was seen."""
+    (folder / 't').write_bytes(held)
+    joined = uses.call(folder, ['join', *others, 't', '--table', 'u'])
+    paged = uses.call(folder, ['page', *others, 't', '--out', 'p'])
+    went = uses.call(folder, [*words, 't'])
+    again = (folder / 't').read_bytes()
+    told = [(status, out, first_line(err)) for status, out, err in (joined, paged)]
+    is_well = told == [(3, b'', b'swimsim: piece t torn\n')] * 2 and went == (0, b'', b'') and again == table
+    return is_well and not (folder / 'u').exists() and not (folder / 'p').exists(), (joined, paged, went)
+
+
 def main():
     uses = Uses(program_at(parser_of(__doc__).parse_args().program))
     with tempfile.TemporaryDirectory() as name:
@@ -342,7 +404,7 @@ def main():
         if status != 0:
             sys.exit(f'misuse: status {status} of a plain run')
         whole = (folder / 't').read_bytes()
-        for group in (names, texts, stacks, outputs, pipes, ends, words, sizes, removals, replaced, error_stream, pieces, going_on):
+        for group in (names, texts, stacks, outputs, pipes, ends, words, sizes, removals, replaced, error_stream, pieces, going_on, damaged):
             group(uses, room, whole)
     end(uses.well, uses.wrong)
 

@@ -65,6 +65,7 @@ piece_message (piece.NoPiece name) = codes "no piece " ++ shown_name name.now
 piece_message (piece.Other name) = piece_told name.now (codes " of another sweep")
 piece_message (piece.Doubled name) = piece_told name.now (codes " twice")
 piece_message (piece.Torn name) = piece_told name.now (codes " torn")
+piece_message (piece.Older name) = piece_told name.now (codes " of an earlier version: make it again, or read it with that version")
 piece_message (piece.Missing number) = codes "piece " ++ decimal number ++ codes " missing"
 
 -- what failed, in words

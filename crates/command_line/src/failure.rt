@@ -22,6 +22,8 @@ pub enum PieceFault<'a> {
     Doubled(&'a str),
     /// It is a piece that isn't whole.
     Torn(&'a str),
+    /// It is a piece of an earlier version, whose lines have no checksums.
+    Older(&'a str),
     /// No file is the piece of this number.
     Missing(u64),
 }
@@ -153,6 +155,11 @@ fn write_piece_fault<W: fmt::Write>(f: &mut fmt::Formatter<W>, fault: PieceFault
         PieceFault::Other(name) => write_piece(f, name, " of another sweep"),
         PieceFault::Doubled(name) => write_piece(f, name, " twice"),
         PieceFault::Torn(name) => write_piece(f, name, " torn"),
+        PieceFault::Older(name) => write_piece(
+            f,
+            name,
+            " of an earlier version: make it again, or read it with that version",
+        ),
         PieceFault::Missing(number) => write!(f, "piece {number} missing"),
     }
 }

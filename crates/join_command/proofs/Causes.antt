@@ -27,6 +27,7 @@ by_fault names otherwise (fault.NoPiece at) = tt
 by_fault names otherwise (fault.Other at) = tt
 by_fault names otherwise (fault.Doubled at) = tt
 by_fault names otherwise (fault.Torn at) = tt
+by_fault names otherwise (fault.Older at) = tt
 by_fault names otherwise (fault.Missing number) = tt
 by_fault names otherwise fault.Write = tt
 by_fault names otherwise fault.Memory = tt

@@ -123,6 +123,7 @@ piece_failure names otherwise (fault.NoPiece at) = Pieces (piece.NoPiece (name_a
 piece_failure names otherwise (fault.Other at) = Pieces (piece.Other (name_at names otherwise at))
 piece_failure names otherwise (fault.Doubled at) = Pieces (piece.Doubled (name_at names otherwise at))
 piece_failure names otherwise (fault.Torn at) = Pieces (piece.Torn (name_at names otherwise at))
+piece_failure names otherwise (fault.Older at) = Pieces (piece.Older (name_at names otherwise at))
 piece_failure names otherwise (fault.Missing number) = Pieces (piece.Missing number)
 piece_failure names otherwise fault.Write = Memory
 piece_failure names otherwise fault.Memory = Memory

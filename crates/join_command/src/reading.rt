@@ -92,6 +92,9 @@ fn failure_of<'a>(names: &[&'a str], otherwise: &'a str, fault: JoinFault) -> Fa
         JoinFault::Torn(place) => {
             Failure::Pieces(PieceFault::Torn(name_at(names, otherwise, place)))
         }
+        JoinFault::Older(place) => {
+            Failure::Pieces(PieceFault::Older(name_at(names, otherwise, place)))
+        }
         JoinFault::Missing(number) => Failure::Pieces(PieceFault::Missing(number)),
         JoinFault::Write | JoinFault::Memory => Failure::Memory,
     }

@@ -1,6 +1,2 @@
-mod Standing
-mod Divisions
-mod OneByOne
-mod Encoded
-mod CutLines
 mod CutCases
+mod Standing

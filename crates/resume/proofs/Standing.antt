@@ -1,61 +1,73 @@
--- What stands of a table in a text is one.
-use Rattle.std.proofs.Common.{◌≡◌, ◌∙◌, ◌==◌, ℕ, List, [], ◌∷◌, ◌++◌, inl, inr, false, true≢false, refl, sym, ap, subst, append_assoc, append-nil}
-use Rattle.std.specs.Prelude.{All}
-use Rattle.std.proofs.lemmas.List.{append_cancel_left}
-use Rattle.std.proofs.lemmas.List.Elements.{All-head, All-tail}
-use Rattle.sweep_plan.proofs.Words.{cut_once}
-use Rattle.sweep.specs.Resumed.{AreWholeLines, IsApart, IsOneLine, StandsSo, fed}
-use Rattle.sweep.proofs.Kept.{no_front}
+-- What stands of the table of a piece of whole cases in a text.
+use Rattle.std.proofs.Common.{◌≡◌, ◌⊎◌, ◌≤◌, ◌+◌, ◌-◌, ℕ, Bool, List, [], ◌++◌, inl, inr, length, length-append, take, drop, refl, sym, ap, subst, ◌∙◌, append-nil, arith}
+use Rattle.std.specs.Str.{IsValidUpTo}
+use Rattle.std.specs.List.{flat_map}
+use Rattle.std.proofs.lemmas.List.{length-take, take-append-drop}
+use Rattle.sweep_plan.specs.Sweep.{Sweep}
+use Rattle.shards.specs.declared.piece.Piece.{Piece}
+use Rattle.sweep.specs.Pieces.{piece_header}
+use Rattle.sweep.specs.Sums.{sweep_key}
+use Rattle.sweep_until.specs.Pieces.{cases_in, first_case}
+use Rattle.table_rows.specs.Cases.{BeginsWithCases, HasCaseOf, piece_case}
+use Rattle.resume.specs.Begun.{IsBegunCases, IsRead}
 
--- a text without line feed has none behind its front
-no_feed : (front back : List ℕ) → IsOneLine (front ++ 10 ∷ back) → ⊥
-no_feed [] back one = true≢false (All-head (λ byte. (byte == 10) ≡ false) 10 back one)
-no_feed (x ∷ front) back one = no_feed front back (All-tail (λ byte. (byte == 10) ≡ false) x (front ++ 10 ∷ back) one)
+-- ---- the beginning of a text that is UTF-8
 
-first_fed : (body : List ℕ) (bodies : List (List ℕ)) (torn : List ℕ) → fed (body ∷ bodies) ++ torn ≡ body ++ 10 ∷ (fed bodies ++ torn)
-first_fed body bodies torn = append_assoc (body ++ 10 ∷ []) (fed bodies) torn ∙ append_assoc body (10 ∷ []) (fed bodies ++ torn)
+pub whole_read : (text front : List ℕ) → front ≡ text → IsRead text front []
+whole_read text front same = record { written = sym same ∙ sym (append-nil front); longest = inl refl }
 
--- the whole lines of a text are one text
-same_fed : (xs ys : List (List ℕ)) (a b : List ℕ) → All IsOneLine xs → All IsOneLine ys → IsOneLine a → IsOneLine b → fed xs ++ a ≡ fed ys ++ b → fed xs ≡ fed ys
-same_fed [] [] a b one also cut cut_too same = refl
-same_fed (x ∷ xs) [] a b one also cut cut_too same = absurd (no_feed x (fed xs ++ a) (subst IsOneLine (sym same ∙ first_fed x xs a) cut_too))
-same_fed [] (y ∷ ys) a b one also cut cut_too same = absurd (no_feed y (fed ys ++ b) (subst IsOneLine (same ∙ first_fed y ys b) cut))
-same_fed (x ∷ xs) (y ∷ ys) a b one also cut cut_too same =
-    let first = cut_once 10 x y (fed xs ++ a) (fed ys ++ b) (All-head IsOneLine x xs one) (All-head IsOneLine y ys also) (sym (first_fed x xs a) ∙ same ∙ first_fed y ys b) in
-    let more = same_fed xs ys a b (All-tail IsOneLine x xs one) (All-tail IsOneLine y ys also) cut cut_too first.1 in
-    (λ i. (first.0 i ++ 10 ∷ []) ++ more i)
+pub front_read : (text front : List ℕ) (count : ℕ) → IsValidUpTo text count → front ≡ take count text → IsRead text front (drop count text)
+front_read text front count valid same =
+    let long : length front ≡ count = ap length same ∙ length-take count text ∙ omega (arith, valid.short) in
+    record { written = sym (take-append-drop count text) ∙ ap (λ l. l ++ drop count text) (sym same); longest = inr (subst (IsValidUpTo text) (sym long) valid) }
 
-one_whole : (text v w : List ℕ) (m n : ℕ) → AreWholeLines text v m → AreWholeLines text w n → v ≡ w
-one_whole text v w m n a b =
-    let same : fed a.bodies ++ a.torn ≡ fed b.bodies ++ b.torn =
-    ap (λ l. l ++ a.torn) (sym a.are) ∙ sym a.written ∙ b.written ∙ ap (λ l. l ++ b.torn) b.are in
-    a.are ∙ same_fed a.bodies b.bodies a.torn b.torn a.one b.one a.cut b.cut same ∙ sym b.are
+pub front_within : (text front unread : List ℕ) → IsRead text front unread → length front ≤ length text
+front_within text front unread read = omega (arith, ap length read.written ∙ length-append front unread)
 
--- a text that is none has no parts
-no_back : (front back : List ℕ) → front ++ back ≡ [] → back ≡ []
-no_back [] back same = same
-no_back (x ∷ front) back same = cc
+-- what comes behind the first line is no longer than the text
+pub rest_within : (header text rest : List ℕ) → text ≡ header ++ rest → length rest ≤ length text
+rest_within header text rest is = omega (arith, ap length is ∙ length-append header rest)
 
--- a beginning of the first line has nothing behind that line
-nothing_behind : (header text rest more : List ℕ) → header ≡ text ++ rest → text ≡ header ++ more → more ≡ []
-nothing_behind header text rest more short long =
-    let same : text ++ (rest ++ more) ≡ text ++ [] = sym (append_assoc text rest more) ∙ ap (λ l. l ++ more) (sym short) ∙ sym long ∙ sym (append-nil text) in
-    no_back rest more (append_cancel_left text (rest ++ more) [] same)
+-- nor is what is left of a front longer than that
+pub left_within : (key : List ℕ) (sweep : Sweep) (width first count : ℕ) (front left : List ℕ) → BeginsWithCases key sweep width first front left count → length left ≤ length front
+left_within key sweep width first count front left begins =
+    omega (arith, ap length begins.written ∙ length-append (flat_map piece_case begins.cases) left)
 
--- the whole lines that stand in a text are one text
-pub one_standing : (header text v w : List ℕ) (m n : ℕ) → StandsSo header text v m → StandsSo header text w n → v ≡ w
-one_standing header text v w m n (inl a) (inl b) = a.none ∙ sym b.none
-one_standing header text v w m n (inl a) (inr b) =
-    let none = nothing_behind header text a.rest b.rest a.written b.written in
-    a.none ∙ sym (no_front w b.are.torn (sym none ∙ b.are.written))
-one_standing header text v w m n (inr a) (inl b) =
-    let none = nothing_behind header text b.rest a.rest b.written a.written in
-    no_front v a.are.torn (sym none ∙ a.are.written) ∙ sym b.none
-one_standing header text v w m n (inr a) (inr b) =
-    let same : b.rest ≡ a.rest = append_cancel_left header b.rest a.rest (sym b.written ∙ a.written) in
-    one_whole a.rest v w m n a.are (subst (λ l. AreWholeLines l w n) same b.are)
+-- ---- what stands of a piece's table
 
--- of texts that begin otherwise nothing stands
-pub never_stands : (header text v : List ℕ) (m : ℕ) → IsApart header text → ¬ (StandsSo header text v m)
-never_stands header text v m apart (inl short) = apart.no_less short.rest short.written
-never_stands header text v m apart (inr long) = apart.no_more long.rest long.written
+module _ (revived : Bool) (mark : List ℕ) (sweep : Sweep) (width : ℕ) (p : Piece) (text : List ℕ) where
+  abbrev header : List ℕ
+  header = piece_header revived mark sweep p
+
+  -- a beginning of the first line
+  pub short_stands : (rest : List ℕ) × (header ≡ text ++ rest) → IsBegunCases revived mark sweep width p text (length text) 0
+  short_stands split = record {
+    stands = inl (record { rest = split.0; written = split.1; all = refl; no_run = refl });
+    few = omega arith;
+  }
+
+  -- the first line, and whole cases
+  pub long_stands : (key : List ℕ) (first most : ℕ) → key ≡ sweep_key mark sweep → first ≡ first_case sweep p → most ≡ cases_in sweep p → (rest front left : List ℕ) (kept cases : ℕ)
+      → text ≡ header ++ rest → (unread : List ℕ) × IsRead rest front unread → BeginsWithCases key sweep width first front left cases
+      → kept + (length rest - length front) + length left ≡ length text → cases ≤ most → (cases ≡ most) ⊎ ¬ (HasCaseOf key sweep width (first + cases) left)
+      → IsBegunCases revived mark sweep width p text kept cases
+  long_stands key first most its_key at all rest front left kept cases behind read begins stay few no_more =
+      let unread = read.0 in
+      let long : length rest ≡ length front + length unread = ap length read.1.written ∙ length-append front unread in
+      let more : length (left ++ unread) ≡ length left + length unread = length-append left unread in
+      record {
+        stands = inr (record {
+          rest = rest;
+          written = behind;
+          front = front;
+          unread = unread;
+          read = read.1;
+          left = left;
+          begins = subst (λ k. BeginsWithCases k sweep width (first_case sweep p) front left cases) its_key (subst (λ n. BeginsWithCases key sweep width n front left cases) at begins);
+          stay = omega (arith, stay, long, more);
+          no_more = subst (λ n. (cases ≡ n) ⊎ ¬ (HasCaseOf (sweep_key mark sweep) sweep width (first_case sweep p + cases) left)) all
+              (subst (λ k. (cases ≡ most) ⊎ ¬ (HasCaseOf k sweep width (first_case sweep p + cases) left)) its_key
+              (subst (λ n. (cases ≡ most) ⊎ ¬ (HasCaseOf key sweep width (n + cases) left)) at no_more));
+        });
+        few = subst (λ n. cases ≤ n) all few;
+      }

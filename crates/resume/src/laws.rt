@@ -17,5 +17,5 @@ pub fn a_cut_piece_of_cases_goes_on()
         → IsCutPieceOfCases tree mark sweep width p made text → IsBegunCases (tells_revived tree) mark sweep width p text kept cases
         → WritesRestUntil tree mark sweep p kept cases (Some (take kept text)) new → WritesPieceUntil tree mark sweep p (Some []) new }
     ensures taken { (tree : Data) (mark : List ℕ) (sweep : Sweep) (width : ℕ) (p : Piece) (made : List (List Made)) (text : List ℕ)
-        → IsCutPieceOfCases tree mark sweep width p made text → ¬ (RefusesBegunCases (tells_revived tree) mark sweep width p text begun_fault.Other) }
+        → IsCutPieceOfCases tree mark sweep width p made text → ¬ (RefusesBegunCases (tells_revived tree) mark sweep p text begun_fault.Other) }
 {}

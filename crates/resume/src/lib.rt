@@ -4,6 +4,5 @@
 
 mod begun;
 pub mod laws;
-mod reading;
 
 pub use begun::begun_cases_of;

@@ -10,17 +10,19 @@ use Rattle.std.proofs.lemmas.List.Elements.{All-head, All-tail}
 use Rattle.toml.specs.Data.{Data}
 use Rattle.sweep_plan.proofs.Words.{Lacks, cut_once}
 use Rattle.sweep_plan.specs.Sweep.{Sweep, run_count}
-use Rattle.figures.specs.Notes.{note_text}
+use Rattle.figures.specs.Notes.{note_cell, note_text}
+use Rattle.line_sums.proofs.Cuts.{sum_no_feed}
 use Rattle.shards.specs.declared.piece.Piece.{Piece}
 use Rattle.shards.specs.Pieces.{first_run, past_run}
 use Rattle.sweep.specs.Runs.{Made, AreMadeBetween, IsMadeAs, noted, runs_between, runs_of}
-use Rattle.sweep.specs.Table.{noted_line, tells_revived}
+use Rattle.sweep.specs.Table.{made_line, noted_line, tells_revived}
 use Rattle.sweep.specs.Pieces.{WritesPiece, piece_header}
-use Rattle.sweep.specs.Resumed.{AreMadeBehind, IsBegun, IsLong, IsOneLine, IsShort, RefusesBegun, WritesRest, fed}
+use Rattle.sweep.specs.Resumed.{AreMadeBehind, IsBegun, IsLong, IsShort, RefusesBegun, WritesRest, runs_in}
+use Rattle.sweep.specs.Sums.{IsFed, sweep_key}
 use Rattle.sweep.specs.declared.begun.BegunFault.TheVariants as begun_fault
-use Rattle.sweep.proofs.Kept.{all_stand, goes_behind}
+use Rattle.sweep.proofs.Kept.{goes_behind, long_again, short_again}
+use Rattle.sweep.proofs.LinesOf.{all_fed, lines_counted}
 use Rattle.sweep.proofs.PieceCourse.{all_runs}
-use Rattle.sweep.proofs.Steps.{zipped_long}
 use Rattle.table_rows.specs.Made.{IsTellable}
 use Rattle.table_rows.proofs.Beginnings.{one_begins_with_other}
 use Rattle.table_rows.proofs.Bytes.{lacks_both, lacks_cons, note_lacks}
@@ -35,44 +37,54 @@ zipped_first R [] (y ∷ ys) (suc n) all = absurd all
 zipped_first R (x ∷ xs) [] (suc n) all = absurd all
 zipped_first R (x ∷ xs) (y ∷ ys) (suc n) all = (all.0, zipped_first R xs ys n all.1)
 
--- whole lines with which the lines of some runs begin are those of the first of them
-pub record AreFirst (revived : Bool) (bodies : List (List ℕ)) (made : List Made) : Type 0 where
-  pub fit : length bodies ≤ length made
-  pub same : fed bodies ≡ flat_map (noted_line revived) (take (length bodies) made)
+-- lines with which those of some runs begin are the first of them
+pub record AreFirst (revived : Bool) (key : List ℕ) (lines : List (List ℕ)) (made : List Made) : Type 0 where
+  pub fit : length lines ≤ length made
+  pub same : flat_map (λ line. line) lines ≡ flat_map (noted_line revived key) (take (length lines) made)
 
-module _ (revived : Bool) where
+module _ (revived : Bool) (key : List ℕ) where
   abbrev line : Made → List ℕ
-  line = noted_line revived
+  line = noted_line revived key
+
+  abbrev joined : List (List ℕ) → List ℕ
+  joined = flat_map (λ (one : List ℕ). one)
 
   -- the line of a run without its line feed
   abbrev body_of : Made → List ℕ
-  body_of m = note_text (noted m) ++ 44 ∷ (line_from revived m).body
+  body_of m = (line_from revived key m).sum ++ 32 ∷ (note_text (noted m) ++ 44 ∷ (line_from revived key m).body)
 
   line_cut : (m : Made) → line m ≡ body_of m ++ 10 ∷ []
-  line_cut m = sym (line_in_piece revived m) ∙ sym (append_assoc (note_text (noted m)) (44 ∷ (line_from revived m).body) (10 ∷ []))
+  line_cut m =
+      let l = line_from revived key m in
+      sym (line_in_piece revived key m) ∙ ap (λ x. l.sum ++ 32 ∷ x) (sym (append_assoc (note_text (noted m)) (44 ∷ l.body) (10 ∷ [])))
+      ∙ sym (append_assoc l.sum (32 ∷ (note_text (noted m) ++ 44 ∷ l.body)) (10 ∷ []))
 
   body_lacks : (m : Made) → IsTellable m → Lacks 10 (body_of m)
   body_lacks m told =
-      let cells = (line_from revived m).body in
-      lacks_both 10 (note_text (noted m)) (44 ∷ cells) (note_lacks 10 (lit< tt) refl (noted m) told.note) (lacks_cons 10 44 cells refl (line_sound revived m told).one)
+      let l = line_from revived key m in
+      let told_line = lacks_both 10 (note_text (noted m)) (44 ∷ l.body) (note_lacks 10 (lit< tt) refl (noted m) told.note) (lacks_cons 10 44 l.body refl (line_sound revived key m told).one) in
+      lacks_both 10 l.sum (32 ∷ (note_text (noted m) ++ 44 ∷ l.body)) (sum_no_feed key (note_cell (noted m) ++ made_line revived m)) (lacks_cons 10 32 (note_text (noted m) ++ 44 ∷ l.body) refl told_line)
 
   no_text : (b x : List ℕ) → (b ++ 10 ∷ []) ++ x ≡ [] → ⊥
   no_text [] x same = cc
   no_text (c ∷ b) x same = cc
 
-  first_lines : (bodies : List (List ℕ)) (made : List Made) (x : List ℕ) → All IsOneLine bodies → All IsTellable made → fed bodies ++ x ≡ flat_map line made
-      → AreFirst revived bodies made
-  first_lines [] made x one told same = record { fit = omega arith; same = refl }
-  first_lines (b ∷ bodies) [] x one told same = absurd (no_text b (fed bodies ++ x) (sym (append_assoc (b ++ 10 ∷ []) (fed bodies) x) ∙ same))
-  first_lines (b ∷ bodies) (m ∷ made) x one told same =
-      let left : fed (b ∷ bodies) ++ x ≡ b ++ 10 ∷ (fed bodies ++ x) =
-      append_assoc (b ++ 10 ∷ []) (fed bodies) x ∙ append_assoc b (10 ∷ []) (fed bodies ++ x) in
+  first_lines : (lines : List (List ℕ)) (made : List Made) (x : List ℕ) → All IsFed lines → All IsTellable made → joined lines ++ x ≡ flat_map line made
+      → AreFirst revived key lines made
+  first_lines [] made x fed told same = record { fit = omega arith; same = refl }
+  first_lines (one ∷ lines) [] x fed told same =
+      let its = All-head IsFed one lines fed in
+      absurd (no_text its.body (joined lines ++ x) (ap (λ l. l ++ (joined lines ++ x)) (sym its.fed) ∙ sym (append_assoc one (joined lines) x) ∙ same))
+  first_lines (one ∷ lines) (m ∷ made) x fed told same =
+      let its = All-head IsFed one lines fed in
+      let left : joined (one ∷ lines) ++ x ≡ its.body ++ 10 ∷ (joined lines ++ x) =
+      append_assoc one (joined lines) x ∙ ap (λ l. l ++ (joined lines ++ x)) its.fed ∙ append_assoc its.body (10 ∷ []) (joined lines ++ x) in
       let right : flat_map line (m ∷ made) ≡ body_of m ++ 10 ∷ flat_map line made =
       ap (λ l. l ++ flat_map line made) (line_cut m) ∙ append_assoc (body_of m) (10 ∷ []) (flat_map line made) in
-      let cut = cut_once 10 b (body_of m) (fed bodies ++ x) (flat_map line made) (All-head IsOneLine b bodies one)
+      let cut = cut_once 10 its.body (body_of m) (joined lines ++ x) (flat_map line made) its.one
       (body_lacks m (All-head IsTellable m made told)) (sym left ∙ same ∙ right) in
-      let more = first_lines bodies made x (All-tail IsOneLine b bodies one) (All-tail IsTellable m made told) cut.1 in
-      let here : b ++ 10 ∷ [] ≡ line m = ap (λ l. l ++ 10 ∷ []) cut.0 ∙ sym (line_cut m) in
+      let more = first_lines lines made x (All-tail IsFed one lines fed) (All-tail IsTellable m made told) cut.1 in
+      let here : one ≡ line m = its.fed ∙ ap (λ l. l ++ 10 ∷ []) cut.0 ∙ sym (line_cut m) in
       record { fit = omega (arith, more.fit); same = (λ i. here i ++ more.same i) }
 
 -- the first of some runs, and those behind them
@@ -99,59 +111,55 @@ module _ (tree : Data) (mark : List ℕ) (sweep : Sweep) (p : Piece) (made : Lis
   abbrev header : List ℕ
   header = piece_header revived mark sweep p
 
-  first_of : (lines : List ℕ) (runs : ℕ) (long : IsLong header text lines runs) → AreFirst revived long.are.bodies made
-  first_of lines runs long =
-      let whole = long.are in
-      let table = flat_map (noted_line revived) made in
+  abbrev key : List ℕ
+  key = sweep_key mark sweep
+
+  abbrev first : ℕ
+  first = first_run p (run_count sweep)
+
+  abbrev Long : ℕ → ℕ → Type 0
+  Long kept runs = IsLong key sweep first (runs_in sweep p) header text kept runs
+
+  first_of : (kept runs : ℕ) (long : Long kept runs) → AreFirst revived key long.begins.lines made
+  first_of kept runs long =
+      let lines = flat_map (λ (one : List ℕ). one) long.begins.lines in
+      let table = flat_map (noted_line revived key) made in
       let body : long.rest ++ cut.rest ≡ table =
       append_cancel_left header (long.rest ++ cut.rest) table (sym (append_assoc header long.rest cut.rest) ∙ ap (λ l. l ++ cut.rest) (sym long.written) ∙ cut.written) in
-      let start : fed whole.bodies ++ (whole.torn ++ cut.rest) ≡ table =
-      sym (append_assoc (fed whole.bodies) whole.torn cut.rest) ∙ ap (λ l. (l ++ whole.torn) ++ cut.rest) (sym whole.are) ∙ ap (λ l. l ++ cut.rest) (sym whole.written) ∙ body in
-      first_lines revived whole.bodies made (whole.torn ++ cut.rest) whole.one cut.told start
+      let start : lines ++ (long.left ++ cut.rest) ≡ table = sym (append_assoc lines long.left cut.rest) ∙ ap (λ l. l ++ cut.rest) (sym long.begins.written) ∙ body in
+      first_lines revived key long.begins.lines made (long.left ++ cut.rest) (all_fed key sweep first runs long.begins.lines long.begins.are) cut.told start
 
   pub going_on : (kept runs : ℕ) (new : Option (List ℕ)) → IsBegun revived mark sweep p text kept runs → WritesRest tree mark sweep p kept runs (Some (take kept text)) new
       → WritesPiece tree mark sweep p (Some []) new
-  going_on kept runs new begun writes = by begun.begun
+  going_on kept runs new begun writes = by begun.stands
     where
-      lines : List ℕ
-      lines = begun.lines
-
       made_lines : Made → List ℕ
-      made_lines = noted_line revived
+      made_lines = noted_line revived key
 
-      -- behind the bytes that stay they come behind the first line and the whole lines
-      behind : Appends (Some []) new ((header ++ lines) ++ flat_map made_lines writes.made)
-      behind =
-          goes_behind header text lines (all_stand header text lines runs begun.begun) new (flat_map made_lines writes.made)
-          (subst (λ n. Appends (Some (take n text)) new (drop n header ++ flat_map made_lines writes.made)) begun.stay writes.written)
-
-      by : IsShort header text lines runs ⊎ IsLong header text lines runs → WritesPiece tree mark sweep p (Some []) new
+      by : IsShort header text kept runs ⊎ Long kept runs → WritesPiece tree mark sweep p (Some []) new
       by (inl short) = record {
         made = writes.made;
         are = all_runs tree sweep p writes.made (subst (λ n. AreMadeBehind tree sweep p n writes.made) short.no_run writes.are);
-        written = subst (λ l. Appends (Some []) new (l ++ flat_map made_lines writes.made)) (ap (λ l. header ++ l) short.none ∙ append-nil header) behind;
+        written = goes_behind header text kept header (short_again header text kept short.rest short.written short.all) new (flat_map made_lines writes.made) writes.written;
       }
       by (inr long) =
-          let its = first_of lines runs long in
-          let before : lines ≡ flat_map made_lines (take runs made) = long.are.are ∙ its.same ∙ ap (λ n. flat_map made_lines (take n made)) long.are.all in
+          let its = first_of kept runs long in
+          let lines = flat_map (λ (one : List ℕ). one) long.begins.lines in
+          let count = lines_counted key sweep first runs long.begins.lines long.begins.are in
+          let before : lines ≡ flat_map made_lines (take runs made) = its.same ∙ ap (λ n. flat_map made_lines (take n made)) count in
           let text_is : (header ++ lines) ++ flat_map made_lines writes.made ≡ header ++ flat_map made_lines (take runs made ++ writes.made) =
           append_assoc header lines (flat_map made_lines writes.made)
           ∙ ap (λ l. header ++ l) (ap (λ l. l ++ flat_map made_lines writes.made) before ∙ sym (flat_map-append made_lines (take runs made) writes.made)) in
+          let again = long_again header text kept lines long.left (long.written ∙ ap (λ l. header ++ l) long.begins.written) long.stay in
           record {
             made = take runs made ++ writes.made;
-            are = both_made tree sweep (first_run p (run_count sweep)) (past_run p (run_count sweep)) runs made writes.made cut.are begun.few writes.are;
-            written = subst (Appends (Some []) new) text_is behind;
+            are = both_made tree sweep first (past_run p (run_count sweep)) runs made writes.made cut.are begun.few writes.are;
+            written = subst (Appends (Some []) new) text_is (goes_behind header text kept (header ++ lines) again new (flat_map made_lines writes.made) writes.written);
           }
 
   pub taken_for_one : RefusesBegun revived mark sweep p text begun_fault.Other → ⊥
-  taken_for_one (inl apart) = on (one_begins_with_other text cut.rest header (flat_map (noted_line revived) made) cut.written)
+  taken_for_one apart = on (one_begins_with_other text cut.rest header (flat_map (noted_line revived key) made) cut.written)
     where
       on : ((more : List ℕ) × (text ≡ header ++ more)) ⊎ ((more : List ℕ) × (header ≡ text ++ more)) → ⊥
       on (inl it) = apart.no_more it.0 it.1
       on (inr it) = apart.no_less it.0 it.1
-  taken_for_one (inr more) =
-      let its = first_of more.lines more.count more.there in
-      let count = past_run p (run_count sweep) - first_run p (run_count sweep) in
-      let long : length (runs_between sweep (first_run p (run_count sweep)) (past_run p (run_count sweep))) ≡ length made = zipped_long (IsMadeAs tree) _ made cut.are in
-      let few = length-take count (drop (first_run p (run_count sweep)) (runs_of sweep)) in
-      omega (arith, more.more, more.there.are.all, its.fit, long, few)

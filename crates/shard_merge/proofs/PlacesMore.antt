@@ -12,8 +12,9 @@ use Rattle.shards.specs.Names.{head_cell}
 use Rattle.sweep.specs.Table.{names_of}
 use Rattle.shard_merge.specs.declared.fault.JoinFault.{JoinFault}
 use Rattle.shard_merge.specs.declared.fault.JoinFault.TheVariants as fault
+use Rattle.sweep.specs.Sums.{IsOlder, sweep_key}
 use Rattle.shard_merge.specs.Among.{IsAmongTexts, piece_at}
-use Rattle.shard_merge.specs.Reasons.{AreIts, ArePlaces, BeginsAs, IsBehind, IsDoubled, IsFirst, IsMissing, IsNoPiece, IsOfSink, IsOther, IsReason, IsTextAt, IsTorn, RefusesPlace, RefusesText}
+use Rattle.shard_merge.specs.Reasons.{AreIts, ArePlaces, BeginsAs, IsBehind, IsDoubled, IsFirst, IsMissing, IsOlderAt, IsNoPiece, IsOfSink, IsOther, IsReason, IsTextAt, IsTorn, RefusesPlace, RefusesText}
 use Rattle.shard_merge.proofs.SameSweep.{same_heads}
 
 -- a text begins as one piece of a sweep
@@ -94,6 +95,7 @@ of_sink texts (fault.NoPiece at) h = absurd h
 of_sink texts (fault.Other at) h = absurd h
 of_sink texts (fault.Doubled at) h = absurd h
 of_sink texts (fault.Torn at) h = absurd h
+of_sink texts (fault.Older at) h = absurd h
 of_sink texts (fault.Missing number) h = absurd h
 
 pub memory_reason : (texts : List (Vec ℕ Global)) (f : JoinFault) → f ≡ fault.Memory → IsReason texts f
@@ -109,6 +111,7 @@ module _ (texts : List (Vec ℕ Global)) (mark : List ℕ) (revived : Bool) (swe
   text_reason text place fault.Write there h = tt
   text_reason text place (fault.Doubled at) there h = absurd h
   text_reason text place (fault.Torn at) there h = absurd h
+  text_reason text place (fault.Older at) there h = absurd h
   text_reason text place (fault.Missing number) there h = absurd h
 
   -- one that is a piece which another is
@@ -135,6 +138,7 @@ module _ (texts : List (Vec ℕ Global)) (mark : List ℕ) (revived : Bool) (swe
   place_reason text places number place (fault.NoPiece at) are there begins h = absurd h
   place_reason text places number place (fault.Other at) are there begins h = absurd h
   place_reason text places number place (fault.Torn at) are there begins h = absurd h
+  place_reason text places number place (fault.Older at) are there begins h = absurd h
   place_reason text places number place (fault.Missing n) are there begins h = absurd h
 
   module _ (places : List (Option ℕ)) (are : ArePlaces texts mark revived sweep p.of places (length texts)) where
@@ -160,7 +164,7 @@ module _ (texts : List (Vec ℕ Global)) (mark : List ℕ) (revived : Bool) (swe
 
     -- a text whose lines aren't those of its piece
     module _ (number place : ℕ) (rest : List ℕ) (behind : IsBehind texts mark revived sweep p.of places number place rest) where
-      pub torn : (at : ℕ) → at ≡ place → ¬ (AreIts sweep.until sweep (piece_at number p.of) rest) → IsTorn texts at
+      pub torn : (at : ℕ) → at ≡ place → ¬ (AreIts sweep.until (sweep_key mark sweep) sweep (piece_at number p.of) rest) → IsTorn texts at
       torn at same not =
           let held = are.held number place behind.found in
           let its = held.1.2 in
@@ -174,6 +178,21 @@ module _ (texts : List (Vec ℕ Global)) (mark : List ℕ) (revived : Bool) (swe
             begins = record { asked = its.asked; marked = its.marked; sound = its.sound; rest = rest; written = behind.written };
             torn = not;
           })
+
+      -- one whose lines have no checksums
+      pub of_before : IsOlder rest → IsOlderAt texts place
+      of_before older =
+          let its = (are.held number place behind.found).1.2 in
+          record {
+            mark = mark;
+            revived = revived;
+            sweep = sweep;
+            p = piece_at number p.of;
+            text = behind.text;
+            there = behind.there;
+            begins = record { asked = its.asked; marked = its.marked; sound = its.sound; rest = rest; written = behind.written };
+            older = older;
+          }
 
     -- the text of a piece begins with its first line
     pub begins_there : (number place : ℕ) (text : List ℕ) → get_or places number None ≡ Some place → IsTextAt texts place text

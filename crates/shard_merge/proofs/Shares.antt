@@ -22,6 +22,14 @@ no_share of total some =
     let below : 0 * total / of < 1 = (div-lt_iff_lt-mul some).1 none in
     omega (arith, below)
 
+-- the share of a piece is within the whole
+pub share_in : (p : Piece) (total : ℕ) → IsPiece p → first_run p total + share total p ≤ total
+share_in p total sound =
+    let some : 0 < p.of = omega (arith, sound.least, sound.most) in
+    let grows : first_run p total ≤ past_run p total = share_grows (p.number - 1) p.number p.of total (omega arith) some in
+    let within : past_run p total ≤ total = share_within p.number p.of total sound.most some in
+    omega (arith, grows, within)
+
 -- the only piece has all
 pub share_of_whole : {X : Type 0} (total : ℕ) (things : List X) → length things ≡ total → share_of total whole things ≡ things
 share_of_whole total things many =

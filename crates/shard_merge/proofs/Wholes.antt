@@ -50,10 +50,10 @@ few_with_own width each (lines ∷ own) (case ∷ cases) few sound told =
     All-cons HasFewRuns case cases (few_of case (notes_of lines) (omega (arith, here.enough.few, few)) told.0)
     (few_with_own width each own cases few (All-tail (IsCase width each) lines own sound) told.1)
 
-few_by : (until : Option ℕ) (sweep : Sweep) (body : Piece → List ℕ) (cases : List CaseSummary) → seed_count sweep.seeds ≤ 1000000 → AreOf until sweep body cases → All HasFewRuns cases
-few_by None sweep body cases few are = few_with_all (seed_count sweep.seeds) (notes_of are.things) cases few are.holds
-few_by (Some width) sweep body cases few are = few_with_own width (seed_count sweep.seeds) are.things cases few are.sound are.holds
+few_by : (until : Option ℕ) (mark : List ℕ) (sweep : Sweep) (body : Piece → List ℕ) (cases : List CaseSummary) → seed_count sweep.seeds ≤ 1000000 → AreOf until mark sweep body cases → All HasFewRuns cases
+few_by None mark sweep body cases few are = few_with_all (seed_count sweep.seeds) (notes_of are.things) cases few are.holds.0
+few_by (Some width) mark sweep body cases few are = few_with_own width (seed_count sweep.seeds) are.things cases few are.sound are.holds.0
 
 pub few_joined : (texts : List (Vec ℕ Global)) (mark : List ℕ) (revived : Bool) (sweep : Sweep) (of : ℕ) (old new : Option (List ℕ)) (until : Option ℕ) (cases : List CaseSummary) → IsAskedFor sweep
     → JoinsBehind [] texts mark revived sweep of old new until cases → All HasFewRuns cases
-few_joined texts mark revived sweep of old new until cases asked put = few_by until sweep put.body cases (few_runs sweep asked) put.are
+few_joined texts mark revived sweep of old new until cases asked put = few_by until mark sweep put.body cases (few_runs sweep asked) put.are

@@ -9,6 +9,7 @@ use Rattle.shards.specs.declared.piece.Piece.{Piece}
 use Rattle.shards.specs.Pieces.{IsPiece}
 use Rattle.sweep.specs.Pieces.{piece_header}
 use Rattle.sweep.specs.Runs.{IsAskedFor}
+use Rattle.sweep.specs.Sums.{IsOlder, sweep_key}
 use Rattle.shard_merge.specs.Among.{piece_at}
 use Rattle.shard_merge.specs.Behind.{AreBehind}
 use Rattle.shard_merge.specs.Joined.{IsMark}
@@ -31,10 +32,10 @@ pub record BeginsAs (text mark : List ℕ) (revived : Bool) (sweep : Sweep) (p :
 abbrev pub BeginsAsNone : List ℕ → Type 0
 BeginsAsNone text = (mark : List ℕ) (revived : Bool) (sweep : Sweep) (p : Piece) → ¬ (BeginsAs text mark revived sweep p)
 
--- what stands behind the first line of the piece is in UTF-8, and a line for each of its runs, or its cases
-pub record AreIts (until : Option ℕ) (sweep : Sweep) (p : Piece) (text : List ℕ) : Type 0 where
+-- what stands behind the first line of the piece is in UTF-8, and a line for each of its runs, or its cases, each line with its checksum and at its place
+pub record AreIts (until : Option ℕ) (key : List ℕ) (sweep : Sweep) (p : Piece) (text : List ℕ) : Type 0 where
   pub encoded : IsUtf8 text
-  pub are : AreBehind until sweep p text
+  pub are : AreBehind until key sweep p text
 
 -- there is no text, or the one at this place isn't UTF-8, or begins as no piece
 abbrev pub IsNoPiece : List (Vec ℕ Global) → ℕ → Type 0
@@ -81,7 +82,18 @@ pub record IsTorn (texts : List (Vec ℕ Global)) (place : ℕ) : Type 0 where
   pub text : List ℕ
   pub there : IsTextAt texts place text
   pub begins : BeginsAs text mark revived sweep p
-  pub torn : ¬ (AreIts sweep.until sweep p begins.rest)
+  pub torn : ¬ (AreIts sweep.until (sweep_key mark sweep) sweep p begins.rest)
+
+-- the text at this place begins as a piece, and then comes a line without a checksum
+pub record IsOlderAt (texts : List (Vec ℕ Global)) (place : ℕ) : Type 0 where
+  pub mark : List ℕ
+  pub revived : Bool
+  pub sweep : Sweep
+  pub p : Piece
+  pub text : List ℕ
+  pub there : IsTextAt texts place text
+  pub begins : BeginsAs text mark revived sweep p
+  pub older : IsOlder begins.rest
 
 -- no text begins as the piece of this number of the sweep of the first, which has it
 pub record IsMissing (texts : List (Vec ℕ Global)) (number : ℕ) : Type 0 where
@@ -100,6 +112,7 @@ IsReason texts (fault.NoPiece place) = IsNoPiece texts place
 IsReason texts (fault.Other place) = IsOther texts place
 IsReason texts (fault.Doubled place) = IsDoubled texts place
 IsReason texts (fault.Torn place) = IsTorn texts place
+IsReason texts (fault.Older place) = IsOlderAt texts place
 IsReason texts (fault.Missing number) = IsMissing texts number
 IsReason texts fault.Write = Unit {0}
 IsReason texts fault.Memory = Unit {0}

@@ -10,6 +10,7 @@ use crate::places::{place_of_run, text_at};
 use shards::Piece;
 use std::alloc::Global;
 use std::str::from_utf8;
+use sweep::is_older;
 
 /// What stands behind the first line of a piece.
 #[derive(Drop)]
@@ -41,6 +42,10 @@ pub(crate) fn lines_behind<'a>(
     let Some(rest) = text_at(texts, place).strip_prefix(header.as_slice()) else {
         return Err(JoinFault::Other(place));
     };
+    let older = is_older(alloc, rest)?;
+    if older {
+        return Err(JoinFault::Older(place));
+    }
     let Ok(lines) = from_utf8(rest) else {
         return Err(JoinFault::Torn(place));
     };

@@ -1,5 +1,9 @@
 //! Why shards aren't joined: a text is no shard, of another sweep, doubled or torn, a shard is missing, the table's
 //! sink failed, or memory was refused.
+ghost use Rattle.std.specs.Prelude.{◌≡◌};
+ghost use Rattle.shard_merge.specs.declared.fault.JoinFault.TheVariants as join;
+
+use base::Memory as Refused;
 use thiserror::Error;
 
 /// Why texts weren't put together. Places are counted from 0.
@@ -17,6 +21,9 @@ pub enum JoinFault {
     /// The text at this place is a piece that isn't whole.
     #[error("torn")]
     Torn(usize),
+    /// The text at this place is a piece whose lines have no checksums, as those of versions before 1.11.0.
+    #[error("without checksums")]
+    Older(usize),
     /// The piece of this number, counted from 1, isn't there.
     #[error("missing")]
     Missing(u64),
@@ -26,4 +33,12 @@ pub enum JoinFault {
     /// Memory was refused.
     #[error("memory")]
     Memory,
+}
+
+impl From<Refused> for JoinFault {
+    ghost from_gives = { λ _ fault. fault ≡ join.Memory };
+
+    fn from(_refused: Refused) -> Self {
+        JoinFault::Memory
+    }
 }

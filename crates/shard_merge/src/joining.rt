@@ -16,7 +16,7 @@ use figures::CaseSummary;
 use shards::Piece;
 use std::alloc::Global;
 use std::str::from_utf8;
-use sweep::write_front;
+use sweep::{sweep_key, write_front};
 use sweep_plan::Plan;
 use table_rows::LineFault;
 use trace::{Sink, Stopped, WriteError, put_all};
@@ -36,7 +36,8 @@ pub struct Joined {
 /// only piece, goes to the sink, and what they are of is given. After a fault the sink may have got lines.
 ///
 /// Faults: `NoPiece`, `Other`, `Doubled` or `Torn` with the place of a text that isn't a piece, is one of another sweep
-/// than the first, is there already, or isn't whole; `Missing` with the number of a piece that isn't there; `Write` where
+/// than the first, is there already, or isn't whole; `Older` with that of one
+/// whose lines have no checksums; `Missing` with the number of a piece that isn't there; `Write` where
 /// the sink failed; `Memory`.
 pub fn join<S: Sink>(alloc: Global, texts: &[Vec<u8>], table: &mut S) -> Result<Joined, JoinFault>
     requires { S.failed table.old < 2 ^ 63 }
@@ -102,7 +103,8 @@ fn join_piece<S: Sink>(
 {
     let behind = lines_behind(alloc, texts, head, places, number)?;
     let piece = piece_at(number, head.piece.of);
-    match told.read(alloc, &head.plan, piece, behind.lines) {
+    let key = sweep_key(alloc, &head.plan, head.mark)?;
+    match told.read(alloc, &head.plan, &key, piece, behind.lines) {
         Ok(()) => put_lines(behind.lines, table),
         Err(LineFault::Torn) => Err(JoinFault::Torn(behind.place)),
         Err(LineFault::Memory) => Err(JoinFault::Memory),

@@ -1,23 +1,16 @@
 -- What stands of the table of a piece in a text.
-use Rattle.std.proofs.Common.{◌≡◌, ◌≢◌, ◌<◌, ◌≤◌, ◌+◌, ◌-◌, ℕ, Bool, List, [], ◌++◌, inl, inr, refl, sym, ap, ◌∙◌, arith}
+use Rattle.std.proofs.Common.{◌≡◌, ◌≢◌, ◌⊎◌, ◌≤◌, ◌+◌, ◌-◌, ℕ, Bool, List, ◌++◌, inl, inr, refl, sym, ap, ◌∙◌, length, subst, arith, length-append}
+use Rattle.std.specs.List.{flat_map}
 use Rattle.sweep_plan.specs.Sweep.{Sweep, run_count}
 use Rattle.shards.specs.declared.piece.Piece.{Piece}
 use Rattle.shards.specs.Pieces.{IsPiece, first_run, past_run}
 use Rattle.shards.proofs.Bounds.{share_grows}
 use Rattle.sweep.specs.Pieces.{piece_header}
-use Rattle.sweep.specs.Resumed.{AreWholeLines, IsBegun, RefusesBegun, RefusesStart, StandsSo, bytes_kept}
-use Rattle.sweep.specs.declared.begun.BegunFault.{BegunFault}
+use Rattle.sweep.specs.Resumed.{IsBegun, RefusesStart, runs_in}
+use Rattle.sweep.specs.Sums.{BeginsWithLines, HasLineOf, IsOlder, sweep_key}
 use Rattle.sweep.specs.declared.begun.BegunFault.TheVariants as begun_fault
 
 module _ (text header first : List ℕ) (is : header ≡ first) where
-  -- a beginning of the first line
-  pub short_begun : (lines : List ℕ) → (rest : List ℕ) × (header ≡ text ++ rest) → lines ≡ [] → StandsSo first text lines 0
-  short_begun lines split none = inl (record { rest = split.0; written = sym is ∙ split.1; none = none; no_run = refl })
-
-  -- the first line, and whole lines
-  pub long_begun : (rest lines : List ℕ) (runs : ℕ) → text ≡ header ++ rest → AreWholeLines rest lines runs → StandsSo first text lines runs
-  long_begun rest lines runs behind are = inr (record { rest = rest; written = behind ∙ ap (λ l. l ++ rest) is; are = are })
-
   -- neither begins with the other
   pub apart : ((rest : List ℕ) → header ≢ text ++ rest) → ((rest : List ℕ) → text ≢ header ++ rest) → RefusesStart first text begun_fault.Other
   apart no_less no_more = record {
@@ -25,28 +18,48 @@ module _ (text header first : List ℕ) (is : header ≡ first) where
     no_less = λ rest same. no_less rest (is ∙ same);
   }
 
+  -- lines without checksums come behind it
+  pub of_before : (rest : List ℕ) → text ≡ header ++ rest → IsOlder rest → RefusesStart first text begun_fault.Older
+  of_before rest behind older = record { rest = rest; written = behind ∙ ap (λ l. l ++ rest) is; older = older }
+
 -- the runs of a piece are in order
 in_order : (p : Piece) (runs : ℕ) → IsPiece p → first_run p runs ≤ past_run p runs
 in_order p runs sound = share_grows (p.number - 1) p.number p.of runs (omega arith) (omega (arith, sound.least, sound.most))
 
-module _ (revived : Bool) (mark : List ℕ) (sweep : Sweep) (p : Piece) (text : List ℕ) where
+module _ (revived : Bool) (mark : List ℕ) (sweep : Sweep) (p : Piece) (sound : IsPiece p) (text : List ℕ) where
   abbrev header : List ℕ
   header = piece_header revived mark sweep p
 
-  abbrev count : ℕ
-  count = past_run p (run_count sweep) - first_run p (run_count sweep)
+  abbrev first : ℕ
+  first = first_run p (run_count sweep)
 
-  pub few_begun : (lines : List ℕ) (kept runs : ℕ) → IsPiece p → StandsSo header text lines runs → kept ≡ bytes_kept header text lines → runs ≤ count
+  -- a beginning of the first line
+  pub short_begun : (rest : List ℕ) × (header ≡ text ++ rest) → IsBegun revived mark sweep p text (length text) 0
+  short_begun split = record {
+    stands = inl (record { rest = split.0; written = split.1; all = refl; no_run = refl });
+    few = omega (arith, in_order p (run_count sweep) sound);
+  }
+
+  -- the first line, and the lines of runs
+  pub long_begun : (rest left : List ℕ) (kept runs : ℕ) → text ≡ header ++ rest → BeginsWithLines (sweep_key mark sweep) sweep first rest left runs
+      → kept + length left ≡ length text → runs ≤ runs_in sweep p → (runs ≡ runs_in sweep p) ⊎ ¬ (HasLineOf (sweep_key mark sweep) sweep (first + runs) left)
       → IsBegun revived mark sweep p text kept runs
-  few_begun lines kept runs sound stands stay few =
-      record { lines = lines; begun = stands; stay = stay; few = omega (arith, few, in_order p (run_count sweep) sound) }
+  long_begun rest left kept runs behind begins stay few no_more = record {
+    stands = inr (record { rest = rest; written = behind; left = left; begins = begins; stay = stay; no_more = no_more });
+    few = omega (arith, few, in_order p (run_count sweep) sound);
+  }
 
-  -- too many lines
-  pub has_more : (lines : List ℕ) (runs : ℕ) → StandsSo header text lines runs → count < runs → RefusesBegun revived mark sweep p text begun_fault.Other
-  has_more lines runs (inl short) more = absurd (omega (arith, short.no_run, more))
-  has_more lines runs (inr long) more = inr (record { lines = lines; count = runs; more = more; there = long })
-
-  -- a text that begins otherwise has no lines of the piece
-  pub no_start : (f : BegunFault) → RefusesStart header text f → RefusesBegun revived mark sweep p text f
-  no_start begun_fault.Other apart = inl apart
-  no_start begun_fault.Memory apart = tt
+  -- the same, by what was found
+  pub lines_begun : (rest left key : List ℕ) (from most runs : ℕ) → text ≡ header ++ rest → key ≡ sweep_key mark sweep → from ≡ first → most ≡ runs_in sweep p
+      → BeginsWithLines key sweep from rest left runs → runs ≤ most → (runs ≡ most) ⊎ ¬ (HasLineOf key sweep (from + runs) left)
+      → IsBegun revived mark sweep p text (length text - length left) runs
+  lines_begun rest left key from most runs behind keyed at all begins few no_more =
+      let own = sweep_key mark sweep in
+      let found : BeginsWithLines own sweep first rest left runs =
+      subst (λ n. BeginsWithLines own sweep n rest left runs) at (subst (λ k. BeginsWithLines k sweep from rest left runs) keyed begins) in
+      let lines = flat_map (λ (line : List ℕ). line) begins.lines in
+      let long : length text ≡ length header + length rest = ap length behind ∙ length-append header rest in
+      let split : length rest ≡ length lines + length left = ap length begins.written ∙ length-append lines left in
+      long_begun rest left (length text - length left) runs behind found (omega (arith, long, split)) (omega (arith, few, all))
+      (subst (λ n. (runs ≡ n) ⊎ ¬ (HasLineOf own sweep (first + runs) left)) all
+      (subst (λ n. (runs ≡ most) ⊎ ¬ (HasLineOf own sweep (n + runs) left)) at (subst (λ k. (runs ≡ most) ⊎ ¬ (HasLineOf k sweep (from + runs) left)) keyed no_more)))

@@ -11,7 +11,7 @@ mod Pushed
 mod CaseTexts
 pub mod Sizes
 pub mod PieceCourse
-mod WholeLines
+pub mod LinesOf
 pub mod Kept
 mod Begins
 pub mod Fronts

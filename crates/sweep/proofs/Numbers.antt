@@ -1,5 +1,5 @@
 -- What is held against numbers that follow one another.
-use Rattle.std.proofs.Common.{◌≡◌, ◌∙◌, ◌+◌, ◌-◌, ◌<◌, ◌≤◌, ℕ, zero, suc, List, [], ◌∷◌, ◌++◌, arith, ap, length, sym, subst}
+use Rattle.std.proofs.Common.{◌≡◌, ◌∙◌, ◌+◌, ◌-◌, ◌<◌, ◌≤◌, ℕ, zero, suc, List, [], ◌∷◌, ◌++◌, add-zero, arith, ap, length, sym, subst}
 use Rattle.std.specs.Prelude.{All}
 use Rattle.std.specs.List.{AllZip, flat_map, range_with_len}
 use Rattle.std.proofs.lemmas.List.{map-id}
@@ -14,6 +14,17 @@ pub range_more : (a n : ℕ) → range_with_len a (n + 1) ≡ range_with_len a n
 range_more a n =
     sym (map-id (range_with_len a (n + 1))) ∙ map-range_with_len_more (λ (x : ℕ). x) a n (a + n) (omega arith)
     ∙ ap (λ xs. xs ++ (a + n) ∷ []) (map-id (range_with_len a n))
+
+-- numbers in a row are the first of them and those behind
+pub range_split : (first a b : ℕ) → range_with_len first (a + b) ≡ range_with_len first a ++ range_with_len (first + a) b
+range_split first zero b =
+    let sum : zero + b ≡ b = omega arith in
+    ap (λ n. range_with_len first n) sum ∙ ap (λ n. range_with_len n b) (sym (add-zero first))
+range_split first (suc a) b =
+    let sum : suc a + b ≡ suc (a + b) = omega arith in
+    let next : first + 1 + a ≡ first + suc a = omega arith in
+    ap (λ n. range_with_len first n) sum
+    ∙ ap (λ l. first ∷ l) (range_split (first + 1) a b ∙ ap (λ n. range_with_len (first + 1) a ++ range_with_len n b) next)
 
 -- the numbers to before one are less
 pub all_less : (from till most : ℕ) → till ≤ most → All (λ n. n < most) (range_with_len from (till - from))

@@ -13,6 +13,7 @@ use Rattle.shards.specs.declared.piece.Piece.{Piece}
 use Rattle.shards.specs.Pieces.{first_run, past_run}
 use Rattle.sweep.specs.Judged.{AreAccepted}
 use Rattle.sweep.specs.Runs.{Made, AreMadeBetween}
+use Rattle.sweep.specs.Sums.{sweep_key}
 use Rattle.sweep.specs.Table.{BeginsLines, noted_line, tells_revived}
 use Rattle.sweep.specs.Summaries.{HasCome}
 use Rattle.sweep.specs.Pieces.{piece_header, BeginsPiece, WritesPiece}
@@ -45,8 +46,8 @@ module _ (tree : Data) (sweep : Sweep) (mark : List ℕ) (p : Piece) (kept : ℕ
 
     pub rest_is_whole : WritesRest tree mark sweep p kept 0 old new → WritesPiece tree mark sweep p old new
     rest_is_whole writes =
-        record { made = writes.made; are = all_runs tree sweep p writes.made writes.are; written = subst (Appends old new) (no_front (flat_map (noted_line (tells_revived tree)) writes.made)) writes.written }
+        record { made = writes.made; are = all_runs tree sweep p writes.made writes.are; written = subst (Appends old new) (no_front (flat_map (noted_line (tells_revived tree) (sweep_key mark sweep)) writes.made)) writes.written }
 
     pub rest_begins_whole : BeginsRest tree mark sweep p kept 0 old new → BeginsPiece tree mark sweep p old new
     rest_begins_whole begins =
-        record { made = begins.made; are = all_runs tree sweep p begins.made begins.are; written = subst (AppendsBeginning old new) (no_front (flat_map (noted_line (tells_revived tree)) begins.made)) begins.written }
+        record { made = begins.made; are = all_runs tree sweep p begins.made begins.are; written = subst (AppendsBeginning old new) (no_front (flat_map (noted_line (tells_revived tree) (sweep_key mark sweep)) begins.made)) begins.written }

@@ -11,6 +11,7 @@ use Rattle.shards.specs.Pieces.{first_run, past_run, whole}
 use Rattle.shards.proofs.Whole.{first_of_whole, past_of_whole}
 use Rattle.sweep.specs.declared.gathering.Gathering.{Gathering}
 use Rattle.sweep.specs.Runs.{Made, IsMadeAs, AreMade, AreMadeBetween, noted, runs_of}
+use Rattle.sweep.specs.Sums.{sweep_key}
 use Rattle.sweep.specs.Table.{noted_line, tells_revived}
 use Rattle.sweep.specs.Pieces.{BeginsTable, piece_header, table_text}
 use Rattle.sweep.specs.Resumed.{AreMadeBehind, BeginsRest, rest_course, rest_text}
@@ -33,7 +34,7 @@ module _ (tree : Data) (mark : List ℕ) (sweep : Sweep) (p : Piece) (kept runs 
   text_of_whole : rest_text (tells_revived tree) mark sweep p kept made ≡ table_text tree mark sweep made
   text_of_whole =
       let header = piece_header (tells_revived tree) mark sweep in
-      ap (λ front. front ++ flat_map (noted_line (tells_revived tree)) made) (λ i. drop (none_kept i) (header (only i)))
+      ap (λ front. front ++ flat_map (noted_line (tells_revived tree) (sweep_key mark sweep)) made) (λ i. drop (none_kept i) (header (only i)))
 
   module _ (old new : Option (List ℕ)) where
     begins_so : AreMadeBehind tree sweep p runs made → AppendsBeginning old new (rest_text (tells_revived tree) mark sweep p kept made) → BeginsTable tree mark sweep old new

@@ -1,4 +1,5 @@
 pub mod Runs
+pub mod Sums
 pub mod Table
 pub mod Texts
 pub mod Judged

@@ -10,6 +10,7 @@ use Rattle.shards.specs.declared.piece.Piece.{Piece}
 use Rattle.shards.specs.Pieces.{first_run, past_run, whole}
 use Rattle.shards.specs.Names.{head_cell}
 use Rattle.sweep.specs.Runs.{Made, AreMade, AreMadeBetween}
+use Rattle.sweep.specs.Sums.{sweep_key}
 use Rattle.sweep.specs.Table.{names_of, tells_revived, noted_line}
 
 -- these are the runs of the piece
@@ -20,9 +21,9 @@ AreMadeIn tree sweep p made = AreMadeBetween tree sweep (first_run p (run_count 
 abbrev pub piece_header : Bool → List ℕ → Sweep → Piece → List ℕ
 piece_header revived mark sweep p = head_cell mark sweep p ++ header_line revived (names_of sweep.settings)
 
--- that line, and the lines of the piece's runs, each with its note before it
+-- that line, and the lines of the piece's runs, each with its checksum and its note before it
 abbrev pub piece_table : Bool → List ℕ → Sweep → Piece → List Made → List ℕ
-piece_table revived mark sweep p made = piece_header revived mark sweep p ++ flat_map (noted_line revived) made
+piece_table revived mark sweep p made = piece_header revived mark sweep p ++ flat_map (noted_line revived (sweep_key mark sweep)) made
 
 -- the table of a whole sweep is that of its only piece
 abbrev pub table_text : Data → List ℕ → Sweep → List Made → List ℕ

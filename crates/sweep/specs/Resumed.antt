@@ -1,5 +1,5 @@
 -- The table of a piece that was cut off, and how it goes on.
-use Rattle.std.specs.Prelude.{◌≡◌, ◌≢◌, ◌==◌, ◌⊎◌, ◌<◌, ◌≤◌, ◌+◌, ◌-◌, ℕ, Bool, List, [], ◌∷◌, ◌++◌, false, Option, All, drop, length, min}
+use Rattle.std.specs.Prelude.{◌≡◌, ◌≢◌, ◌⊎◌, ◌≤◌, ◌+◌, ◌-◌, ℕ, Bool, List, ◌++◌, Option, drop, length}
 use Rattle.std.specs.List.{flat_map}
 use Rattle.std.specs.Io.KnownBytes.{Appends}
 use Rattle.toml.specs.Data.{Data}
@@ -10,51 +10,35 @@ use Rattle.shards.specs.Pieces.{first_run, past_run}
 use Rattle.sweep.specs.Runs.{Made, AreMadeBetween}
 use Rattle.sweep.specs.Table.{Course, noted_line, tells_revived}
 use Rattle.sweep.specs.Pieces.{piece_header}
+use Rattle.sweep.specs.Sums.{BeginsWithLines, HasLineOf, IsOlder, sweep_key}
 use Rattle.sweep.specs.declared.begun.BegunFault.{BegunFault}
-use Rattle.sweep.specs.declared.begun.BegunFault.TheVariants.{Other, Memory}
+use Rattle.sweep.specs.declared.begun.BegunFault.TheVariants.{Other, Older, Memory}
 
--- it has no line feed
-abbrev pub IsOneLine : List ℕ → Type 0
-IsOneLine text = All (λ byte. (byte == 10) ≡ false) text
-
--- each of these texts with a line feed behind it
-abbrev pub fed : List (List ℕ) → List ℕ
-fed bodies = flat_map (λ body. body ++ 10 ∷ []) bodies
-
--- the whole lines of a text are these, so many; behind them comes no line feed
-pub record AreWholeLines (text lines : List ℕ) (count : ℕ) : Type 0 where
-  pub bodies : List (List ℕ)
-  pub all : length bodies ≡ count
-  pub one : All IsOneLine bodies
-  pub are : lines ≡ fed bodies
-  pub torn : List ℕ
-  pub cut : IsOneLine torn
-  pub written : text ≡ lines ++ torn
-
--- what stands of a table that begins with this line: a beginning of it, or it and these whole lines behind it
-pub record IsShort (header text lines : List ℕ) (runs : ℕ) : Type 0 where
+-- the text is a beginning of this line, and has no run
+pub record IsShort (header text : List ℕ) (kept runs : ℕ) : Type 0 where
   pub rest : List ℕ
   pub written : header ≡ text ++ rest
-  pub none : lines ≡ []
+  pub all : kept ≡ length text
   pub no_run : runs ≡ 0
 
-pub record IsLong (header text lines : List ℕ) (runs : ℕ) : Type 0 where
+-- Behind that line come those of so many runs, from that of a number on, and no more of them than so many: the first bytes of the text, up to what is left.
+pub record IsLong (key : List ℕ) (sweep : Sweep) (first most : ℕ) (header text : List ℕ) (kept runs : ℕ) : Type 0 where
   pub rest : List ℕ
   pub written : text ≡ header ++ rest
-  pub are : AreWholeLines rest lines runs
+  pub left : List ℕ
+  pub begins : BeginsWithLines key sweep first rest left runs
+  pub stay : kept + length left ≡ length text
+  pub no_more : (runs ≡ most) ⊎ ¬ (HasLineOf key sweep (first + runs) left)
 
-abbrev pub StandsSo : List ℕ → List ℕ → List ℕ → ℕ → Type 0
-StandsSo header text lines runs = IsShort header text lines runs ⊎ IsLong header text lines runs
+-- how many runs the piece has
+abbrev pub runs_in : Sweep → Piece → ℕ
+runs_in sweep p = past_run p (run_count sweep) - first_run p (run_count sweep)
 
--- How many bytes stay of a text of which so much stands: the first line and these lines; where the text is a beginning of that line, all of it.
-abbrev pub bytes_kept : List ℕ → List ℕ → List ℕ → ℕ
-bytes_kept header text lines = min (length header + length lines) (length text)
-
--- So much of the table of a piece stands in the text: so many bytes stay, with the lines of so many runs, no more than the piece has.
+-- So much of the table of a piece stands in the text: so many bytes stay, with the lines of so many runs. Each has its checksum, and the values and the
+-- seed of the run at its place. They are all such lines with which the text goes on behind its first one.
 pub record IsBegun (revived : Bool) (mark : List ℕ) (sweep : Sweep) (p : Piece) (text : List ℕ) (kept runs : ℕ) : Type 0 where
-  pub lines : List ℕ
-  pub begun : StandsSo (piece_header revived mark sweep p) text lines runs
-  pub stay : kept ≡ bytes_kept (piece_header revived mark sweep p) text lines
+  pub stands : IsShort (piece_header revived mark sweep p) text kept runs
+      ⊎ IsLong (sweep_key mark sweep) sweep (first_run p (run_count sweep)) (runs_in sweep p) (piece_header revived mark sweep p) text kept runs
   pub few : first_run p (run_count sweep) + runs ≤ past_run p (run_count sweep)
 
 -- of the text and the first line neither begins with the other
@@ -62,28 +46,24 @@ pub record IsApart (header text : List ℕ) : Type 0 where
   pub no_more : (rest : List ℕ) → text ≢ header ++ rest
   pub no_less : (rest : List ℕ) → header ≢ text ++ rest
 
+-- behind that line comes one without a checksum
+pub record IsOfBefore (header text : List ℕ) : Type 0 where
+  pub rest : List ℕ
+  pub written : text ≡ header ++ rest
+  pub older : IsOlder rest
+
 -- why nothing of such a table stands in the text, unless memory was refused
 abbrev pub RefusesStart : List ℕ → List ℕ → BegunFault → Type 0
 RefusesStart header text Other = IsApart header text
+RefusesStart header text Older = IsOfBefore header text
 RefusesStart header text Memory = Unit {0}
 
--- behind the first line come more than so many
-pub record HasMore (header text : List ℕ) (runs : ℕ) : Type 0 where
-  pub lines : List ℕ
-  pub count : ℕ
-  pub more : runs < count
-  pub there : IsLong header text lines count
-
--- why the text isn't so, unless memory was refused
 abbrev pub RefusesBegun : Bool → List ℕ → Sweep → Piece → List ℕ → BegunFault → Type 0
-RefusesBegun revived mark sweep p text Other =
-    IsApart (piece_header revived mark sweep p) text
-    ⊎ HasMore (piece_header revived mark sweep p) text (past_run p (run_count sweep) - first_run p (run_count sweep))
-RefusesBegun revived mark sweep p text Memory = Unit {0}
+RefusesBegun revived mark sweep p text fault = RefusesStart (piece_header revived mark sweep p) text fault
 
 -- what comes behind so many bytes of a piece's table: what they lack of its first line, and the lines of the runs that were left
 abbrev pub rest_text : Bool → List ℕ → Sweep → Piece → ℕ → List Made → List ℕ
-rest_text revived mark sweep p kept made = drop kept (piece_header revived mark sweep p) ++ flat_map (noted_line revived) made
+rest_text revived mark sweep p kept made = drop kept (piece_header revived mark sweep p) ++ flat_map (noted_line revived (sweep_key mark sweep)) made
 
 -- the runs of a piece but for so many, the first
 abbrev pub AreMadeBehind : Data → Sweep → Piece → ℕ → List Made → Type 0
@@ -92,6 +72,7 @@ AreMadeBehind tree sweep p runs made = AreMadeBetween tree sweep (first_run p (r
 -- how these lines come, behind so many bytes that were written before, and what these lack of the first line
 abbrev pub rest_course : Data → List ℕ → Sweep → Piece → ℕ → ℕ → Option (List ℕ) → Course
 rest_course tree mark sweep p kept runs start = record {
+  key = sweep_key mark sweep;
   start = start;
   front = drop kept (piece_header (tells_revived tree) mark sweep p);
   from = first_run p (run_count sweep) + runs;

@@ -21,6 +21,7 @@ use Rattle.sweep_plan.specs.Keys.{key_name}
 use Rattle.sweep_plan.specs.Values.{value_text}
 use Rattle.sweep_plan.specs.Sweep.{KeyValues, Sweep}
 use Rattle.sweep_plan.specs.declared.choice.Choice.{Choice}
+use Rattle.line_sums.specs.Sums.{summed}
 use Rattle.sweep.specs.declared.making.MadeRun.{MadeRun}
 use Rattle.sweep.specs.Runs.{Planned, Made, IsMadeAs, AreMadeBetween, IsRunAt, noted, verdict_of}
 
@@ -46,13 +47,14 @@ tells_revived tree = has_revivals (version_of tree)
 abbrev pub made_line : Bool → Made → List ℕ
 made_line revived m = run_line revived (texts_of m.case) m.scenario.seed (figures_of m.scenario m.rows)
 
--- the line of a run that was made, with its note before it
-abbrev pub noted_line : Bool → Made → List ℕ
-noted_line revived m = note_cell (noted m) ++ made_line revived m
+-- the line of a run that was made, with its note before it, and before that its checksum with a key
+abbrev pub noted_line : Bool → List ℕ → Made → List ℕ
+noted_line revived key m = summed key (note_cell (noted m) ++ made_line revived m)
 
--- What lines are put one after the other: what was held before, and what is put ahead of them; and the numbers of the first run and of the one
--- past the last.
+-- What lines are put one after the other: the key of their checksums, what was held before, and what is put ahead of them; and the numbers of the
+-- first run and of the one past the last.
 pub record Course : Type 0 where
+  pub key : List ℕ
   pub start : Option (List ℕ)
   pub front : List ℕ
   pub from : ℕ
@@ -60,7 +62,7 @@ pub record Course : Type 0 where
 
 -- what is put, with the lines of these runs
 abbrev pub lines_text : Data → Course → List Made → List ℕ
-lines_text tree course made = course.front ++ flat_map (noted_line (tells_revived tree)) made
+lines_text tree course made = course.front ++ flat_map (noted_line (tells_revived tree) course.key) made
 
 -- what is put ahead, and the lines of the runs to before this number, were appended
 pub record HasLines (tree : Data) (sweep : Sweep) (course : Course) (held : Option (List ℕ)) (number : ℕ) : Type 0 where
@@ -115,20 +117,20 @@ IsCauseAt tree sweep number fault.CounterOverflow = OverflowsOutAt tree sweep nu
 IsCauseAt tree sweep number fault.Write = ⊥
 IsCauseAt tree sweep number fault.ThreadLost = ⊥
 
--- the line and the note are those of the run of this number
-pub record IsMadeRun (tree : Data) (sweep : Sweep) (number : ℕ) (run : MadeRun) : Type 0 where
+-- the line, with its checksum, and the note are those of the run of this number
+pub record IsMadeRun (tree : Data) (sweep : Sweep) (key : List ℕ) (number : ℕ) (run : MadeRun) : Type 0 where
   pub planned : Planned
   pub there : IsRunAt sweep number planned
   pub made : Made
   pub is : IsMadeAs tree planned made
-  pub written : run.line.items ≡ noted_line (tells_revived tree) made
+  pub written : run.line.items ≡ noted_line (tells_revived tree) key made
   pub kept : run.note ≡ noted made
 
 -- the run of this number was made, or there is a cause for there being none
-abbrev pub IsMadeOf : Data → Sweep → ℕ → Result MadeRun Fault → Type 0
-IsMadeOf tree sweep number (Ok run) = IsMadeRun tree sweep number run
-IsMadeOf tree sweep number (Err f) = IsCauseAt tree sweep number f
+abbrev pub IsMadeOf : Data → Sweep → List ℕ → ℕ → Result MadeRun Fault → Type 0
+IsMadeOf tree sweep key number (Ok run) = IsMadeRun tree sweep key number run
+IsMadeOf tree sweep key number (Err f) = IsCauseAt tree sweep number f
 
 -- the runs of some numbers were made, one by one, unless memory was refused
-abbrev pub IsMadeLot : Data → Sweep → List ℕ → Result (Vec (Result MadeRun Fault) Global) Memory → Type 0
-IsMadeLot tree sweep numbers lot = IfOk lot (λ runs. AllZip (IsMadeOf tree sweep) numbers runs.items)
+abbrev pub IsMadeLot : Data → Sweep → List ℕ → List ℕ → Result (Vec (Result MadeRun Fault) Global) Memory → Type 0
+IsMadeLot tree sweep key numbers lot = IfOk lot (λ runs. AllZip (IsMadeOf tree sweep key) numbers runs.items)

@@ -5,11 +5,13 @@ ghost use Rattle.shards.specs.Pieces.{IsPiece};
 ghost use Rattle.sweep.specs.Pieces.{piece_header};
 ghost use Rattle.sweep.specs.Runs.{IsAskedFor};
 ghost use Rattle.sweep.specs.Table.{tells_revived};
-ghost use Rattle.sweep.specs.Resumed.{AreWholeLines, IsBegun, RefusesBegun, RefusesStart, StandsSo, bytes_kept};
+ghost use Rattle.sweep.specs.Resumed.{IsBegun, RefusesBegun, RefusesStart};
 ghost use Rattle.sweep.specs.declared.begun.BegunFault.TheVariants as begun_fault;
 
 use crate::piece_tables::front_of;
 use crate::revived::tells_revived;
+use crate::standing::{is_older, lines_of_runs};
+use crate::summing::sweep_key;
 use base::Memory;
 use shards::Piece;
 use std::alloc::Global;
@@ -36,32 +38,33 @@ impl Begun {
     }
 }
 
-/// What stands in a text of the table of a piece.
-#[derive(Clone, Copy)]
-pub struct Standing<'a> {
-    /// The whole lines behind the first.
-    pub lines: &'a [u8],
-    /// How many they are.
-    pub count: usize,
-    /// How many bytes of the text the first line and these have; all, where it is a beginning of that line.
-    pub kept: usize,
-}
-
 /// Why a text is no beginning of the table of a piece.
 #[derive(Clone, Copy, Debug, PartialEq, Eq, Error)]
 pub enum BegunFault {
-    /// It begins otherwise, or has more lines than the piece has runs.
+    /// It begins otherwise.
     #[error("of another sweep")]
     Other,
+    /// Its lines have no checksums, as those of versions before 1.11.0.
+    #[error("without checksums")]
+    Older,
     /// Memory was refused.
     #[error("memory")]
     Memory,
 }
 
-/// What stands of a piece's table in a text: its first line or a beginning of that, whole lines behind it, and a
-/// beginning of one, which doesn't count.
+impl From<Memory> for BegunFault {
+    ghost from_gives = { λ _ fault. fault ≡ begun_fault.Memory };
+
+    fn from(_refused: Memory) -> Self {
+        BegunFault::Memory
+    }
+}
+
+/// What stands of a piece's table in a text: its first line or a beginning of that, and behind it the lines of its first
+/// runs, each with its checksum, and with the values and the seed that the plan asks for at its place. From the first line
+/// that isn't so on nothing counts.
 ///
-/// Faults: `Other` where the text begins otherwise, or has more lines than the piece has runs; `Memory`.
+/// Faults: `Other` where the text begins otherwise; `Older` where it goes on with a line without a checksum; `Memory`.
 pub fn begun_of(
     alloc: Global,
     plan: &Plan,
@@ -75,49 +78,48 @@ pub fn begun_of(
     ensures begun { IfOk result (λ begun. IsBegun (tells_revived (view document.now)) mark.now plan.now piece text.now begun.kept begun.runs) }
     ensures refused { IfErr result (RefusesBegun (tells_revived (view document.now)) mark.now plan.now piece text.now) }
 {
-    let stood = begun_lines(alloc, plan, piece, mark, document, text)?;
+    let Some(lines) = lines_behind(alloc, plan, piece, mark, document, text)? else {
+        return Ok(Begun {
+            kept: text.len(),
+            runs: 0,
+        });
+    };
+    let key = sweep_key(alloc, plan, mark)?;
     let runs = plan.runs();
-    if stood.count > piece.past(runs) - piece.first(runs) {
-        return Err(BegunFault::Other);
-    }
+    let first = piece.first(runs);
+    let stood = lines_of_runs(alloc, plan, &key, first, piece.past(runs) - first, lines)?;
     Ok(Begun {
-        kept: stood.kept,
+        kept: text.len() - stood.left.len(),
         runs: stood.count,
     })
 }
 
-/// What stands of a piece's table in a text, however many lines that are.
+/// What comes behind the first line of a piece in a text; none where the text is a beginning of that line.
 ///
-/// Faults: `Other` where the text begins otherwise; `Memory`.
-pub fn begun_lines<'a>(
+/// Faults: `Other` where the text begins otherwise; `Older` where it goes on with a line without a checksum; `Memory`.
+pub fn lines_behind<'a>(
     alloc: Global,
     plan: &Plan,
     piece: Piece,
     mark: &str,
     document: &Value,
     text: &'a [u8],
-) -> Result<Standing<'a>, BegunFault>
-    ensures begun { IfOk result (λ stood. StandsSo (piece_header (tells_revived (view document.now)) mark.now plan.now piece) text.entry.now stood.lines.now stood.count) }
-    ensures kept { IfOk result (λ stood. stood.kept ≡ bytes_kept (piece_header (tells_revived (view document.now)) mark.now plan.now piece) text.entry.now stood.lines.now) }
+) -> Result<Option<&'a [u8]>, BegunFault>
+    ensures none { IfOk result (λ found. IsNone found → (rest : List ℕ) × (piece_header (tells_revived (view document.now)) mark.now plan.now piece ≡ text.entry.now ++ rest)) }
+    ensures some { IfOk result (λ found. IfSome found (λ lines. text.entry.now ≡ piece_header (tells_revived (view document.now)) mark.now plan.now piece ++ lines.now)) }
     ensures refused { IfErr result (RefusesStart (piece_header (tells_revived (view document.now)) mark.now plan.now piece) text.entry.now) }
 {
     let header = header_of(alloc, plan, piece, mark, tells_revived(document))?;
     if is_beginning(text, &header) {
-        return Ok(Standing {
-            lines: &text[..0],
-            count: 0,
-            kept: text.len(),
-        });
+        return Ok(None);
     }
     let Some(rest) = rest_behind(text, &header) else {
         return Err(BegunFault::Other);
     };
-    let (lines, count) = whole_lines(rest);
-    Ok(Standing {
-        lines,
-        count,
-        kept: text.len() - (rest.len() - lines.len()),
-    })
+    if is_older(alloc, rest)? {
+        return Err(BegunFault::Older);
+    }
+    Ok(Some(rest))
 }
 
 /// The first line of a piece.
@@ -138,7 +140,7 @@ fn header_of(
 }
 
 /// Whether a text is a beginning of the first line.
-fn is_beginning(text: &[u8], header: &[u8]) -> bool
+pub(crate) fn is_beginning(text: &[u8], header: &[u8]) -> bool
     ensures begins { result ≡ true → (rest : List ℕ) × (header.now ≡ text.now ++ rest) }
     ensures none { result ≡ false → (rest : List ℕ) → header.now ≢ text.now ++ rest }
 {
@@ -151,19 +153,4 @@ fn rest_behind<'a>(text: &'a [u8], header: &[u8]) -> Option<&'a [u8]>
     ensures none { IsNone result → (rest : List ℕ) → text.entry.now ≢ header.now ++ rest }
 {
     text.strip_prefix(header)
-}
-
-/// The whole lines of a text, and how many they are.
-fn whole_lines(text: &[u8]) -> (&[u8], usize)
-    ensures { AreWholeLines text.entry.now result.0.now result.1 }
-{
-    let mut end = 0;
-    let mut count = 0;
-    for (place, byte) in text.iter().enumerate() {
-        if *byte == b'\n' {
-            end = place + 1;
-            count += 1;
-        }
-    }
-    (&text[..end], count)
 }

@@ -35,12 +35,12 @@ const LOT: LotSize = LotSize {
     runs: 256,
 };
 
-/// Makes the runs of a sweep, and writes their table, which is that of its only piece: a header, ahead of which
-/// stands the piece's name, and a line for each run, in the order of the cases and of the seeds, each with what
-/// its case keeps of it before it; at the end the table is flushed. `mark` tells which scenario's text is meant.
-/// Runs are made some at a time, as many side by side as there are workers, each of which keeps a cluster in
-/// memory; each time it is told how many were made. Gives what is told of each case, in their order. Each document
-/// must have been judged to be accepted. After a fault the table has got a beginning of that.
+/// Makes the runs of a sweep, and writes their table, which is that of its only piece: a header, ahead of which stands
+/// the piece's name, and a line for each run, in the order of the cases and of the seeds, each with its checksum and
+/// what its case keeps of it before it; at the end the table is flushed. `mark` tells which scenario's text is meant.
+/// Runs are made some at a time, as many side by side as there are workers, each of which keeps a cluster in memory;
+/// each time it is told how many were made. Gives what is told of each case, in their order. Each document must have
+/// been judged to be accepted. After a fault the table has got a beginning of that.
 ///
 /// Faults: `Memory`; `CounterOverflow` where a counter of some run, or a count of its tallies, would pass 2^63; `Write`
 /// where the sink failed.
@@ -83,12 +83,13 @@ pub fn sweep<S: Sink, P: Progress>(
     Ok(gathering.into_summaries())
 }
 
-/// Makes the runs from one number to before another, writes their lines, and gathers what is told of them. Those before it, from
-/// `first` on, count as made where it is told how many were.
+/// Makes the runs from one number to before another, writes their lines, and gathers what is told of them. Those before
+/// it, from `first` on, count as made where it is told how many were. `key` is that of the lines' checksums.
 pub(crate) fn make_runs<S: Sink, P: Progress, G: Gather>(
     rt: &(impl Threads + Sync),
     alloc: Global,
     plan: &Plan,
+    key: &[u8],
     document: &Value,
     workers: Workers,
     first: usize,
@@ -104,9 +105,9 @@ pub(crate) fn make_runs<S: Sink, P: Progress, G: Gather>(
     requires ordered { from ≤ till }
     requires within { till ≤ run_count plan.now }
     requires countable { S.failed table.old < 2 ^ 63 }
-    ensures whole { OnOk result ((course : Course) → HasCome (view document.now) plan.now course (S.held table.old) (G.has gathering.old (seed_count plan.now.seeds)) from
+    ensures whole { OnOk result ((course : Course) → course.key ≡ key.now → HasCome (view document.now) plan.now course (S.held table.old) (G.has gathering.old (seed_count plan.now.seeds)) from
         → HasCome (view document.now) plan.now course (S.held table.new) (G.has gathering.new (seed_count plan.now.seeds)) till) }
-    ensures part { OnErr result ((course : Course) → till ≤ course.till
+    ensures part { OnErr result ((course : Course) → course.key ≡ key.now → till ≤ course.till
         → HasCome (view document.now) plan.now course (S.held table.old) (G.has gathering.old (seed_count plan.now.seeds)) from
         → BeginsLines (view document.now) plan.now course (S.held table.new)) }
     ensures causes { IfErr result (HasCause (view document.now) plan.now) }
@@ -119,6 +120,7 @@ pub(crate) fn make_runs<S: Sink, P: Progress, G: Gather>(
             rt,
             alloc,
             plan,
+            key,
             document,
             &lot.shares,
             next,
@@ -138,6 +140,7 @@ fn make_some<S: Sink, G: Gather>(
     rt: &(impl Threads + Sync),
     alloc: Global,
     plan: &Plan,
+    key: &[u8],
     document: &Value,
     shares: &[Share],
     from: usize,
@@ -151,15 +154,15 @@ fn make_some<S: Sink, G: Gather>(
     requires shared { AreShares from till shares.now }
     requires within { till ≤ run_count plan.now }
     requires countable { S.failed table.old < 2 ^ 63 }
-    ensures whole { OnOk result ((course : Course) → HasCome (view document.now) plan.now course (S.held table.old) (G.has gathering.old (seed_count plan.now.seeds)) from
+    ensures whole { OnOk result ((course : Course) → course.key ≡ key.now → HasCome (view document.now) plan.now course (S.held table.old) (G.has gathering.old (seed_count plan.now.seeds)) from
         → HasCome (view document.now) plan.now course (S.held table.new) (G.has gathering.new (seed_count plan.now.seeds)) till) }
-    ensures part { OnErr result ((course : Course) → till ≤ course.till
+    ensures part { OnErr result ((course : Course) → course.key ≡ key.now → till ≤ course.till
         → HasCome (view document.now) plan.now course (S.held table.old) (G.has gathering.old (seed_count plan.now.seeds)) from
         → BeginsLines (view document.now) plan.now course (S.held table.new)) }
     ensures causes { IfErr result (HasCause (view document.now) plan.now) }
     ensures failures { S.failed table.new ≡ S.failed table.old + sink_failures result }
 {
-    let runs = make_side_by_side(rt, alloc, plan, document, shares)?;
+    let runs = make_side_by_side(rt, alloc, plan, key, document, shares)?;
     for made in runs {
         let run = made?;
         write_line(alloc, &run, gathering, table)?;

@@ -16,6 +16,7 @@ use crate::shares::Share;
 use crate::values::line_of;
 use base::{Fault, Memory};
 use figures::{RunFigures, RunNote};
+use line_sums::summed;
 use rayon::prelude::*;
 use sequential_run::tally_run;
 use std::alloc::Global;
@@ -27,27 +28,28 @@ use toml::Value;
 /// A run that was made.
 #[derive(Drop)]
 pub struct MadeRun {
-    /// Its line of the table, with its note before it.
+    /// Its line of the table, with its checksum and its note before it.
     pub line: Vec<u8>,
     /// What its case keeps of it.
     pub note: RunNote,
 }
 
-/// The runs of these shares, in their order; or why there is no run of a number: `Memory`; `CounterOverflow` where a counter of that run, or
-/// a count of its tallies, would pass 2^63. As many threads as there are shares, and no more than two for each processor, make
-/// the runs of the shares, side by side. Each document must have been judged to be accepted. It fails where memory is refused
-/// for the list of runs.
+/// The runs of these shares, in their order; or why there is no run of a number: `Memory`; `CounterOverflow` where a
+/// counter of that run, or a count of its tallies, would pass 2^63. As many threads as there are shares, and no more
+/// than two for each processor, make the runs of the shares, side by side. `key` is that of the checksums of their
+/// lines. Each document must have been judged to be accepted. It fails where memory is refused for the list of runs.
 pub fn make_side_by_side(
     rt: &(impl Threads + Sync),
     alloc: Global,
     plan: &Plan,
+    key: &[u8],
     document: &Value,
     shares: &[Share],
 ) -> Result<Vec<Result<MadeRun, Fault>>, Memory>
     requires asked { IsAskedFor plan.now }
     requires judged { AreAccepted (view document.now) plan.now }
     requires within { All (λ share. share.till ≤ run_count plan.now) shares.now }
-    ensures { IfOk result (λ runs. AllZip (IsMadeOf (view document.now) plan.now) (flat_map numbers_of shares.now) runs.items) }
+    ensures { IfOk result (λ runs. AllZip (IsMadeOf (view document.now) plan.now key.now) (flat_map numbers_of shares.now) runs.items) }
 {
     let lots: Vec<Result<Vec<Result<MadeRun, Fault>>, Memory>> = shares
         .par_iter()
@@ -55,8 +57,8 @@ pub fn make_side_by_side(
         .map(
             |share: &Share| -> Result<Vec<Result<MadeRun, Fault>>, Memory>
                 requires { IsAskedFor plan.now × AreAccepted (view document.now) plan.now × share.now.till ≤ run_count plan.now }
-                ensures { IsMadeLot (view document.entry.now) plan.entry.now (numbers_of share.entry.now) result }
-            { make_in_turn(alloc, plan, document, *share) },
+                ensures { IsMadeLot (view document.entry.now) plan.entry.now key.entry.now (numbers_of share.entry.now) result }
+            { make_in_turn(alloc, plan, key, document, *share) },
         )
         .collect(rt, alloc)?;
     joined(alloc, lots)
@@ -66,17 +68,18 @@ pub fn make_side_by_side(
 fn make_in_turn(
     alloc: Global,
     plan: &Plan,
+    key: &[u8],
     document: &Value,
     share: Share,
 ) -> Result<Vec<Result<MadeRun, Fault>>, Memory>
     requires asked { IsAskedFor plan.now }
     requires judged { AreAccepted (view document.now) plan.now }
     requires within { share.till ≤ run_count plan.now }
-    ensures { IsMadeLot (view document.now) plan.now (numbers_of share) result }
+    ensures { IsMadeLot (view document.now) plan.now key.now (numbers_of share) result }
 {
     let mut runs = Vec::new(alloc);
     for number in share.from..share.till {
-        runs.push(make_run(alloc, plan, document, number))?;
+        runs.push(make_run(alloc, plan, key, document, number))?;
     }
     Ok(runs)
 }
@@ -86,9 +89,9 @@ fn joined(
     alloc: Global,
     lots: Vec<Result<Vec<Result<MadeRun, Fault>>, Memory>>,
 ) -> Result<Vec<Result<MadeRun, Fault>>, Memory>
-    ensures { IfOk result (λ runs. (tree : Data) (sweep : Sweep) (numbers : List (List ℕ))
-        → AllZip (IsMadeLot tree sweep) numbers lots.items
-        → AllZip (IsMadeOf tree sweep) (flat_map (λ lot. lot) numbers) runs.items) }
+    ensures { IfOk result (λ runs. (tree : Data) (sweep : Sweep) (key : List ℕ) (numbers : List (List ℕ))
+        → AllZip (IsMadeLot tree sweep key) numbers lots.items
+        → AllZip (IsMadeOf tree sweep key) (flat_map (λ lot. lot) numbers) runs.items) }
 {
     let mut runs = Vec::new(alloc);
     for lot in lots {
@@ -98,19 +101,25 @@ fn joined(
     Ok(runs)
 }
 
-/// Makes the run of this number, and lays out its line. All else that is known of the run is dropped.
-fn make_run(alloc: Global, plan: &Plan, document: &Value, number: usize) -> Result<MadeRun, Fault>
+/// Makes the run of this number, and lays out its line, with its checksum. All else that is known of the run is dropped.
+fn make_run(
+    alloc: Global,
+    plan: &Plan,
+    key: &[u8],
+    document: &Value,
+    number: usize,
+) -> Result<MadeRun, Fault>
     requires asked { IsAskedFor plan.now }
     requires judged { AreAccepted (view document.now) plan.now }
     requires within { number < run_count plan.now }
-    ensures { IsMadeOf (view document.now) plan.now number result }
+    ensures { IsMadeOf (view document.now) plan.now key.now number result }
 {
     let run = planned(alloc, plan, number)?;
     let scenario = read_run(alloc, plan, document, number)?;
     let tallies = tally_run(alloc, &scenario)?;
     let figures = RunFigures::of(alloc, &tallies, &scenario)?;
     let note = RunNote::of(alloc, &tallies, &figures, &scenario)?;
-    let line = line_of(
+    let body = line_of(
         alloc,
         &run.case,
         scenario.seed(),
@@ -118,5 +127,6 @@ fn make_run(alloc: Global, plan: &Plan, document: &Value, number: usize) -> Resu
         &figures,
         tells_revived(document),
     )?;
+    let line = summed(alloc, key, &body)?;
     Ok(MadeRun { line, note })
 }

@@ -19,6 +19,7 @@ use crate::chunks::make_runs;
 use crate::gathering::{Gather, NothingGathered};
 use crate::progress::Progress;
 use crate::revived::tells_revived;
+use crate::summing::sweep_key;
 use crate::values::write_names;
 use base::{Fault, Memory};
 use run_output::flush;
@@ -33,8 +34,8 @@ use toml::Value;
 use trace::{Put, Sink, WriteError, put_all};
 
 /// Makes the runs of a piece of a sweep, and writes its table: a header, ahead of which stands the piece's name, and a
-/// line for each run, each with what its case keeps of it before it; at the end the table is flushed. `mark` tells which
-/// scenario's text is meant. All else is as in `sweep`.
+/// line for each run, each with its checksum and what its case keeps of it before it; at the end the table is flushed.
+/// `mark` tells which scenario's text is meant. All else is as in `sweep`.
 pub fn write_piece<S: Sink, P: Progress>(
     rt: &(impl Threads + Sync),
     alloc: Global,
@@ -132,6 +133,7 @@ pub(crate) fn write_table<S: Sink, P: Progress, G: Gather>(
     let first = piece.first(runs);
     let from = first + begun.runs;
     a_run_exists();
+    let key = sweep_key(alloc, plan, mark)?;
     write_front_behind(
         alloc,
         plan,
@@ -145,6 +147,7 @@ pub(crate) fn write_table<S: Sink, P: Progress, G: Gather>(
         rt,
         alloc,
         plan,
+        &key,
         document,
         workers,
         first,

@@ -1,5 +1,5 @@
 -- What the file holds that the table of a sweep was written to.
-use Rattle.std.proofs.Common.{◌≡◌, ◌∙◌, ◌≤◌, ◌++◌, ℕ, Bool, false, true, List, [], Option, Some, None, Result, Ok, Err, IfSome, IfOk, OnOk, OnErr, inl, inr, ap, arith, length, sym, subst, take}
+use Rattle.std.proofs.Common.{◌≡◌, ◌∙◌, ◌≤◌, ◌⊎◌, ◌++◌, ℕ, Bool, false, true, List, [], Option, Some, None, Result, Ok, Err, IfSome, IfOk, OnOk, OnErr, inl, inr, ap, arith, length, sym, subst, take}
 use Rattle.std.specs.Io.KnownBytes.{Appends}
 use Rattle.toml.specs.Data.{Data}
 use Rattle.base.specs.declared.fault.Fault.{Fault}
@@ -7,12 +7,15 @@ use Rattle.files.specs.Files.{KnownFile, HoldsAtLeast, HoldsNow, ClosesAs, Keeps
 use Rattle.files.specs.Files as files
 use Rattle.trace.specs.Sinks.{AppendsBeginning}
 use Rattle.trace.proofs.Beginnings.{beginning-whole}
-use Rattle.sweep_plan.specs.Sweep.{Sweep}
+use Rattle.sweep_plan.specs.Sweep.{Sweep, run_count}
 use Rattle.shards.specs.declared.piece.Piece.{Piece}
-use Rattle.shards.specs.Pieces.{whole}
+use Rattle.shards.specs.Pieces.{first_run, whole}
 use Rattle.sweep.specs.Pieces.{piece_header}
 use Rattle.sweep.specs.Table.{tells_revived}
-use Rattle.sweep.proofs.Kept.{kept_within}
+use Rattle.sweep.specs.Resumed.{IsLong, IsShort, runs_in}
+use Rattle.sweep.specs.Sums.{sweep_key}
+use Rattle.sweep_until.specs.Pieces.{cases_in, first_case}
+use Rattle.resume.specs.Begun.{AreCasesBehind}
 use Rattle.figures.specs.declared.summary.CaseSummary.{CaseSummary}
 use Rattle.command_line.specs.declared.words.SweepWords.{SweepWords}
 use Rattle.scenario_files.specs.Shelves.{Shelf, HoldsBeginning}
@@ -46,13 +49,27 @@ module _ {T E : Type 0} (bytes : T → List ℕ) (tree : Data) (mark : List ℕ)
 begun_few : (until : Option ℕ) (revived : Bool) (mark : List ℕ) (plan : Sweep) (p : Piece) (text : List ℕ) (kept count : ℕ) → AreBegun until revived mark plan p text kept count
     → FitPiece until plan p count
 begun_few None revived mark plan p text kept count begun = begun.few
-begun_few (Some width) revived mark plan p text kept count begun = begun.begun.few
+begun_few (Some width) revived mark plan p text kept count begun = begun.few
 
 -- no more bytes stay than there are
 begun_within : (until : Option ℕ) (revived : Bool) (mark : List ℕ) (plan : Sweep) (p : Piece) (text : List ℕ) (kept count : ℕ) → AreBegun until revived mark plan p text kept count
     → kept ≤ length text
-begun_within None revived mark plan p text kept count begun = omega (arith, begun.stay, kept_within (piece_header revived mark plan p) text begun.lines)
-begun_within (Some width) revived mark plan p text kept count begun = omega (arith, begun.stay, kept_within (piece_header revived mark plan p) text begun.lines)
+begun_within None revived mark plan p text kept count begun = by begun.stands
+  where
+    header : List ℕ
+    header = piece_header revived mark plan p
+
+    by : IsShort header text kept count ⊎ IsLong (sweep_key mark plan) plan (first_run p (run_count plan)) (runs_in plan p) header text kept count → kept ≤ length text
+    by (inl short) = omega (arith, short.all)
+    by (inr long) = omega (arith, long.stay)
+begun_within (Some width) revived mark plan p text kept count begun = by begun.stands
+  where
+    header : List ℕ
+    header = piece_header revived mark plan p
+
+    by : IsShort header text kept count ⊎ AreCasesBehind (sweep_key mark plan) plan width (first_case plan p) (cases_in plan p) header text kept count → kept ≤ length text
+    by (inl short) = omega (arith, short.all)
+    by (inr behind) = omega (arith, behind.stay)
 
 pub stood_few : (tree : Data) (mark : List ℕ) (sweep : SweepWords) (known : KnownFile) (kept count : ℕ) → GoesOn tree mark sweep known kept count
     → FitResumed sweep sweep.piece count

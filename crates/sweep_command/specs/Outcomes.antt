@@ -232,9 +232,10 @@ FailsSweepCheck before sweep failure =
     ⊎ ((workers : ℕ) × (tree : Data) × MakeRuns (word_given sweep.workers) workers × HasDocument (before sweep.file.now) (Some tree)
     × (missing_of tree sweep.plan.settings ≡ None) × RefusesCase tree sweep.plan failure)))
 
--- a text is no beginning of the piece's table, and is told by the name of its file
+-- a text is no beginning of the piece's table, or its lines have no checksums, and it is told by the name of its file
 abbrev pub IsOther : Data → List ℕ → SweepWords → Piece → List ℕ → PieceFault → Type 0
 IsOther tree mark sweep p text (piece.Other name) = (name.now ≡ sweep.table.now) × RefusesTable sweep.plan.until (tells_revived tree) mark sweep.plan p text begun_fault.Other
+IsOther tree mark sweep p text (piece.Older name) = (name.now ≡ sweep.table.now) × RefusesTable sweep.plan.until (tells_revived tree) mark sweep.plan p text begun_fault.Older
 IsOther tree mark sweep p text _ = ⊥
 
 -- that is so, or memory was refused

@@ -77,7 +77,7 @@ AreBegun (Some width) revived mark plan p text kept count = IsBegunCases revived
 -- why the text isn't so, unless memory was refused
 abbrev pub RefusesTable : Option ℕ → Bool → List ℕ → Sweep → Piece → List ℕ → BegunFault → Type 0
 RefusesTable None revived mark plan p text fault = RefusesBegun revived mark plan p text fault
-RefusesTable (Some width) revived mark plan p text fault = RefusesBegunCases revived mark plan width p text fault
+RefusesTable (Some width) revived mark plan p text fault = RefusesBegunCases revived mark plan p text fault
 
 -- so many runs, or cases, are no more than the piece has
 abbrev pub FitPiece : Option ℕ → Sweep → Piece → ℕ → Type 0

@@ -31,7 +31,8 @@ pub(crate) struct Stays {
 
 /// What stays of the table that the words name, where they ask for a piece that goes on.
 ///
-/// Failures: `Pieces` where the file of the table holds no beginning of it; `File` where it can't be read; `Memory`.
+/// Failures: `Pieces` where the file of the table holds no beginning of it, or one of an earlier version, without checksums;
+/// `File` where it can't be read; `Memory`.
 pub(crate) fn find_standing<'a, F: Files>(
     alloc: Global,
     words: &SweepWords<'a>,
@@ -99,6 +100,7 @@ fn stays_in<'a>(
     match begun_in(alloc, &words.plan, piece, marked, text) {
         Ok(stays) => Ok(stays),
         Err(BegunFault::Other) => Err(Failure::Pieces(PieceFault::Other(words.table))),
+        Err(BegunFault::Older) => Err(Failure::Pieces(PieceFault::Older(words.table))),
         Err(BegunFault::Memory) => Err(Failure::Memory),
     }
 }
@@ -159,7 +161,7 @@ fn cases_begun(
     requires wanted { plan.now.until ≡ Some width }
     ensures begun { IfOk result
         (λ s. IsBegunCases (tells_revived (view marked.now.document)) (string_bytes marked.now.mark) plan.now width piece text.now s.kept s.count) }
-    ensures refused { IfErr result (RefusesBegunCases (tells_revived (view marked.now.document)) (string_bytes marked.now.mark) plan.now width piece text.now) }
+    ensures refused { IfErr result (RefusesBegunCases (tells_revived (view marked.now.document)) (string_bytes marked.now.mark) plan.now piece text.now) }
 {
     let mark = marked.mark.as_str();
     match begun_cases_of(alloc, plan, piece, mark, width, &marked.document, text) {

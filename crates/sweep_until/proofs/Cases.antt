@@ -29,7 +29,7 @@ use Rattle.sweep_until.proofs.Left.{case_within, cases_left, filled, one_case}
 
 module _ (tree : Data) (sweep : Sweep) (stretch : Stretch) where
   abbrev line : Made → List ℕ
-  line m = noted_line (tells_revived tree) m
+  line m = noted_line (tells_revived tree) stretch.key m
 
   abbrev front : List ℕ
   front = stretch.front
@@ -50,7 +50,7 @@ module _ (tree : Data) (sweep : Sweep) (stretch : Stretch) where
 
     -- one case more
     pub case_added : (old mid new : Option (List ℕ)) (count number : ℕ) (cases all : List CaseSummary) (case : CaseSummary) → stretch.first + count ≡ number → all ≡ cases ++ case ∷ []
-        → HasCases tree sweep width stretch old mid count cases → MakesCase tree sweep width number mid new case → HasCases tree sweep width stretch old new (count + 1) all
+        → HasCases tree sweep width stretch old mid count cases → MakesCase tree sweep stretch.key width number mid new case → HasCases tree sweep width stretch old new (count + 1) all
     case_added old mid new count number cases all case is pushed has makes = record {
       made = has.made ++ makes.made ∷ [];
       are = one_case tree sweep width stretch.first count number has.made makes.made is has.are makes.are;
@@ -84,7 +84,7 @@ module _ (tree : Data) (sweep : Sweep) (stretch : Stretch) where
 
       -- the same where a case is only begun
       pub begins_case : (mid : Option (List ℕ)) (count number : ℕ) (cases : List CaseSummary) → count < stretch.cases → stretch.first + count ≡ number → HasCases tree sweep width stretch old mid count cases
-          → BeginsWide tree sweep width (case_course sweep number mid) new → BeginsCases tree sweep width stretch old new
+          → BeginsWide tree sweep width (case_course sweep stretch.key number mid) new → BeginsCases tree sweep width stretch old new
       begins_case mid count number cases low is has begins =
           let first = number * seed_count sweep.seeds in
           let lines = begins.begun in
@@ -101,14 +101,14 @@ module _ (tree : Data) (sweep : Sweep) (stretch : Stretch) where
           (beginning-of old new _ _ text (beginning-first old new (stretch_text tree stretch has.made ++ flat_map line lines.made) (flat_map line rest.0)
           (beginning-then old mid new (stretch_text tree stretch has.made) (flat_map line lines.made) has.written lines.written)))
 
-module _ (tree : Data) (sweep : Sweep) (width : ℕ) where
+module _ (tree : Data) (sweep : Sweep) (key : List ℕ) (width : ℕ) where
   -- a case begins
   pub case_begins : (number : ℕ) (start : Option (List ℕ)) (kept : CaseRuns) → AreKept [] kept
-      → GoesOn tree sweep width (case_course sweep number start) start kept (number * seed_count sweep.seeds)
+      → GoesOn tree sweep width (case_course sweep key number start) start kept (number * seed_count sweep.seeds)
   case_begins number start kept fresh = record {
     gone = record {
       come = record {
-        lines = record { made = []; low = omega arith; are = none_between tree sweep (case_course sweep number start); written = Appends-none start start (Keeps-same start) };
+        lines = record { made = []; low = omega arith; are = none_between tree sweep (case_course sweep key number start); written = Appends-none start start (Keeps-same start) };
         gathered = fresh;
       };
       wide = λ n less. absurd (omega arith);
@@ -118,7 +118,7 @@ module _ (tree : Data) (sweep : Sweep) (width : ℕ) where
 
   -- a case has ended
   module _ (one : OneRun) (number : ℕ) (low : number < case_count sweep.settings) (start held : Option (List ℕ)) (kept : CaseRuns) (past : ℕ)
-      (last : past ≡ number * seed_count sweep.seeds + seed_count sweep.seeds) (ended : HasEnded tree sweep width (case_course sweep number start) held kept (number * seed_count sweep.seeds) past) where
+      (last : past ≡ number * seed_count sweep.seeds + seed_count sweep.seeds) (ended : HasEnded tree sweep width (case_course sweep key number start) held kept (number * seed_count sweep.seeds) past) where
     abbrev first : ℕ
     first = number * seed_count sweep.seeds
 
@@ -133,15 +133,15 @@ module _ (tree : Data) (sweep : Sweep) (width : ℕ) where
     pub has_some : 0 < runs_in kept
     has_some = omega (arith, long, ended.more, ended.gone.come.gathered.figures.all, length-map made noted)
 
-    pub case_ended : BeginsWide tree sweep width (case_course sweep number start) held
-    case_ended = begins_so tree sweep width (case_course sweep number start) held kept ended.next (omega (arith, ended.high, last)) ended.gone
+    pub case_ended : BeginsWide tree sweep width (case_course sweep key number start) held
+    case_ended = begins_so tree sweep width (case_course sweep key number start) held kept ended.next (omega (arith, ended.high, last)) ended.gone
 
     -- its runs are enough, or all that are asked for
     ends_so : (is_narrow_of width (map noted made) ≡ true) ⊎ (ended.next ≡ past) → (is_narrow_of width (map noted made) ≡ true) ⊎ (length (map noted made) ≡ seed_count sweep.seeds)
     ends_so (inl narrow) = inl narrow
     ends_so (inr all) = inr (omega (arith, all, long, last, length-map made noted))
 
-    pub case_made : (case : CaseSummary) → ((runs : List Note) → AreKept runs kept → IsSummaryOf case runs) → MakesCase tree sweep width number start held case
+    pub case_made : (case : CaseSummary) → ((runs : List Note) → AreKept runs kept → IsSummaryOf case runs) → MakesCase tree sweep key width number start held case
     case_made case sums = record {
       made = made;
       are = record {

@@ -12,6 +12,7 @@ use Rattle.shards.specs.Pieces.{IsPiece, first_run, past_run, whole}
 use Rattle.shards.proofs.Bounds.{share_grows, share_within}
 use Rattle.shards.proofs.Whole.{first_of_whole, past_of_whole}
 use Rattle.sweep.specs.Runs.{IsAskedFor, Made}
+use Rattle.sweep.specs.Sums.{sweep_key}
 use Rattle.sweep.specs.Table.{noted_line, tells_revived}
 use Rattle.sweep.specs.Pieces.{piece_header, piece_table}
 use Rattle.sweep.specs.Resumed.{rest_text}
@@ -69,7 +70,7 @@ module _ (tree : Data) (sweep : Sweep) (mark : List ℕ) (p : Piece) (kept begun
         (subst (λ n. AreMadeFrom tree sweep width n (cases_in sweep p - begun) made) same_first are)
 
     text_is : (made : List Made) → rest_text (tells_revived tree) mark sweep p kept made ≡ piece_table (tells_revived tree) mark sweep p made
-    text_is made = ap (λ l. l ++ flat_map (noted_line (tells_revived tree)) made) front
+    text_is made = ap (λ l. l ++ flat_map (noted_line (tells_revived tree) (sweep_key mark sweep)) made) front
 
     pub rest_is_piece : (old new : Option (List ℕ)) → WritesRestUntil tree mark sweep p kept begun old new → WritesPieceUntil tree mark sweep p old new
     rest_is_piece old new writes = record {
@@ -102,4 +103,4 @@ module _ (tree : Data) (sweep : Sweep) (mark : List ℕ) (p : Piece) (kept begun
       cases_of_whole =
           let headed : drop kept header ≡ piece_header (tells_revived tree) mark sweep whole = front ∙ ap (λ q. piece_header (tells_revived tree) mark sweep q) only in
           let first : first_case sweep p + begun ≡ 0 = same_first ∙ ap (λ q. first_run q (case_count sweep.settings)) only ∙ first_of_whole (case_count sweep.settings) in
-          λ i. record { front = headed i; first = first i; cases = count_of_whole i }
+          λ i. record { key = sweep_key mark sweep; front = headed i; first = first i; cases = count_of_whole i }

@@ -27,7 +27,7 @@ up_to width n runs wide open_yet few = by (ltb n (length runs)) refl
 
 -- the course of the same lines that ends elsewhere
 abbrev pub up_till : Course → ℕ → Course
-up_till course till = record { start = course.start; front = course.front; from = course.from; till = till }
+up_till course till = record { key = course.key; start = course.start; front = course.front; from = course.from; till = till }
 
 pub ended_before : (tree : Data) (sweep : Sweep) (course : Course) (held : Option (List ℕ)) (Has : List Note → Type 0) (number till : ℕ)
     → HasCome tree sweep course held Has number → HasCome tree sweep (up_till course till) held Has number

@@ -7,6 +7,7 @@ use Rattle.sweep_plan.specs.Sweep.{Sweep, case_count}
 use Rattle.shards.specs.declared.piece.Piece.{Piece}
 use Rattle.shards.specs.Pieces.{first_run, past_run}
 use Rattle.sweep.specs.Runs.{Made}
+use Rattle.sweep.specs.Sums.{sweep_key}
 use Rattle.sweep.specs.Table.{tells_revived}
 use Rattle.sweep.specs.Pieces.{piece_header, piece_table}
 use Rattle.sweep.specs.Resumed.{rest_text}
@@ -44,6 +45,7 @@ pub record BeginsPieceUntil (tree : Data) (mark : List ℕ) (sweep : Sweep) (p :
 -- The cases of the piece but for so many, the first: they come behind so many bytes that were written before, and what these lack of its first line.
 abbrev pub rest_cases : Data → List ℕ → Sweep → Piece → ℕ → ℕ → Stretch
 rest_cases tree mark sweep p kept cases = record {
+  key = sweep_key mark sweep;
   front = drop kept (piece_header (tells_revived tree) mark sweep p);
   first = first_case sweep p + cases;
   cases = cases_in sweep p - cases;

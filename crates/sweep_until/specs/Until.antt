@@ -10,6 +10,7 @@ use Rattle.figures.specs.Cases.{IsSummaryOf, runs_with}
 use Rattle.figures.specs.Notes.{Note}
 use Rattle.sweep.specs.Runs.{Made, AreMadeBetween, noted}
 use Rattle.shards.specs.Pieces.{whole}
+use Rattle.sweep.specs.Sums.{sweep_key}
 use Rattle.sweep.specs.Table.{Course, BeginsLines, noted_line, tells_revived}
 use Rattle.sweep.specs.Pieces.{piece_header, table_text}
 use Rattle.sweep.specs.Summaries.{HasCome}
@@ -56,19 +57,20 @@ cases_table tree mark sweep made = table_text tree mark sweep (all_of made)
 abbrev pub SumsUp : List Made → CaseSummary → Type 0
 SumsUp made case = IsSummaryOf case (map noted made)
 
--- Which cases are put one after the other: what is put ahead of their lines, the number of the first, and how many they are.
+-- Which cases are put one after the other: the key of their lines' checksums, what is put ahead of these, the number of the first, and how many they are.
 pub record Stretch : Type 0 where
+  pub key : List ℕ
   pub front : List ℕ
   pub first : ℕ
   pub cases : ℕ
 
 -- all cases, behind the first line of the only piece
 abbrev pub all_cases : Data → List ℕ → Sweep → Stretch
-all_cases tree mark sweep = record { front = piece_header (tells_revived tree) mark sweep whole; first = 0; cases = case_count sweep.settings }
+all_cases tree mark sweep = record { key = sweep_key mark sweep; front = piece_header (tells_revived tree) mark sweep whole; first = 0; cases = case_count sweep.settings }
 
 -- what is put, with the lines of the runs of these cases
 abbrev pub stretch_text : Data → Stretch → List (List Made) → List ℕ
-stretch_text tree stretch made = stretch.front ++ flat_map (noted_line (tells_revived tree)) (all_of made)
+stretch_text tree stretch made = stretch.front ++ flat_map (noted_line (tells_revived tree) stretch.key) (all_of made)
 
 -- so many cases were made, their lines were appended, and each is summed up
 pub record HasCases (tree : Data) (sweep : Sweep) (width : ℕ) (stretch : Stretch) (old new : Option (List ℕ)) (number : ℕ) (cases : List CaseSummary) : Type 0 where
@@ -94,9 +96,9 @@ BeginsUntil tree mark sweep width old new = BeginsCases tree sweep width (all_ca
 -- ---- how far a case has come
 
 -- the lines of the case of this number
-abbrev pub case_course : Sweep → ℕ → Option (List ℕ) → Course
-case_course sweep number start =
-    record { start = start; front = []; from = number * seed_count sweep.seeds; till = number * seed_count sweep.seeds + seed_count sweep.seeds }
+abbrev pub case_course : Sweep → List ℕ → ℕ → Option (List ℕ) → Course
+case_course sweep key number start =
+    record { key = key; start = start; front = []; from = number * seed_count sweep.seeds; till = number * seed_count sweep.seeds + seed_count sweep.seeds }
 
 -- the lines of the runs of a case to before the run of this number were appended, and no fewer of them are narrow enough
 pub record HasGone (tree : Data) (sweep : Sweep) (width : ℕ) (course : Course) (held : Option (List ℕ)) (kept : CaseRuns) (number : ℕ) : Type 0 where
@@ -122,8 +124,8 @@ pub record BeginsWide (tree : Data) (sweep : Sweep) (width : ℕ) (course : Cour
   pub wide : IsWide width (map noted begun.made)
 
 -- the runs of a case were made, their lines were appended, and it is summed up
-pub record MakesCase (tree : Data) (sweep : Sweep) (width : ℕ) (number : ℕ) (old new : Option (List ℕ)) (case : CaseSummary) : Type 0 where
+pub record MakesCase (tree : Data) (sweep : Sweep) (key : List ℕ) (width number : ℕ) (old new : Option (List ℕ)) (case : CaseSummary) : Type 0 where
   pub made : List Made
   pub are : IsMadeUntil tree sweep width number made
-  pub written : Appends old new (flat_map (noted_line (tells_revived tree)) made)
+  pub written : Appends old new (flat_map (noted_line (tells_revived tree) key) made)
   pub told : SumsUp made case

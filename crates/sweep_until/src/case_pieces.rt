@@ -21,7 +21,7 @@ use shards::Piece;
 use std::alloc::Global;
 use std::marker::Sync;
 use std::thread::Threads;
-use sweep::{Progress, tells_revived, write_front_behind};
+use sweep::{Progress, sweep_key, tells_revived, write_front_behind};
 use sweep_plan::Plan;
 use toml::Value;
 use trace::Sink;
@@ -29,11 +29,11 @@ use trace::Sink;
 /// The widest that an interval may be, in hundredths.
 const WIDEST: u64 = 100;
 
-/// Makes the runs of the cases of a piece of a sweep whose cases have as many runs as make their intervals narrow enough, and
-/// writes its table: a header, ahead of which stands the piece's name, and a line for each run, each with what its case keeps
-/// of it before it; at the end the table is flushed. A piece is one of whole cases, so how many runs it has depends on these
-/// alone. `mark` tells which scenario's text is meant. The plan must have a width. All else is as in `sweep_until`; what is
-/// told of progress is that of the piece's runs.
+/// Makes the runs of the cases of a piece of a sweep whose cases have as many runs as make their intervals narrow
+/// enough, and writes its table: a header, ahead of which stands the piece's name, and a line for each run, each with
+/// its checksum and what its case keeps of it before it; at the end the table is flushed. A piece is one of whole
+/// cases, so how many runs it has depends on these alone. `mark` tells which scenario's text is meant. The plan must
+/// have a width. All else is as in `sweep_until`; what is told of progress is that of the piece's runs.
 pub fn write_piece_until<S: Sink, P: Progress>(
     rt: &(impl Threads + Sync),
     alloc: Global,
@@ -140,6 +140,7 @@ pub(crate) fn write_cases<S: Sink, P: Progress>(
     };
     a_run_exists();
     the_run_is_one();
+    let key = sweep_key(alloc, plan, mark)?;
     write_front_behind(
         alloc,
         plan,
@@ -150,7 +151,7 @@ pub(crate) fn write_cases<S: Sink, P: Progress>(
         table,
     )?;
     make_cases(
-        rt, alloc, plan, width, document, workers, from, till, &mut part, cases, table,
+        rt, alloc, plan, &key, width, document, workers, from, till, &mut part, cases, table,
     )?;
     flush(table)?;
     Ok(())

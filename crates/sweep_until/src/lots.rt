@@ -27,6 +27,7 @@ pub(crate) fn make_lot<S: Sink>(
     rt: &(impl Threads + Sync),
     alloc: Global,
     plan: &Plan,
+    key: &[u8],
     width: u64,
     document: &Value,
     shares: &[Share],
@@ -42,17 +43,17 @@ pub(crate) fn make_lot<S: Sink>(
     requires shared { AreShares from till shares.now }
     requires within { till ≤ run_count plan.now }
     requires countable { S.failed table.old < 2 ^ 63 }
-    ensures whole { IfOk result (λ next. (course : Course) → GoesOn (view document.now) plan.now width course (S.held table.old) runs.old from
+    ensures whole { IfOk result (λ next. (course : Course) → course.key ≡ key.now → GoesOn (view document.now) plan.now width course (S.held table.old) runs.old from
         → HasGone (view document.now) plan.now width course (S.held table.new) runs.new next) }
     ensures further { IfOk result (λ next. from < next) }
     ensures bounded { IfOk result (λ next. next ≤ till) }
-    ensures part { OnErr result ((course : Course) → till ≤ course.till → GoesOn (view document.now) plan.now width course (S.held table.old) runs.old from
+    ensures part { OnErr result ((course : Course) → course.key ≡ key.now → till ≤ course.till → GoesOn (view document.now) plan.now width course (S.held table.old) runs.old from
         → BeginsWide (view document.now) plan.now width course (S.held table.new)) }
     ensures causes { IfErr result (HasCause (view document.now) plan.now) }
     ensures failures { S.failed table.new ≡ S.failed table.old + sink_failures result }
 {
     the_run_is_one();
-    let lot = make_side_by_side(rt, alloc, plan, document, shares)?;
+    let lot = make_side_by_side(rt, alloc, plan, key, document, shares)?;
     let mut past = from;
     for made in lot {
         let run = made?;

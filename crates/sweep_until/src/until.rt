@@ -32,15 +32,15 @@ const LOT: LotSize = LotSize {
     runs: 32,
 };
 
-/// Makes the runs of a sweep, of each case with more and more of the seeds, in rising order, until the 95 % interval of the
-/// share of its runs in which members were thrown out, by Wilson, is at most so many hundredths wide, or with all seeds that
-/// are asked for. How many runs a case has depends on its own runs alone. Their table is written, which is that of the sweep's
-/// only piece: a header, ahead of which stands the piece's name, and a line for each run, in the order of the cases and of the
-/// seeds, each with what its case keeps of it before it; at the end it is flushed. `mark` tells which scenario's text is meant.
-/// Runs of a case are made some at a time, as many side by side as there are workers; what was made beyond the last run that is
-/// wanted is thrown away. Each time it is told how many runs were made, those that are left out among them. Gives what is told of
-/// each case, in their order. Each document must have been judged to be accepted. After a fault the table has got a beginning of
-/// that.
+/// Makes the runs of a sweep, of each case with more and more of the seeds, in rising order, until the 95 % interval of
+/// the share of its runs in which members were thrown out, by Wilson, is at most so many hundredths wide, or with all
+/// seeds that are asked for. How many runs a case has depends on its own runs alone. Their table is written, which is
+/// that of the sweep's only piece: a header, ahead of which stands the piece's name, and a line for each run, in the
+/// order of the cases and of the seeds, each with its checksum and what its case keeps of it before it; at the end it
+/// is flushed. `mark` tells which scenario's text is meant. Runs of a case are made some at a time, as many side by
+/// side as there are workers; what was made beyond the last run that is wanted is thrown away. Each time it is told how
+/// many runs were made, those that are left out among them. Gives what is told of each case, in their order. Each
+/// document must have been judged to be accepted. After a fault the table has got a beginning of that.
 ///
 /// Faults: `Memory`; `CounterOverflow` where a counter of some run, or a count of its tallies, would pass 2^63; `Write` where the sink
 /// failed.
@@ -86,11 +86,13 @@ pub fn sweep_until<S: Sink, P: Progress>(
     Ok(cases)
 }
 
-/// Makes the runs of the cases from one number to before another, writes their lines, and adds what is told of each.
+/// Makes the runs of the cases from one number to before another, writes their lines, and adds what is told of each. `key` is
+/// that of the lines' checksums.
 pub(crate) fn make_cases<S: Sink, P: Progress>(
     rt: &(impl Threads + Sync),
     alloc: Global,
     plan: &Plan,
+    key: &[u8],
     width: u64,
     document: &Value,
     workers: Workers,
@@ -106,10 +108,10 @@ pub(crate) fn make_cases<S: Sink, P: Progress>(
     requires ordered { first ≤ past }
     requires within { past ≤ case_count plan.now.settings }
     requires countable { S.failed table.old < 2 ^ 63 }
-    ensures whole { OnOk result ((stretch : Stretch) (start : Option (List ℕ)) → stretch.first ≡ first
+    ensures whole { OnOk result ((stretch : Stretch) (start : Option (List ℕ)) → stretch.key ≡ key.now → stretch.first ≡ first
         → HasCases (view document.now) plan.now width stretch start (S.held table.old) 0 cases.old.items
         → HasCases (view document.now) plan.now width stretch start (S.held table.new) (past - first) cases.new.items) }
-    ensures part { OnErr result ((stretch : Stretch) (start : Option (List ℕ)) → stretch.first ≡ first → stretch.cases ≡ past - first
+    ensures part { OnErr result ((stretch : Stretch) (start : Option (List ℕ)) → stretch.key ≡ key.now → stretch.first ≡ first → stretch.cases ≡ past - first
         → HasCases (view document.now) plan.now width stretch start (S.held table.old) 0 cases.old.items
         → BeginsCases (view document.now) plan.now width stretch start (S.held table.new)) }
     ensures causes { IfErr result (HasCause (view document.now) plan.now) }
@@ -119,7 +121,7 @@ pub(crate) fn make_cases<S: Sink, P: Progress>(
     the_run_is_one();
     for number in first..past {
         let case = make_case(
-            rt, alloc, plan, width, document, workers, number, progress, table,
+            rt, alloc, plan, key, width, document, workers, number, progress, table,
         )?;
         push_case(cases, case)?;
     }
@@ -139,6 +141,7 @@ fn make_case<S: Sink, P: Progress>(
     rt: &(impl Threads + Sync),
     alloc: Global,
     plan: &Plan,
+    key: &[u8],
     width: u64,
     document: &Value,
     workers: Workers,
@@ -151,8 +154,8 @@ fn make_case<S: Sink, P: Progress>(
     requires most { width ≤ 100 }
     requires within { number < case_count plan.now.settings }
     requires countable { S.failed table.old < 2 ^ 63 }
-    ensures whole { IfOk result (MakesCase (view document.now) plan.now width number (S.held table.old) (S.held table.new)) }
-    ensures part { OnErr result (BeginsWide (view document.now) plan.now width (case_course plan.now number (S.held table.old)) (S.held table.new)) }
+    ensures whole { IfOk result (MakesCase (view document.now) plan.now key.now width number (S.held table.old) (S.held table.new)) }
+    ensures part { OnErr result (BeginsWide (view document.now) plan.now width (case_course plan.now key.now number (S.held table.old)) (S.held table.new)) }
     ensures causes { IfErr result (HasCause (view document.now) plan.now) }
     ensures failures { S.failed table.new ≡ S.failed table.old + sink_failures result }
 {
@@ -161,7 +164,7 @@ fn make_case<S: Sink, P: Progress>(
     let past = first + plan.runs_of_case();
     let mut runs = CaseRuns::new(alloc);
     make_runs_of(
-        rt, alloc, plan, width, document, workers, first, past, progress, &mut runs, table,
+        rt, alloc, plan, key, width, document, workers, first, past, progress, &mut runs, table,
     )?;
     progress.runs_made(past, plan.runs());
     let case = runs.into_summary()?;
@@ -173,6 +176,7 @@ fn make_runs_of<S: Sink, P: Progress>(
     rt: &(impl Threads + Sync),
     alloc: Global,
     plan: &Plan,
+    key: &[u8],
     width: u64,
     document: &Value,
     workers: Workers,
@@ -188,9 +192,9 @@ fn make_runs_of<S: Sink, P: Progress>(
     requires some { first < past }
     requires within { past ≤ run_count plan.now }
     requires countable { S.failed table.old < 2 ^ 63 }
-    ensures whole { OnOk result ((course : Course) → GoesOn (view document.now) plan.now width course (S.held table.old) runs.old first
+    ensures whole { OnOk result ((course : Course) → course.key ≡ key.now → GoesOn (view document.now) plan.now width course (S.held table.old) runs.old first
         → HasEnded (view document.now) plan.now width course (S.held table.new) runs.new first past) }
-    ensures part { OnErr result ((course : Course) → past ≤ course.till → GoesOn (view document.now) plan.now width course (S.held table.old) runs.old first
+    ensures part { OnErr result ((course : Course) → course.key ≡ key.now → past ≤ course.till → GoesOn (view document.now) plan.now width course (S.held table.old) runs.old first
         → BeginsWide (view document.now) plan.now width course (S.held table.new)) }
     ensures causes { IfErr result (HasCause (view document.now) plan.now) }
     ensures failures { S.failed table.new ≡ S.failed table.old + sink_failures result }
@@ -203,6 +207,7 @@ fn make_runs_of<S: Sink, P: Progress>(
             rt,
             alloc,
             plan,
+            key,
             width,
             document,
             &lot.shares,

@@ -5,4 +5,5 @@ pub mod Items
 pub mod OneLine
 pub mod OneCase
 pub mod Read
+pub mod CasesOf
 pub mod MadeLines

@@ -13,9 +13,11 @@ use Rattle.sweep_plan.specs.declared.choice.Choice.{Choice}
 use Rattle.figures.specs.Cases.{IsSummaryOf}
 use Rattle.figures.specs.Figures.{figures_of}
 use Rattle.figures.specs.Lines.{cell, cells_joined, figures_in_order, table_line}
-use Rattle.figures.specs.Notes.{note_text}
+use Rattle.figures.specs.Notes.{note_cell, note_text}
 use Rattle.figures.specs.declared.summary.CaseSummary.{CaseSummary}
 use Rattle.figures.proofs.SameFigures.{Small}
+use Rattle.line_sums.specs.Sums.{checksum}
+use Rattle.line_sums.proofs.Cuts.{sum_no_space}
 use Rattle.sweep.specs.Runs.{Made, noted}
 use Rattle.sweep.specs.Table.{made_line, noted_line, texts_of}
 use Rattle.sweep_until.specs.Until.{AreEnough, IsMadeUntil, SumsUp, all_of}
@@ -28,14 +30,14 @@ cell_lacks : (f : Option ℕ) → Small f → Lacks 10 (cell f)
 cell_lacks (Some n) small = let low : n < 2 ^ 63 = small n refl in decimal_lacks n 10 (omega (arith, low)) (lit< tt)
 cell_lacks None small = All-nil (λ y. (y == 10) ≡ false)
 
-module _ (revived : Bool) where
+module _ (revived : Bool) (key : List ℕ) where
   -- the fields of a run's line
   abbrev fields_of : Made → List (List ℕ)
   fields_of m = texts_of m.case ++ decimal m.scenario.seed ∷ map cell (figures_in_order revived (figures_of m.scenario m.rows))
 
   -- the line of a run
   abbrev pub line_from : Made → Line
-  line_from m = record { note = noted m; body = cells_joined (fields_of m) }
+  line_from m = record { sum = checksum key (note_cell (noted m) ++ made_line revived m); note = noted m; body = cells_joined (fields_of m) }
 
   abbrev pub case_from : List Made → List Line
   case_from made = map line_from made
@@ -56,21 +58,22 @@ module _ (revived : Bool) where
       (All-map (Lacks 10) (field_text default_writer) (fields_of m) (All-weaker (Lacks 10) (λ xs. Lacks 10 (field_text default_writer xs)) field_lacks (fields_of m) fields))
 
   pub line_sound : (m : Made) → IsTellable m → IsLine (line_from m)
-  line_sound m told = record { small = told.note; one = cells_lack m told }
+  line_sound m told = record { spaceless = sum_no_space key (note_cell (noted m) ++ made_line revived m); small = told.note; one = cells_lack m told }
 
   cells_fed : (m : Made) → made_line revived m ≡ cells_joined (fields_of m) ++ 10 ∷ []
   unfolding table_line
   cells_fed m = refl
 
-  pub line_in_piece : (m : Made) → piece_line (line_from m) ≡ noted_line revived m
+  pub line_in_piece : (m : Made) → piece_line (line_from m) ≡ noted_line revived key m
   line_in_piece m =
-      ap (λ l. note_text (noted m) ++ 44 ∷ l) (sym (cells_fed m)) ∙ sym (append_assoc (note_text (noted m)) (44 ∷ []) (made_line revived m))
+      ap (λ l. checksum key (note_cell (noted m) ++ made_line revived m) ++ 32 ∷ l)
+      (ap (λ l. note_text (noted m) ++ 44 ∷ l) (sym (cells_fed m)) ∙ sym (append_assoc (note_text (noted m)) (44 ∷ []) (made_line revived m)))
 
   pub lines_sound : (made : List Made) → All IsTellable made → All IsLine (case_from made)
   lines_sound [] told = All-nil IsLine
   lines_sound (m ∷ made) told = All-cons IsLine (line_from m) (case_from made) (line_sound m (All-head IsTellable m made told)) (lines_sound made (All-tail IsTellable m made told))
 
-  pub case_in_piece : (made : List Made) → piece_case (case_from made) ≡ flat_map (noted_line revived) made
+  pub case_in_piece : (made : List Made) → piece_case (case_from made) ≡ flat_map (noted_line revived key) made
   case_in_piece [] = refl
   case_in_piece (m ∷ made) = (λ i. line_in_piece m i ++ case_in_piece made i)
 
@@ -78,10 +81,10 @@ module _ (revived : Bool) where
   case_noted [] = refl
   case_noted (m ∷ made) = ap (λ l. noted m ∷ l) (case_noted made)
 
-  pub cases_in_piece : (made : List (List Made)) → flat_map piece_case (cases_from made) ≡ flat_map (noted_line revived) (all_of made)
+  pub cases_in_piece : (made : List (List Made)) → flat_map piece_case (cases_from made) ≡ flat_map (noted_line revived key) (all_of made)
   cases_in_piece [] = refl
   cases_in_piece (case ∷ made) =
-      (λ i. case_in_piece case i ++ cases_in_piece made i) ∙ sym (flat_map-append (noted_line revived) case (all_of made))
+      (λ i. case_in_piece case i ++ cases_in_piece made i) ∙ sym (flat_map-append (noted_line revived key) case (all_of made))
 
   pub cases_sound : (tree : Data) (sweep : Sweep) (width : ℕ) (numbers : List ℕ) (made : List (List Made)) → AllZip (IsMadeUntil tree sweep width) numbers made → All (All IsTellable) made
       → All (IsCase width (seed_count sweep.seeds)) (cases_from made)

@@ -1,8 +1,10 @@
 -- The lines of cases that have as many runs as are enough.
-use Rattle.std.specs.Prelude.{◌≡◌, ℕ, List, [], ◌∷◌, ◌++◌, All}
-use Rattle.std.specs.List.{AllZip, flat_map}
+use Rattle.std.specs.Prelude.{◌≡◌, ◌≤◌, ◌*◌, ℕ, List, [], ◌∷◌, ◌++◌, All}
+use Rattle.std.specs.List.{AllZip, flat_map, range_with_len}
+use Rattle.sweep_plan.specs.Sweep.{Sweep, seed_count}
 use Rattle.figures.specs.Cases.{IsSummaryOf}
 use Rattle.figures.specs.declared.summary.CaseSummary.{CaseSummary}
+use Rattle.sweep.specs.Sums.{AreLinesOf}
 use Rattle.sweep_until.specs.Kept.{AreKept}
 use Rattle.sweep_until.specs.Until.{AreEnough}
 use Rattle.sweep_until.specs.declared.runs.CaseRuns.{CaseRuns}
@@ -48,3 +50,26 @@ pub record ReadsCases (width each : ℕ) (text : List ℕ) (count : ℕ) (before
   pub summaries : List CaseSummary
   pub told : AllZip SumsUpLines are.items summaries
   pub added : after ≡ before ++ summaries
+
+-- ---- cases whose lines are those of the runs at their places
+
+-- The lines of the case of this number of a sweep with this key: each has its checksum, and the values and the seed of the run at its place.
+pub record IsCaseOf (key : List ℕ) (sweep : Sweep) (width number : ℕ) (lines : List Line) : Type 0 where
+  pub case : IsCase width (seed_count sweep.seeds) lines
+  pub count : ℕ
+  pub few : count ≤ seed_count sweep.seeds
+  pub placed : AreLinesOf key sweep (number * seed_count sweep.seeds) (piece_case lines) count
+
+-- the text begins with that case, whatever is left
+abbrev pub HasCaseOf : List ℕ → Sweep → ℕ → ℕ → List ℕ → Type 0
+HasCaseOf key sweep width number text = (left : List ℕ) × BeginsWith (IsCaseOf key sweep width number) piece_case text left
+
+-- it begins with so many cases, from that of a number on, and this is left
+pub record BeginsWithCases (key : List ℕ) (sweep : Sweep) (width first : ℕ) (text left : List ℕ) (count : ℕ) : Type 0 where
+  pub cases : List (List Line)
+  pub are : AllZip (IsCaseOf key sweep width) (range_with_len first count) cases
+  pub written : text ≡ flat_map piece_case cases ++ left
+
+-- it is these cases
+abbrev pub AreCasesOf : List ℕ → Sweep → ℕ → ℕ → List ℕ → ℕ → Type 0
+AreCasesOf key sweep width first text count = BeginsWithCases key sweep width first text [] count

@@ -1,7 +1,7 @@
-//! Lines with their notes, one after the other.
-ghost use Rattle.std.specs.Prelude.{ℕ, List, ◌≡◌, ◌∷◌, ◌++◌, [], OnOk, IfOk, IfErr};
+//! Lines with their checksums and notes, one after the other.
+ghost use Rattle.std.specs.Prelude.{ℕ, List, ◌≡◌, ◌∷◌, ◌++◌, [], OnOk, IfOk, IfErr, IfSome, IsNone};
 ghost use Rattle.figures.specs.Notes.{Note};
-ghost use Rattle.table_rows.specs.Lines.{AreLines, HasLine, ReadsLine, ReadsLines};
+ghost use Rattle.table_rows.specs.Lines.{AreLines, HasLine, IsBehindSum, ReadsLine, ReadsLines};
 ghost use Rattle.table_rows.specs.Refused.{Refuses};
 
 use crate::fault::LineFault;
@@ -10,7 +10,8 @@ use figures::{NoteFault, RunNote};
 use std::alloc::Global;
 use sweep::Gather;
 
-/// Reads the first line of a text, gathers its note, and gives what is left of the text.
+/// Reads the first line of a text, gathers its note, and gives what is left of the text. Whether its checksum is right isn't
+/// looked at.
 ///
 /// Faults: `Torn` where the text begins with no line; `Memory`.
 pub fn read_line<'a, G: Gather>(
@@ -22,7 +23,10 @@ pub fn read_line<'a, G: Gather>(
         (λ note. (each : ℕ) (notes : List Note) → G.has gathering.old each notes → G.has gathering.new each (notes ++ note ∷ []))) }
     ensures refused { IfErr result (Refuses (HasLine text.entry.now)) }
 {
-    let Some((word, rest)) = text.split_once(',') else {
+    let Some(noted) = behind_sum(text) else {
+        return Err(LineFault::Torn);
+    };
+    let Some((word, rest)) = noted.split_once(',') else {
         return Err(LineFault::Torn);
     };
     let Some((_body, left)) = rest.split_once('\n') else {
@@ -37,6 +41,17 @@ pub fn read_line<'a, G: Gather>(
         Ok(()) => Ok(left),
         Err(Memory) => Err(LineFault::Memory),
     }
+}
+
+/// What stands behind the first space of a text.
+fn behind_sum<'a>(text: &'a str) -> Option<&'a str>
+    ensures some { IfSome result (λ rest. IsBehindSum text.entry.now rest.now) }
+    ensures none { IsNone result → (rest : List ℕ) → ¬ (IsBehindSum text.entry.now rest) }
+{
+    let Some((_sum, rest)) = text.split_once(' ') else {
+        return None;
+    };
+    Some(rest)
 }
 
 /// Reads the lines of a text, so many, and gathers their notes.

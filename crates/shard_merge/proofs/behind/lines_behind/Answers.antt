@@ -5,7 +5,7 @@ use Rattle.std.proofs.lemmas.Slice.Eq.{strip_prefix_is}
 use Rattle.sweep.specs.Pieces.{piece_header}
 use Rattle.figures.proofs.Handing.{handed}
 use Rattle.shard_merge.specs.Reasons.{IsReason}
-use Rattle.shard_merge.proofs.PlacesMore.{begins_there, memory_reason, missing, torn}
+use Rattle.shard_merge.proofs.PlacesMore.{begins_there, memory_reason, missing, of_before, torn}
 use Rattle.shard_merge.proofs.behind.lines_behind.Goals as goal
 
 pub returns-in_default-clause-refused : goal.returns-in_default-clause-refused
@@ -27,6 +27,17 @@ returns-in_default-strip_prefix-clause-refused c =
     let begins = begins_there c.args.texts.now head.mark.now head.revived head.plan head.piece c.requires.first c.args.places.now c.requires.places c.args.number _ _ found c.text_at.ensures in
     let cut = rw c.in_default-strip_prefix.is at (strip_prefix_is Decides-eqb c.text_at.result.now _ c.strip_prefix.result c.strip_prefix.ensures.cases) in
     absurd (cut begins.rest (begins.written ∙ ap (λ l. l ++ begins.rest) (sym (c.as_slice.ensures.value ∙ c.in_ok-header.ensures.header ∙ ap (piece_header head.revived head.mark.now head.plan) c.piece_at.ensures.same))))
+
+-- lines without checksums
+pub returns-then-older-clause-refused : goal.returns-then-older-clause-refused
+returns-then-older-clause-refused c =
+    let head = c.args.head.now in
+    let found = sym c.place_of_run.ensures ∙ c.in-Some.is in
+    let rest = c.in-Some-strip_prefix.rest.now in
+    let front = rw c.in-Some-strip_prefix.is at (strip_prefix_is Decides-eqb c.text_at.result.now _ c.strip_prefix.result c.strip_prefix.ensures.cases) in
+    let whole = front ∙ ap (λ l. l ++ rest) (c.as_slice.ensures.value ∙ c.in_ok-header.ensures.header ∙ ap (piece_header head.revived head.mark.now head.plan) c.piece_at.ensures.same) in
+    of_before c.args.texts.now head.mark.now head.revived head.plan head.piece c.requires.first c.args.places.now c.requires.places c.args.number _ rest
+    (record { found = found; text = _; there = c.text_at.ensures; written = whole }) (c.in_ok-older.ensures.older c.if-older.true)
 
 -- what isn't UTF-8 is no lines
 pub returns-in_default-from_utf8-clause-refused : goal.returns-in_default-from_utf8-clause-refused

@@ -10,7 +10,7 @@ abbrev pub invariant-loop-next : goal.invariant-loop-next
 invariant-loop-next g l = record {
   low : l.from ≤ l.next;
   within : l.next ≤ l.till;
-  come : (course : Course) → HasCome (view l.document) l.plan course (g.S.Sink.held l.fn.table) (g.G.Gather.has l.fn.gathering (seed_count l.plan.seeds)) l.from
+  come : (course : Course) → course.key ≡ l.key → HasCome (view l.document) l.plan course (g.S.Sink.held l.fn.table) (g.G.Gather.has l.fn.gathering (seed_count l.plan.seeds)) l.from
       → HasCome (view l.document) l.plan course (g.S.Sink.held l.table) (g.G.Gather.has l.gathering (seed_count l.plan.seeds)) l.next;
   same : g.S.Sink.failed l.table ≡ g.S.Sink.failed l.fn.table;
 }

@@ -16,20 +16,20 @@ make_side_by_side-requires-clause-within g c _ _ = within_all c.args.from c.args
 pub returns-in_err-runs-clause-part : goal.returns-in_err-runs-clause-part
 returns-in_err-runs-clause-part g c =
     on_err c.from_residual.result
-    (λ course high come. have_begun (view c.args.document.now) c.args.plan.now course (g.S.Sink.held c.args.table.now) c.args.from
+    (λ course keyed high come. have_begun (view c.args.document.now) c.args.plan.now course (g.S.Sink.held c.args.table.now) c.args.from
     (omega (arith, high, c.requires.ordered)) come.lines)
 
 pub returns-in_err-run-clause-part : goal.returns-in_err-run-clause-part
 returns-in_err-run-clause-part g c =
     on_err c.from_residual-in_err-run.result
-    (λ course high come. have_begun (view c.args.document.now) c.args.plan.now course (g.S.Sink.held c.loop-made.table) (c.args.from + length c.loop-made.yielded)
-    (omega (arith, high, c.loop-made.invariant.within)) (c.loop-made.invariant.come course come).lines)
+    (λ course keyed high come. have_begun (view c.args.document.now) c.args.plan.now course (g.S.Sink.held c.loop-made.table) (c.args.from + length c.loop-made.yielded)
+    (omega (arith, high, c.loop-made.invariant.within)) (c.loop-made.invariant.come course keyed come).lines)
 
 pub returns-in_err-run-clause-causes : goal.returns-in_err-run-clause-causes
 returns-in_err-run-clause-causes g c =
     let tree = view c.args.document.now in
     let plan = c.args.plan.now in
-    let R = IsMadeOf tree plan in
+    let R = IsMadeOf tree plan c.args.key.now in
     let till = c.args.till in
     let number = c.args.from + length c.loop-made.yielded in
     let next = is_next R number till c.in-Some.made c.next.new.self.rest.items _ c.in-Some.ensures.steps.0 c.loop-made.invariant.left in
@@ -39,7 +39,7 @@ pub returns-in_err-run-clause-failures : goal.returns-in_err-run-clause-failures
 returns-in_err-run-clause-failures g c =
     let tree = view c.args.document.now in
     let plan = c.args.plan.now in
-    let R = IsMadeOf tree plan in
+    let R = IsMadeOf tree plan c.args.key.now in
     let till = c.args.till in
     let number = c.args.from + length c.loop-made.yielded in
     let next = is_next R number till c.in-Some.made c.next.new.self.rest.items _ c.in-Some.ensures.steps.0 c.loop-made.invariant.left in
@@ -50,27 +50,27 @@ pub returns-in_err-write_line-clause-part : goal.returns-in_err-write_line-claus
 returns-in_err-write_line-clause-part g c =
     let tree = view c.args.document.now in
     let plan = c.args.plan.now in
-    let R = IsMadeOf tree plan in
+    let R = IsMadeOf tree plan c.args.key.now in
     let till = c.args.till in
     let number = c.args.from + length c.loop-made.yielded in
     let next = is_next R number till c.in-Some.made c.next.new.self.rest.items _ c.in-Some.ensures.steps.0 c.loop-made.invariant.left in
-    let is : IsMadeRun tree plan number c.in_ok-run.run' = subst (R number) c.in_ok-run.was next.here in
-    on_err c.from_residual-in_err-write_line.result (λ course high come.
-    line_part tree plan number c.in_ok-run.run' is course (g.S.Sink.held c.loop-made.table) (g.S.Sink.held c.write_line.new.table)
-    (omega (arith, high, next.low)) c.in_err-write_line.ensures.part (c.loop-made.invariant.come course come).lines)
+    let is : IsMadeRun tree plan c.args.key.now number c.in_ok-run.run' = subst (R number) c.in_ok-run.was next.here in
+    on_err c.from_residual-in_err-write_line.result (λ course keyed high come.
+    line_part tree plan c.args.key.now number c.in_ok-run.run' is course keyed (g.S.Sink.held c.loop-made.table) (g.S.Sink.held c.write_line.new.table)
+    (omega (arith, high, next.low)) c.in_err-write_line.ensures.part (c.loop-made.invariant.come course keyed come).lines)
 
 pub loop-made-init : goal.loop-made-init
 loop-made-init g c =
     let tree = view c.args.document.now in
     let plan = c.args.plan.now in
-    let R = IsMadeOf tree plan in
+    let R = IsMadeOf tree plan c.args.key.now in
     let till = c.args.till in
     let none : c.args.from ≡ c.args.from + 0 = omega arith in
     record {
       within = omega (arith, c.requires.ordered);
       left = subst (λ n. AllZip R (range_with_len n (c.args.till - n)) c.into_iter-made-iterator.result.rest.items) none
           (subst (λ l. AllZip R l c.into_iter-made-iterator.result.rest.items) c.requires.shared.whole (search rules));
-      come = λ course come. subst (HasCome tree plan course (g.S.Sink.held c.args.table.now) (g.G.Gather.has c.args.gathering.now (seed_count plan.seeds))) none come;
+      come = λ course keyed come. subst (HasCome tree plan course (g.S.Sink.held c.args.table.now) (g.G.Gather.has c.args.gathering.now (seed_count plan.seeds))) none come;
       same = refl;
     }
 
@@ -78,7 +78,7 @@ pub loop-made-preserved : goal.loop-made-preserved
 loop-made-preserved g c =
     let tree = view c.args.document.now in
     let plan = c.args.plan.now in
-    let R = IsMadeOf tree plan in
+    let R = IsMadeOf tree plan c.args.key.now in
     let till = c.args.till in
     let yielded = c.loop-made.yielded in
     let number = c.args.from + length yielded in
@@ -90,26 +90,26 @@ loop-made-preserved g c =
     let Before = g.G.Gather.has c.loop-made.gathering each in
     let After = g.G.Gather.has c.write_line.new.gathering each in
     let next = is_next R number till made left _ c.in-Some.ensures.steps.0 c.loop-made.invariant.left in
-    let is : IsMadeRun tree plan number c.in_ok-run.run' = subst (R number) c.in_ok-run.was next.here in
+    let is : IsMadeRun tree plan c.args.key.now number c.in_ok-run.run' = subst (R number) c.in_ok-run.was next.here in
     let more : number + 1 ≡ c.args.from + length (yielded ++ made ∷ []) = omega (arith, length-append yielded (made ∷ [])) in
     record {
       within = omega (arith, more, next.low);
       left = subst (λ n. AllZip R (range_with_len n (till - n)) left) more next.rest;
-      come = λ course come.
+      come = λ course keyed come.
           subst (HasCome tree plan course new After) more
-          (line_whole tree plan number c.in_ok-run.run' is course old new Before After c.in_ok-write_line.ensures.whole
-          (λ notes before. c.in_ok-write_line.ensures.gathered each notes before) (c.loop-made.invariant.come course come));
+          (line_whole tree plan c.args.key.now number c.in_ok-run.run' is course keyed old new Before After c.in_ok-write_line.ensures.whole
+          (λ notes before. c.in_ok-write_line.ensures.gathered each notes before) (c.loop-made.invariant.come course keyed come));
       same = search rules;
     }
 
 pub returns-clause-whole : goal.returns-clause-whole
-returns-clause-whole g c = λ course come.
+returns-clause-whole g c = λ course keyed come.
     let tree = view c.args.document.now in
     let plan = c.args.plan.now in
-    let R = IsMadeOf tree plan in
+    let R = IsMadeOf tree plan c.args.key.now in
     let till = c.args.till in
     let number = c.args.from + length c.loop-made.yielded in
     let past = none_left R number till c.loop-made.made-iterator.rest.items (omega (arith, c.in-None.ensures.steps.0)) c.loop-made.invariant.left in
     let all : number ≡ till = omega (arith, past, c.loop-made.invariant.within) in
     subst (HasCome tree plan course (g.S.Sink.held c.loop-made.table) (g.G.Gather.has c.loop-made.gathering (seed_count plan.seeds))) all
-    (c.loop-made.invariant.come course come)
+    (c.loop-made.invariant.come course keyed come)

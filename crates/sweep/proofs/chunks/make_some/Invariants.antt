@@ -10,8 +10,8 @@ use Rattle.sweep.proofs.chunks.make_some.Given as goal
 abbrev pub invariant-loop-made : goal.invariant-loop-made
 invariant-loop-made g l = record {
   within : l.from + length l.yielded ≤ l.till;
-  left : AllZip (IsMadeOf (view l.document) l.plan) (range_with_len (l.from + length l.yielded) (l.till - (l.from + length l.yielded))) l.made-iterator.rest.items;
-  come : (course : Course) → HasCome (view l.document) l.plan course (g.S.Sink.held l.fn.table) (g.G.Gather.has l.fn.gathering (seed_count l.plan.seeds)) l.from
+  left : AllZip (IsMadeOf (view l.document) l.plan l.key) (range_with_len (l.from + length l.yielded) (l.till - (l.from + length l.yielded))) l.made-iterator.rest.items;
+  come : (course : Course) → course.key ≡ l.key → HasCome (view l.document) l.plan course (g.S.Sink.held l.fn.table) (g.G.Gather.has l.fn.gathering (seed_count l.plan.seeds)) l.from
       → HasCome (view l.document) l.plan course (g.S.Sink.held l.table) (g.G.Gather.has l.gathering (seed_count l.plan.seeds)) (l.from + length l.yielded);
   same : g.S.Sink.failed l.table ≡ g.S.Sink.failed l.fn.table;
 }

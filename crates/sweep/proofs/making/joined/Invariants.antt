@@ -7,5 +7,5 @@ use Rattle.sweep.proofs.making.joined.Given as goal
 
 -- the runs of the first lots stand one after the other
 abbrev pub invariant-loop-lot : goal.invariant-loop-lot
-invariant-loop-lot l = (tree : Data) (sweep : Sweep) (numbers : List (List ℕ)) → AllZip (IsMadeLot tree sweep) numbers l.yielded
-    → AllZip (IsMadeOf tree sweep) (flat_map (λ lot. lot) numbers) l.runs.items
+invariant-loop-lot l = (tree : Data) (sweep : Sweep) (key : List ℕ) (numbers : List (List ℕ)) → AllZip (IsMadeLot tree sweep key) numbers l.yielded
+    → AllZip (IsMadeOf tree sweep key) (flat_map (λ lot. lot) numbers) l.runs.items

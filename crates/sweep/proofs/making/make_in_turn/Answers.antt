@@ -10,7 +10,7 @@ pub loop-number-preserved : goal.loop-number-preserved
 loop-number-preserved c =
     let from = c.args.share.from in
     let number = c.loop-number.number in
-    let R = IsMadeOf (view c.args.document.now) c.args.plan.now in
+    let R = IsMadeOf (view c.args.document.now) c.args.plan.now c.args.key.now in
     let here : from + (number - from) ≡ number = omega (arith, c.loop-number.invariant.low) in
     let more : (number - from) + 1 ≡ number + 1 - from = omega (arith, c.loop-number.invariant.low) in
     let numbers : range_with_len from (number - from) ++ number ∷ [] ≡ range_with_len from (number + 1 - from) =
@@ -28,4 +28,4 @@ returns c =
     let from = c.args.share.from in
     let till = c.args.share.till in
     let all : c.loop-number.number - from ≡ till - from = omega (arith, c.loop-number-test.false, c.loop-number.invariant.low, c.loop-number.invariant.high) in
-    subst (λ n. AllZip (IsMadeOf (view c.args.document.now) c.args.plan.now) (range_with_len from n) c.loop-number.runs.items) all c.loop-number.invariant.made
+    subst (λ n. AllZip (IsMadeOf (view c.args.document.now) c.args.plan.now c.args.key.now) (range_with_len from n) c.loop-number.runs.items) all c.loop-number.invariant.made

@@ -9,5 +9,5 @@ abbrev pub invariant-loop-number : goal.invariant-loop-number
 invariant-loop-number l = record {
   low : l.fn.share.from ≤ l.number;
   high : l.number ≤ max l.fn.share.from l.fn.share.till;
-  made : AllZip (IsMadeOf (view l.document) l.plan) (range_with_len l.fn.share.from (l.number - l.fn.share.from)) l.runs.items;
+  made : AllZip (IsMadeOf (view l.document) l.plan l.key) (range_with_len l.fn.share.from (l.number - l.fn.share.from)) l.runs.items;
 }

@@ -1,9 +1,12 @@
 use Rattle.std.proofs.Common.{◌∙◌, ◌++◌, ap, sym}
 use Rattle.std.proofs.lemmas.Option.{same_Some}
 use Rattle.figures.specs.Lines.{run_line}
+use Rattle.line_sums.specs.Sums.{summed}
 use Rattle.sweep.specs.Runs.{planned_as}
 use Rattle.figures.specs.Notes.{note_cell}
 use Rattle.sweep.specs.Table.{texts_of}
+use Rattle.toml.specs.View.{view}
+use Rattle.sweep.proofs.Steps.{no_room}
 use Rattle.sweep.proofs.making.make_run.Goals as goal
 
 pub returns : goal.returns
@@ -22,6 +25,11 @@ returns c =
         run = c.in_ok-tallies.ensures.run;
       };
       written = c.in_ok-line.ensures
-          ∙ (λ i. note_cell (note i) ++ run_line (c.tells_revived.ensures i) (texts_of (c.deref.ensures.value i)) (c.seed.ensures i) (figures i));
+          ∙ ap (summed c.args.key.now) (c.deref-2.ensures.value ∙ c.in_ok-body.ensures
+          ∙ (λ i. note_cell (note i) ++ run_line (c.tells_revived.ensures i) (texts_of (c.deref.ensures.value i)) (c.seed.ensures i) (figures i)));
       kept = note;
     }
+
+pub returns-in_err-line : goal.returns-in_err-line
+returns-in_err-line c =
+    no_room (view c.args.document.now) c.args.plan.now c.args.key.now c.args.number c.from_residual-in_err-line.result c.from_residual-in_err-line.ensures.1

@@ -15,15 +15,16 @@ pub returns : goal.returns
 returns g c =
     let tree = view c.args.document.now in
     let plan = c.args.plan.now in
+    let key = c.args.key.now in
     let shares = c.args.shares.now in
     let h = c.in_ok-lots.ensures in
     let chain = rw c.map.ensures.f at h.1 in
     let slice = ap (λ it. it.slice.now) (ap min_len_base c.map.ensures.base ∙ c.with_min_len.ensures.base) ∙ c.par_iter.ensures in
-    let made : AllZip (λ share lot. IsMadeLot tree plan (numbers_of share) lot) shares c.in_ok-lots.lots.items =
-    rw h.2 (slice-AllZip chain.0 shares (chain.1 ∙ slice) (λ share lot. IsMadeLot tree plan (numbers_of share) lot) h.0 chain.2) in
-    let lots = AllZip-through numbers_of (λ share lot. IsMadeLot tree plan (numbers_of share) lot) (IsMadeLot tree plan) (λ share lot is. is) shares c.in_ok-lots.lots.items made in
+    let made : AllZip (λ share lot. IsMadeLot tree plan key (numbers_of share) lot) shares c.in_ok-lots.lots.items =
+    rw h.2 (slice-AllZip chain.0 shares (chain.1 ∙ slice) (λ share lot. IsMadeLot tree plan key (numbers_of share) lot) h.0 chain.2) in
+    let lots = AllZip-through numbers_of (λ share lot. IsMadeLot tree plan key (numbers_of share) lot) (IsMadeLot tree plan key) (λ share lot is. is) shares c.in_ok-lots.lots.items made in
     IfOk-then c.joined.result _ _ c.joined.ensures (λ runs go.
-    subst (λ l. AllZip (IsMadeOf tree plan) l runs.items) (lists_of numbers_of shares) (go tree plan (map numbers_of shares) lots))
+    subst (λ l. AllZip (IsMadeOf tree plan key) l runs.items) (lists_of numbers_of shares) (go tree plan key (map numbers_of shares) lots))
 
 -- each share has runs of the sweep
 pub collect-requires-clause-ready : goal.collect-requires-clause-ready

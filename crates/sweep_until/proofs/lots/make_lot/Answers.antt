@@ -16,32 +16,32 @@ make_side_by_side-requires-clause-within g c _ _ = within_all c.args.from c.args
 
 pub loop-made-init : goal.loop-made-init
 loop-made-init g c =
-    let R = IsMadeOf (view c.args.document.now) c.args.plan.now in
+    let R = IsMadeOf (view c.args.document.now) c.args.plan.now c.args.key.now in
     record {
       low = omega arith;
       within = omega (arith, c.requires.some);
       left = subst (λ l. AllZip R l c.into_iter-made-iterator.result.rest.items) c.requires.shared.whole (search rules);
-      goes = λ course goes. goes;
+      goes = λ course keyed goes. goes;
       same = refl;
     }
 
 pub returns-in_err-lot-clause-part : goal.returns-in_err-lot-clause-part
 returns-in_err-lot-clause-part g c =
     on_err c.from_residual.result
-    (λ course high goes. begins_so (view c.args.document.now) c.args.plan.now c.args.width course (g.S.Sink.held c.args.table.now) c.args.runs.now c.args.from
+    (λ course keyed high goes. begins_so (view c.args.document.now) c.args.plan.now c.args.width course (g.S.Sink.held c.args.table.now) c.args.runs.now c.args.from
     (omega (arith, high, c.requires.some)) goes.gone)
 
 pub returns-in_err-run-clause-part : goal.returns-in_err-run-clause-part
 returns-in_err-run-clause-part g c =
     on_err c.from_residual-in_err-run.result
-    (λ course high before. begins_so (view c.args.document.now) c.args.plan.now c.args.width course (g.S.Sink.held c.loop-made.table) c.loop-made.runs c.loop-made.past
-    (omega (arith, high, c.loop-made.invariant.within)) (c.loop-made.invariant.goes course before).gone)
+    (λ course keyed high before. begins_so (view c.args.document.now) c.args.plan.now c.args.width course (g.S.Sink.held c.loop-made.table) c.loop-made.runs c.loop-made.past
+    (omega (arith, high, c.loop-made.invariant.within)) (c.loop-made.invariant.goes course keyed before).gone)
 
 pub returns-in_err-run-clause-causes : goal.returns-in_err-run-clause-causes
 returns-in_err-run-clause-causes g c =
     let tree = view c.args.document.now in
     let plan = c.args.plan.now in
-    let R = IsMadeOf tree plan in
+    let R = IsMadeOf tree plan c.args.key.now in
     let till = c.args.till in
     let number = c.loop-made.past in
     let next = is_next R number till c.in-Some.made c.next.new.self.rest.items _ c.in-Some.ensures.steps.0 c.loop-made.invariant.left in
@@ -51,7 +51,7 @@ pub returns-in_err-run-clause-failures : goal.returns-in_err-run-clause-failures
 returns-in_err-run-clause-failures g c =
     let tree = view c.args.document.now in
     let plan = c.args.plan.now in
-    let R = IsMadeOf tree plan in
+    let R = IsMadeOf tree plan c.args.key.now in
     let till = c.args.till in
     let number = c.loop-made.past in
     let next = is_next R number till c.in-Some.made c.next.new.self.rest.items _ c.in-Some.ensures.steps.0 c.loop-made.invariant.left in
@@ -62,25 +62,25 @@ pub returns-in_err-write_line-clause-part : goal.returns-in_err-write_line-claus
 returns-in_err-write_line-clause-part g c =
     let tree = view c.args.document.now in
     let plan = c.args.plan.now in
-    let R = IsMadeOf tree plan in
+    let R = IsMadeOf tree plan c.args.key.now in
     let till = c.args.till in
     let number = c.loop-made.past in
     let mid = g.S.Sink.held c.loop-made.table in
     let new = g.S.Sink.held c.write_line.new.table in
     let next = is_next R number till c.in-Some.made c.next.new.self.rest.items _ c.in-Some.ensures.steps.0 c.loop-made.invariant.left in
-    let is : IsMadeRun tree plan number c.in_ok-run.run' = subst (R number) c.in_ok-run.was next.here in
-    on_err c.from_residual-in_err-write_line.result (λ course high before.
-    let goes = c.loop-made.invariant.goes course before in
+    let is : IsMadeRun tree plan c.args.key.now number c.in_ok-run.run' = subst (R number) c.in_ok-run.was next.here in
+    on_err c.from_residual-in_err-write_line.result (λ course keyed high before.
+    let goes = c.loop-made.invariant.goes course keyed before in
     begins_next tree plan c.the_run_is_one.ensures c.requires.judged c.args.width course mid new c.loop-made.runs number
     (omega (arith, next.low, c.requires.within)) (omega (arith, high, next.low)) goes
-    (line_part tree plan number c.in_ok-run.run' is (up_till course (number + 1)) mid new (omega arith) c.in_err-write_line.ensures.part
+    (line_part tree plan c.args.key.now number c.in_ok-run.run' is (up_till course (number + 1)) keyed mid new (omega arith) c.in_err-write_line.ensures.part
     (ended_before tree plan course mid _ number (number + 1) goes.gone.come).lines))
 
 pub loop-made-preserved : goal.loop-made-preserved
 loop-made-preserved g c =
     let tree = view c.args.document.now in
     let plan = c.args.plan.now in
-    let R = IsMadeOf tree plan in
+    let R = IsMadeOf tree plan c.args.key.now in
     let till = c.args.till in
     let number = c.loop-made.past in
     let mid = g.S.Sink.held c.loop-made.table in
@@ -88,14 +88,14 @@ loop-made-preserved g c =
     let before = c.loop-made.runs in
     let after = c.write_line.new.gathering in
     let next = is_next R number till c.in-Some.made c.next.new.self.rest.items _ c.in-Some.ensures.steps.0 c.loop-made.invariant.left in
-    let is : IsMadeRun tree plan number c.in_ok-run.run' = subst (R number) c.in_ok-run.was next.here in
+    let is : IsMadeRun tree plan c.args.key.now number c.in_ok-run.run' = subst (R number) c.in_ok-run.was next.here in
     record {
       low = omega (arith, c.loop-made.invariant.low);
       within = omega (arith, next.low);
       left = next.rest;
-      goes = λ course begun.
-          let goes = c.loop-made.invariant.goes course begun in
-          let come = line_whole tree plan number c.in_ok-run.run' is course mid new (λ notes. AreKept notes before) (λ notes. AreKept notes after) c.in_ok-write_line.ensures.whole
+      goes = λ course keyed begun.
+          let goes = c.loop-made.invariant.goes course keyed begun in
+          let come = line_whole tree plan c.args.key.now number c.in_ok-run.run' is course keyed mid new (λ notes. AreKept notes before) (λ notes. AreKept notes after) c.in_ok-write_line.ensures.whole
           (λ notes kept. c.in_ok-write_line.ensures.gathered 0 notes kept) goes.gone.come in
           goes_on tree plan c.args.width course new after (number + 1) c.is_narrow.result c.is_narrow.ensures c.if-is_narrow.false
           (goes_next tree plan c.the_run_is_one.ensures c.requires.judged c.args.width course mid new before after number (omega (arith, next.low, c.requires.within)) goes come);
@@ -103,10 +103,10 @@ loop-made-preserved g c =
     }
 
 pub returns-then-is_narrow-clause-whole : goal.returns-then-is_narrow-clause-whole
-returns-then-is_narrow-clause-whole g c = λ course begun.
+returns-then-is_narrow-clause-whole g c = λ course keyed begun.
     let tree = view c.args.document.now in
     let plan = c.args.plan.now in
-    let R = IsMadeOf tree plan in
+    let R = IsMadeOf tree plan c.args.key.now in
     let till = c.args.till in
     let number = c.loop-made.past in
     let mid = g.S.Sink.held c.loop-made.table in
@@ -114,26 +114,26 @@ returns-then-is_narrow-clause-whole g c = λ course begun.
     let before = c.loop-made.runs in
     let after = c.write_line.new.gathering in
     let next = is_next R number till c.in-Some.made c.next.new.self.rest.items _ c.in-Some.ensures.steps.0 c.loop-made.invariant.left in
-    let is : IsMadeRun tree plan number c.in_ok-run.run' = subst (R number) c.in_ok-run.was next.here in
-    let goes = c.loop-made.invariant.goes course begun in
+    let is : IsMadeRun tree plan c.args.key.now number c.in_ok-run.run' = subst (R number) c.in_ok-run.was next.here in
+    let goes = c.loop-made.invariant.goes course keyed begun in
     goes_next tree plan c.the_run_is_one.ensures c.requires.judged c.args.width course mid new before after number (omega (arith, next.low, c.requires.within)) goes
-    (line_whole tree plan number c.in_ok-run.run' is course mid new (λ notes. AreKept notes before) (λ notes. AreKept notes after) c.in_ok-write_line.ensures.whole
+    (line_whole tree plan c.args.key.now number c.in_ok-run.run' is course keyed mid new (λ notes. AreKept notes before) (λ notes. AreKept notes after) c.in_ok-write_line.ensures.whole
     (λ notes kept. c.in_ok-write_line.ensures.gathered 0 notes kept) goes.gone.come)
 
 pub returns-then-is_narrow-clause-bounded : goal.returns-then-is_narrow-clause-bounded
 returns-then-is_narrow-clause-bounded g c =
-    let R = IsMadeOf (view c.args.document.now) c.args.plan.now in
+    let R = IsMadeOf (view c.args.document.now) c.args.plan.now c.args.key.now in
     let till = c.args.till in
     let number = c.loop-made.past in
     let next = is_next R number till c.in-Some.made c.next.new.self.rest.items _ c.in-Some.ensures.steps.0 c.loop-made.invariant.left in
     omega (arith, next.low)
 
 pub returns-clause-whole : goal.returns-clause-whole
-returns-clause-whole g c = λ course before. (c.loop-made.invariant.goes course before).gone
+returns-clause-whole g c = λ course keyed before. (c.loop-made.invariant.goes course keyed before).gone
 
 pub returns-clause-further : goal.returns-clause-further
 returns-clause-further g c =
-    let R = IsMadeOf (view c.args.document.now) c.args.plan.now in
+    let R = IsMadeOf (view c.args.document.now) c.args.plan.now c.args.key.now in
     let till = c.args.till in
     let number = c.loop-made.past in
     let past = none_left R number till c.loop-made.made-iterator.rest.items (omega (arith, c.in-None.ensures.steps.0)) c.loop-made.invariant.left in

@@ -10,8 +10,8 @@ abbrev pub invariant-loop-made : goal.invariant-loop-made
 invariant-loop-made g l = record {
   low : l.from ≤ l.past;
   within : l.past ≤ l.till;
-  left : AllZip (IsMadeOf (view l.document) l.plan) (range_with_len l.past (l.till - l.past)) l.made-iterator.rest.items;
-  goes : (course : Course) → GoesOn (view l.document) l.plan l.width course (g.S.Sink.held l.fn.table) l.fn.runs l.from
+  left : AllZip (IsMadeOf (view l.document) l.plan l.key) (range_with_len l.past (l.till - l.past)) l.made-iterator.rest.items;
+  goes : (course : Course) → course.key ≡ l.key → GoesOn (view l.document) l.plan l.width course (g.S.Sink.held l.fn.table) l.fn.runs l.from
       → GoesOn (view l.document) l.plan l.width course (g.S.Sink.held l.table) l.runs l.past;
   same : g.S.Sink.failed l.table ≡ g.S.Sink.failed l.fn.table;
 }

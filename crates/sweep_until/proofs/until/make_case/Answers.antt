@@ -1,4 +1,4 @@
-use Rattle.std.proofs.Common.{◌+◌, arith, subst, sym}
+use Rattle.std.proofs.Common.{◌+◌, arith, refl, subst, sym}
 use Rattle.toml.specs.View.{view}
 use Rattle.run_output.proofs.Faults.{on_err}
 use Rattle.sweep.proofs.Sizes.{some_runs}
@@ -14,11 +14,11 @@ into_summary-requires g c =
     let tree = view c.args.document.now in
     let plan = c.args.plan.now in
     let old = g.S.Sink.held c.args.table.now in
-    let course = case_course plan c.args.number old in
+    let course = case_course plan c.args.key.now c.args.number old in
     let past = c.first_run-first.result + c.runs_of_case.result in
-    let begins = subst (GoesOn tree plan c.args.width course old c.new-runs.result) (sym c.first_run-first.ensures.first) (case_begins tree plan c.args.width c.args.number old c.new-runs.result c.new-runs.ensures) in
-    let ended = subst (λ n. HasEnded tree plan c.args.width course (g.S.Sink.held c.make_runs_of.new.table) c.make_runs_of.new.runs n past) c.first_run-first.ensures.first (c.in_ok-make_runs_of.ensures.whole course begins) in
-    has_some tree plan c.args.width c.the_run_is_one.ensures c.args.number c.requires.within old (g.S.Sink.held c.make_runs_of.new.table) c.make_runs_of.new.runs past
+    let begins = subst (GoesOn tree plan c.args.width course old c.new-runs.result) (sym c.first_run-first.ensures.first) (case_begins tree plan c.args.key.now c.args.width c.args.number old c.new-runs.result c.new-runs.ensures) in
+    let ended = subst (λ n. HasEnded tree plan c.args.width course (g.S.Sink.held c.make_runs_of.new.table) c.make_runs_of.new.runs n past) c.first_run-first.ensures.first (c.in_ok-make_runs_of.ensures.whole course refl begins) in
+    has_some tree plan c.args.key.now c.args.width c.the_run_is_one.ensures c.args.number c.requires.within old (g.S.Sink.held c.make_runs_of.new.table) c.make_runs_of.new.runs past
     (omega (arith, c.first_run-first.ensures.first, c.runs_of_case.ensures)) ended
 
 pub returns-in_err-make_runs_of-clause-part : goal.returns-in_err-make_runs_of-clause-part
@@ -26,21 +26,21 @@ returns-in_err-make_runs_of-clause-part g c =
     let tree = view c.args.document.now in
     let plan = c.args.plan.now in
     let old = g.S.Sink.held c.args.table.now in
-    let course = case_course plan c.args.number old in
-    let begins = subst (GoesOn tree plan c.args.width course old c.new-runs.result) (sym c.first_run-first.ensures.first) (case_begins tree plan c.args.width c.args.number old c.new-runs.result c.new-runs.ensures) in
-    on_err c.from_residual.result (c.in_err-make_runs_of.ensures.part course (omega (arith, c.first_run-first.ensures.first, c.runs_of_case.ensures)) begins)
+    let course = case_course plan c.args.key.now c.args.number old in
+    let begins = subst (GoesOn tree plan c.args.width course old c.new-runs.result) (sym c.first_run-first.ensures.first) (case_begins tree plan c.args.key.now c.args.width c.args.number old c.new-runs.result c.new-runs.ensures) in
+    on_err c.from_residual.result (c.in_err-make_runs_of.ensures.part course refl (omega (arith, c.first_run-first.ensures.first, c.runs_of_case.ensures)) begins)
 
 pub returns-in_err-case-clause-part : goal.returns-in_err-case-clause-part
 returns-in_err-case-clause-part g c =
     let tree = view c.args.document.now in
     let plan = c.args.plan.now in
     let old = g.S.Sink.held c.args.table.now in
-    let course = case_course plan c.args.number old in
+    let course = case_course plan c.args.key.now c.args.number old in
     let past = c.first_run-first.result + c.runs_of_case.result in
-    let begins = subst (GoesOn tree plan c.args.width course old c.new-runs.result) (sym c.first_run-first.ensures.first) (case_begins tree plan c.args.width c.args.number old c.new-runs.result c.new-runs.ensures) in
-    let ended = subst (λ n. HasEnded tree plan c.args.width course (g.S.Sink.held c.make_runs_of.new.table) c.make_runs_of.new.runs n past) c.first_run-first.ensures.first (c.in_ok-make_runs_of.ensures.whole course begins) in
+    let begins = subst (GoesOn tree plan c.args.width course old c.new-runs.result) (sym c.first_run-first.ensures.first) (case_begins tree plan c.args.key.now c.args.width c.args.number old c.new-runs.result c.new-runs.ensures) in
+    let ended = subst (λ n. HasEnded tree plan c.args.width course (g.S.Sink.held c.make_runs_of.new.table) c.make_runs_of.new.runs n past) c.first_run-first.ensures.first (c.in_ok-make_runs_of.ensures.whole course refl begins) in
     on_err c.from_residual-in_err-case.result
-    (case_ended tree plan c.args.width c.the_run_is_one.ensures c.args.number c.requires.within old (g.S.Sink.held c.make_runs_of.new.table) c.make_runs_of.new.runs past
+    (case_ended tree plan c.args.key.now c.args.width c.the_run_is_one.ensures c.args.number c.requires.within old (g.S.Sink.held c.make_runs_of.new.table) c.make_runs_of.new.runs past
     (omega (arith, c.first_run-first.ensures.first, c.runs_of_case.ensures)) ended)
 
 pub returns-clause-whole : goal.returns-clause-whole
@@ -48,9 +48,9 @@ returns-clause-whole g c =
     let tree = view c.args.document.now in
     let plan = c.args.plan.now in
     let old = g.S.Sink.held c.args.table.now in
-    let course = case_course plan c.args.number old in
+    let course = case_course plan c.args.key.now c.args.number old in
     let past = c.first_run-first.result + c.runs_of_case.result in
-    let begins = subst (GoesOn tree plan c.args.width course old c.new-runs.result) (sym c.first_run-first.ensures.first) (case_begins tree plan c.args.width c.args.number old c.new-runs.result c.new-runs.ensures) in
-    let ended = subst (λ n. HasEnded tree plan c.args.width course (g.S.Sink.held c.make_runs_of.new.table) c.make_runs_of.new.runs n past) c.first_run-first.ensures.first (c.in_ok-make_runs_of.ensures.whole course begins) in
-    case_made tree plan c.args.width c.the_run_is_one.ensures c.args.number c.requires.within old (g.S.Sink.held c.make_runs_of.new.table) c.make_runs_of.new.runs past
+    let begins = subst (GoesOn tree plan c.args.width course old c.new-runs.result) (sym c.first_run-first.ensures.first) (case_begins tree plan c.args.key.now c.args.width c.args.number old c.new-runs.result c.new-runs.ensures) in
+    let ended = subst (λ n. HasEnded tree plan c.args.width course (g.S.Sink.held c.make_runs_of.new.table) c.make_runs_of.new.runs n past) c.first_run-first.ensures.first (c.in_ok-make_runs_of.ensures.whole course refl begins) in
+    case_made tree plan c.args.key.now c.args.width c.the_run_is_one.ensures c.args.number c.requires.within old (g.S.Sink.held c.make_runs_of.new.table) c.make_runs_of.new.runs past
     (omega (arith, c.first_run-first.ensures.first, c.runs_of_case.ensures)) ended c.in_ok-case.case c.in_ok-case.ensures

@@ -1,14 +1,14 @@
 use Rattle.std.proofs.Common.{◌≡◌, ◌+◌, ◌-◌, arith, refl, rules, subst, sym}
 use Rattle.toml.specs.View.{view}
 use Rattle.run_output.proofs.Faults.{on_err}
-use Rattle.sweep_until.specs.Until.{HasCases}
+use Rattle.sweep_until.specs.Until.{BeginsWide, HasCases, MakesCase, case_course}
 use Rattle.sweep_until.proofs.Cases.{begins_case, begins_cases, case_added}
 use Rattle.sweep_until.proofs.until.make_cases.Goals as goal
 
 pub loop-number-init : goal.loop-number-init
 loop-number-init g c = record {
   low = omega arith;
-  has = λ stretch start from none.
+  has = λ stretch start keyed from none.
       let zero : c.args.first - c.args.first ≡ 0 = omega arith in
       subst (λ n. HasCases (view c.args.document.now) c.args.plan.now c.args.width stretch start (g.S.Sink.held c.args.table.now) n c.args.cases.now.items) (sym zero) none;
   same = refl;
@@ -17,13 +17,13 @@ loop-number-init g c = record {
 pub loop-number-preserved : goal.loop-number-preserved
 loop-number-preserved g c = record {
   low = omega (arith, c.loop-number.invariant.low);
-  has = λ stretch start from none.
+  has = λ stretch start keyed from none.
       let tree = view c.args.document.now in
       let plan = c.args.plan.now in
       let next : c.loop-number.number + 1 - c.args.first ≡ c.loop-number.number - c.args.first + 1 = omega (arith, c.loop-number.invariant.low) in
       subst (λ n. HasCases tree plan c.args.width stretch start (g.S.Sink.held c.make_case.new.table) n c.push_case.new.cases.items) (sym next)
       (case_added tree plan stretch c.args.width start (g.S.Sink.held c.loop-number.table) (g.S.Sink.held c.make_case.new.table) (c.loop-number.number - c.args.first) c.loop-number.number
-      c.loop-number.cases.items _ c.in_ok-case.case (omega (arith, from, c.loop-number.invariant.low)) c.in_ok-push_case.ensures (c.loop-number.invariant.has stretch start from none) c.in_ok-case.ensures.whole);
+      c.loop-number.cases.items _ c.in_ok-case.case (omega (arith, from, c.loop-number.invariant.low)) c.in_ok-push_case.ensures (c.loop-number.invariant.has stretch start keyed from none) (subst (λ k. MakesCase tree plan k c.args.width c.loop-number.number (g.S.Sink.held c.loop-number.table) (g.S.Sink.held c.make_case.new.table) c.in_ok-case.case) (sym keyed) c.in_ok-case.ensures.whole));
   same = search rules;
 }
 
@@ -31,14 +31,14 @@ pub make_case-requires-clause-within : goal.make_case-requires-clause-within
 make_case-requires-clause-within g c = omega (arith, c.loop-number-test.true, c.loop-number.auto.number-end, c.requires.within)
 
 pub returns-clause-whole : goal.returns-clause-whole
-returns-clause-whole g c = λ stretch start from none.
+returns-clause-whole g c = λ stretch start keyed from none.
     let all : c.loop-number.number - c.args.first ≡ c.args.past - c.args.first = omega (arith, c.loop-number-test.false, c.loop-number.auto.number-end, c.requires.ordered) in
     subst (λ n. HasCases (view c.args.document.now) c.args.plan.now c.args.width stretch start (g.S.Sink.held c.loop-number.table) n c.loop-number.cases.items) all
-    (c.loop-number.invariant.has stretch start from none)
+    (c.loop-number.invariant.has stretch start keyed from none)
 
 pub returns-in_err-case-clause-part : goal.returns-in_err-case-clause-part
 returns-in_err-case-clause-part g c =
-    on_err c.from_residual.result (λ stretch start from count none.
+    on_err c.from_residual.result (λ stretch start keyed from count none.
     let tree = view c.args.document.now in
     let plan = c.args.plan.now in
     let mid = g.S.Sink.held c.loop-number.table in
@@ -47,11 +47,11 @@ returns-in_err-case-clause-part g c =
     let low = c.loop-number.invariant.low in
     begins_case tree plan stretch c.args.width c.the_run_is_one.ensures c.a_run_exists.ensures c.requires.judged (omega (arith, from, count, c.requires.within, c.requires.ordered)) start new mid
     (number - c.args.first) number c.loop-number.cases.items (omega (arith, c.loop-number-test.true, c.loop-number.auto.number-end, count, low)) (omega (arith, from, low))
-    (c.loop-number.invariant.has stretch start from none) c.in_err-case.ensures.part)
+    (c.loop-number.invariant.has stretch start keyed from none) (subst (λ k. BeginsWide tree plan c.args.width (case_course plan k number mid) new) (sym keyed) c.in_err-case.ensures.part))
 
 pub returns-in_err-push_case-clause-part : goal.returns-in_err-push_case-clause-part
 returns-in_err-push_case-clause-part g c =
-    on_err c.from_residual-in_err-push_case.result (λ stretch start from count none.
+    on_err c.from_residual-in_err-push_case.result (λ stretch start keyed from count none.
     let tree = view c.args.document.now in
     let plan = c.args.plan.now in
     let mid = g.S.Sink.held c.loop-number.table in
@@ -61,4 +61,4 @@ returns-in_err-push_case-clause-part g c =
     begins_cases tree plan stretch c.args.width c.the_run_is_one.ensures c.a_run_exists.ensures c.requires.judged (omega (arith, from, count, c.requires.within, c.requires.ordered)) start new
     (number - c.args.first + 1) _ (omega (arith, c.loop-number-test.true, c.loop-number.auto.number-end, count, low))
     (case_added tree plan stretch c.args.width start mid new (number - c.args.first) number c.loop-number.cases.items _ c.in_ok-case.case (omega (arith, from, low)) refl
-    (c.loop-number.invariant.has stretch start from none) c.in_ok-case.ensures.whole))
+    (c.loop-number.invariant.has stretch start keyed from none) (subst (λ k. MakesCase tree plan k c.args.width c.loop-number.number (g.S.Sink.held c.loop-number.table) (g.S.Sink.held c.make_case.new.table) c.in_ok-case.case) (sym keyed) c.in_ok-case.ensures.whole)))

@@ -9,7 +9,7 @@ abbrev pub invariant-loop-next : goal.invariant-loop-next
 invariant-loop-next g l = record {
   low : l.first ≤ l.next;
   within : l.next ≤ l.past;
-  goes : (course : Course) → GoesOn (view l.document) l.plan l.width course (g.S.Sink.held l.fn.table) l.fn.runs l.first
+  goes : (course : Course) → course.key ≡ l.key → GoesOn (view l.document) l.plan l.width course (g.S.Sink.held l.fn.table) l.fn.runs l.first
       → GoesOn (view l.document) l.plan l.width course (g.S.Sink.held l.table) l.runs l.next;
   same : g.S.Sink.failed l.table ≡ g.S.Sink.failed l.fn.table;
 }
