@@ -15,4 +15,4 @@ ends_run s workers (Err f) overflow threads = (λ is. overflow (ap Err is), λ i
 -- by which faults a simulation by fewer workers ends, one by more may end
 pub by_fewer : {T : Type 0} (s : Setup) (fewer workers : ℕ) (result : Result T Fault) → fewer ≤ workers → IfErr result (EndsRunBy s fewer) → IfErr result (EndsRunBy s workers)
 by_fewer s fewer workers (Ok x) low ends = tt
-by_fewer s fewer workers (Err f) low ends = (ends.0, λ is. let several = ends.1 is in omega (several, low))
+by_fewer s fewer workers (Err f) low ends = (ends.0, λ is. let several = ends.1 is in omega (arith, several, low))
