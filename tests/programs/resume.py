@@ -25,7 +25,7 @@ from program import TWO_MEMBERS, call_with_room
 LONG = ('--seeds', '1..20000')
 WIDE = ('--until', '1', '--set', 'swim.timeout=100,200,300,400', '--seeds', '1..4000')
 # how many bytes the small file system has: the long table has some fewer
-SMALL = 1_048_576
+SMALL = 1_310_720
 
 
 class Sweep:

@@ -1,4 +1,4 @@
-//! How many processors are free for a run: those that this process may use, and that no other program keeps busy.
+//! Whether several workers pay on this machine now: not where other programs keep half of its processors busy.
 ghost use Rattle.std.specs.Prelude.{◌≡◌, ◌≤◌, min};
 
 use base::limits::MOST_WORKERS;
@@ -16,34 +16,39 @@ const OWN_GROUP: &str = "/proc/self/cgroup";
 /// Where the system keeps its control groups.
 const GROUPS: &str = "/sys/fs/cgroup";
 
-/// As many workers as there are free processors, and one at least: as many as the process may use, less
-/// those on which other threads run now, and no more than the quota of its control group allows. What
+/// How many workers a run may have at most: one where at most half of the processors that this process
+/// may use are free, since workers that wait for each other take longer there than one alone. Free are
+/// those on which no other thread runs now, and as many as the quota of the control group allows. What
 /// the system doesn't report is taken for no limit.
-pub(crate) fn free_processors<R: Threads + Files + AllocGlobal>(rt: &R) -> Workers {
+pub(crate) fn most_workers<R: Threads + Files + AllocGlobal>(rt: &R) -> Workers {
     let allowed = match available_parallelism(rt) {
         Ok(processors) => processors.get(),
         Err(_) => MOST_WORKERS,
     };
-    let idle = idle_processors(rt).unwrap_or(MOST_WORKERS);
-    let share = share_of_group(rt).unwrap_or(MOST_WORKERS);
-    workers_of(allowed.min(idle).min(share))
+    let idle = idle_processors(rt).unwrap_or(allowed);
+    let share = share_of_group(rt).unwrap_or(allowed);
+    let free = allowed.min(idle).min(share);
+    workers_of(if free <= allowed / 2 { 1 } else { MOST_WORKERS })
 }
 
-/// So many workers, but one at least and no more than there may be.
-fn workers_of(count: usize) -> Workers {
-    match Workers::new(count.clamp(1, MOST_WORKERS)) {
+/// So many workers.
+fn workers_of(count: usize) -> Workers
+    requires { (1 ≤ count) × (count ≤ 64) }
+    ensures { result ≡ count }
+{
+    match Workers::new(count) {
         Some(workers) => workers,
         None => unreachable!(),
     }
 }
 
 /// The lesser number of workers.
-pub(crate) fn fewer(workers: Workers, processors: Workers) -> Workers
-    ensures value { result ≡ min workers processors }
+pub(crate) fn fewer(workers: Workers, most: Workers) -> Workers
+    ensures value { result ≡ min workers most }
     ensures few { result ≤ workers }
 {
-    if processors.count() < workers.count() {
-        processors
+    if most.count() < workers.count() {
+        most
     } else {
         workers
     }

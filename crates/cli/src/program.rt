@@ -26,7 +26,7 @@ use sweep_command::sweep_file;
 
 /// Does what the words ask for, and answers the exit status.
 ///
-/// `rt` starts the threads of a run, of which no more simulate than `processors` are free, and lets them wait. `release` is what the program tells of itself. `words` are
+/// `rt` starts the threads of a run, of which no more than `most` simulate, and lets them wait. `release` is what the program tells of itself. `words` are
 /// those of the command line without the program's name. A failure is told in one line on `err`, below which others tell why: of `check` and
 /// `run` only where `err` is a terminal. `out` then gets nothing, unless it failed itself or gets the mistakes of a scenario. `surroundings` are
 /// asked what the system says of a file that can't be read or made. A run or a sweep that is to tell how far it has come does so on `progress`, as far as that takes
@@ -41,7 +41,7 @@ pub fn command<S: AsStr, F: Files, O: Write, E: Write, P: Write, A: Surroundings
     err: &mut E,
     progress: &mut P,
     is_terminal: bool,
-    processors: Workers,
+    most: Workers,
     surroundings: &A,
 ) -> u8
     ensures range { result ≤ 5 }
@@ -73,7 +73,7 @@ pub fn command<S: AsStr, F: Files, O: Write, E: Write, P: Write, A: Surroundings
     // No words but those of a run or a sweep that is to tell of it write to `progress`.
     ensures unasked { ¬ (AsksForProgress (map S.text words.now)) → progress.new ≡ progress.old }
 {
-    let performed = perform(rt, alloc, release, words, processors, files, out, progress);
+    let performed = perform(rt, alloc, release, words, most, files, out, progress);
     match performed {
         Ok(()) => 0,
         Err(failure) => {
@@ -98,7 +98,7 @@ fn perform<'a, S: AsStr, F: Files, O: Write, P: Write>(
     alloc: Global,
     release: &Release<'_>,
     words: &'a [S],
-    processors: Workers,
+    most: Workers,
     files: &mut F,
     out: &mut O,
     progress: &mut P,
@@ -120,7 +120,7 @@ fn perform<'a, S: AsStr, F: Files, O: Write, P: Write>(
         Asked::Help(help) => print_help(&help, out),
         Asked::Version => print_release(release, out),
         Asked::Run(words) => {
-            let by_threads = ByThreads { rt, processors };
+            let by_threads = ByThreads { rt, most };
             let summary = run(&by_threads, alloc, release, words, files, progress)?;
             print_rows(summary.rows, out)
         }

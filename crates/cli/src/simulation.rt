@@ -27,8 +27,8 @@ use trace::{Put, Sink};
 pub(crate) struct ByThreads<'r, R> {
     /// What starts the threads and lets them wait.
     pub(crate) rt: &'r R,
-    /// No more workers start than there are free processors.
-    pub(crate) processors: Workers,
+    /// No more workers than these simulate.
+    pub(crate) most: Workers,
 }
 
 impl<H: Threads + Wait + Sync> Simulator for ByThreads<'_, H> {
@@ -48,7 +48,7 @@ impl<H: Threads + Wait + Sync> Simulator for ByThreads<'_, H> {
         trace: T,
         report: R,
     ) -> (Put<T>, R, Result<Summary, Fault>) {
-        let workers = fewer(workers, self.processors);
+        let workers = fewer(workers, self.most);
         simulate(
             self.rt, alloc, scenario, division, workers, watch, trace, report,
         )
@@ -66,7 +66,7 @@ impl<H: Threads + Wait + Sync> Simulator for ByThreads<'_, H> {
         report: R,
         page: P,
     ) -> (Put<T>, R, Put<P>, Result<Summary, Fault>) {
-        let workers = fewer(workers, self.processors);
+        let workers = fewer(workers, self.most);
         simulate_with_page(
             self.rt, alloc, scenario, division, workers, shown, watch, trace, report, page,
         )

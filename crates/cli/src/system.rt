@@ -2,7 +2,7 @@
 ghost use Rattle.std.specs.Prelude.{◌≡◌, ◌≢◌, ◌≤◌};
 ghost use Rattle.std.specs.Process.{exit_status};
 
-use crate::processors::free_processors;
+use crate::processors::most_workers;
 use crate::program::command;
 use crate::surroundings::{SystemSurroundings, is_terminal};
 pub use command_line::system::words;
@@ -49,7 +49,7 @@ pub fn run_program<
                 err,
                 progress,
                 is_terminal(rt),
-                free_processors(rt),
+                most_workers(rt),
                 &SystemSurroundings { runtime: rt },
             )
         }
