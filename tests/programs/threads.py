@@ -9,7 +9,7 @@ whatever else this one does (stand_in.py), so that a run by several workers star
 - one worker starts no thread, neither for a run nor for a sweep;
 - a run of four sites by four workers starts more than two threads, of which each simulates, and a sweep too;
 - each of four long runs of a sweep is made by a thread of its own;
-- no more threads start than there are free processors, or of two both and the one that writes;
+- no more threads start than there are processors, or of two both and the one that writes; none where at most half are free;
 - all rows of a long run never wait in memory at once, by one worker and by several;
 - where a file takes no more, a run by several threads ends with status 5, however many rows are still to come, and the
   trace is a beginning;
@@ -108,13 +108,13 @@ def few_processors(bench):
 
 
 def busy_processors(bench):
-    """No more threads start than there are processors that no other program keeps busy; the bytes are the same."""
-    bench.threads(bench.run(far(4, 64, 3000), 1), 8)
+    """A run starts no thread where other programs keep half of the processors busy, or more; the bytes are the same."""
+    assert bench.threads(bench.run(far(4, 64, 3000), 4), 4) >= 2
     whole = bench.trace.read_bytes()
-    for busy, most in ((0, 8), (2, 6), (5, 3), (6, 2), (7, 0), (8, 0), (20, 0)):
-        threads = bench.threads(bench.run(far(4, 64, 3000), 64), 8, busy)
-        assert threads <= most, (busy, threads)
-        assert bench.trace.read_bytes() == whole, busy
+    for processors, busy in ((4, 2), (4, 4), (8, 8), (3, 20), (2, 1)):
+        threads = bench.threads(bench.run(far(4, 64, 3000), 4), processors, busy)
+        assert threads == 0, (processors, busy, threads)
+        assert bench.trace.read_bytes() == whole, (processors, busy)
 
 
 def most_memory(bench, workers):
