@@ -222,7 +222,8 @@ def refuse_starts(words, stand_in, least):
 def refuse_after_write(words, stand_in):
     """Refuses allocations that come after a write has failed; answers how many went well and how many wrong."""
     whole, spared, well, wrong = ended(words, stand_in.folder, (5, NOT_WRITTEN)), 0, 0, 0
-    for number, left in refused(words, stand_in, 'w', itertools.chain(range(1, NEXT), itertools.count(NEXT, 100))):
+    numbers = itertools.chain(range(1, NEXT), itertools.count(NEXT, 100))
+    for number, left in refused(words, stand_in, 'w', numbers, **stand_in.processors(3)):
         spared += left == whole
         if left == whole or (left[:3] == (5, b'', NO_MEMORY) and not any(left[3:])):
             well += 1
