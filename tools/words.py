@@ -14,8 +14,10 @@ from rules import CRATES, TOP
 
 GLOSSARY = 'docs/GLOSSARY.md'
 SECTION = '## Retired words'
-# what users read; docs/proof/ is for those who change swimsim
-DOCUMENTS = ['README.md', 'CHANGELOG.md', *sorted(str(path.relative_to(TOP)) for path in (TOP / 'docs').glob('*.md'))]
+# what users read; docs/proof/ and this one are for those who change swimsim
+ARCHITECTURE = TOP / 'docs' / 'ARCHITECTURE.md'
+DOCUMENTS = ['README.md', 'CHANGELOG.md',
+             *sorted(str(path.relative_to(TOP)) for path in (TOP / 'docs').glob('*.md') if path != ARCHITECTURE)]
 MANUAL = 'man/swimsim.1'
 # the crates whose texts are what --help prints
 OF_HELP = ('arguments', 'command_line')
