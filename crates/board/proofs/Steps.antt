@@ -161,11 +161,11 @@ module _ {T V : Type 0} (stands_for : T → V) (belongs : T → Type 0) where
       }
 
   -- a push that was refused found the board full
-  pub refused : {U : Type 0} (P : U → Type 0) (n : ℕ) (v w : Hand V) (piece : T) (r : Result U T)
-      → MatchResult r P (λ x. (x ≡ piece) × (w ≡ v) × Held n (Sees stands_for belongs v))
+  pub refused : {U : Type 0} (P : U → Type 0) (n : ℕ) (v w : Hand V) (item : T) (r : Result U T)
+      → MatchResult r P (λ x. (x ≡ item) × (w ≡ v) × Held n (Sees stands_for belongs v))
       → IfErr r (λ _. v.share ≡ whole → (lying : List V) × (length lying ≡ n) × DealBalance v.dealt v.taken lying)
-  refused P n v w piece (Ok u) h = tt
-  refused P n v w piece (Err x) h = λ all. (map stands_for h.2.0, length-map h.2.0 stands_for ∙ h.2.1, h.2.2.0 all)
+  refused P n v w item (Ok u) h = tt
+  refused P n v w item (Err x) h = λ all. (map stands_for h.2.0, length-map h.2.0 stands_for ∙ h.2.1, h.2.2.0 all)
 
   -- what is counted lies on the board
   pub counted : (n : ℕ) (v : Hand V) (dealt taken : List V) → v.share ≡ whole → SameBag v.dealt dealt → SameBag v.taken taken → Held n (Sees stands_for belongs v)

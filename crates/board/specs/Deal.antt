@@ -9,7 +9,7 @@ use Rattle.board.specs.declared.rule.Hand.{Hand}
 abbrev pub SameBag : {V : Type 0} → List V → List V → Type 0
 SameBag {V} xs ys = (weight : V → ℕ) → sum_by weight xs ≡ sum_by weight ys
 
--- each piece was dealt as often as it was taken or lies on the board
+-- each item was dealt as often as it was taken or lies on the board
 abbrev pub DealBalance : {V : Type 0} → List V → List V → List V → Type 0
 DealBalance dealt taken lying = SameBag dealt (taken ++ lying)
 

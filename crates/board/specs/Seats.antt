@@ -32,7 +32,7 @@ module _ {T V : Type 0} where
   IsSameSeat old new = IsSamePass old.pass new.pass × (share new ≡ share old)
 
 module _ {T V S : Type 0} where
-  -- how many pieces can lie on the board
+  -- how many items can lie on the board
   abbrev pub room : Board T V S → ℕ
   room board = ruled_capacity board.queue
 

@@ -1,17 +1,17 @@
-//! A board: a shared object on which pieces lie until somebody takes them, each of them once.
+//! A board: a shared object on which items lie until somebody takes them, each of them once.
 //!
 //! A board is made together with all its seats ([`Board::new`]). Each thread has a seat of its own, from which it
-//! deals pieces and takes them, the first one dealt first. A seat keeps account, in proofs alone, of what was
-//! dealt from it and of what it has taken: two bags of what the pieces stand for ([`PieceRule`]). When all seats are
-//! together again, [`settle`] says how many pieces still lie on the board, and that each piece was dealt as often
-//! as it was taken or lies there (`DealBalance`). So where none lies there, every piece that was dealt was taken,
+//! deals items and takes them, the first one dealt first. A seat keeps account, in proofs alone, of what was
+//! dealt from it and of what it has taken: two bags of what the items stand for ([`ItemRule`]). When all seats are
+//! together again, [`settle`] says how many items still lie on the board, and that each item was dealt as often
+//! as it was taken or lies there (`DealBalance`). So where none lies there, every item that was dealt was taken,
 //! as often, and no other.
 //!
-//! A piece that is dealt must belong to the board, and whoever takes one knows that it does. Which pieces belong is
-//! what a type says that stands for `PieceRule`: where that depends on a value of the program, as a scenario, the
+//! An item that is dealt must belong to the board, and whoever takes one knows that it does. Which items belong is
+//! what a type says that stands for `ItemRule`: where that depends on a value of the program, as a scenario, the
 //! type has a parameter whose ghost member is the value, and a call picks it (`std::marker::Brand`).
 //!
-//! Neither that a thread gets on, nor which of them gets a piece, is said by any clause.
+//! Neither that a thread gets on, nor which of them gets an item, is said by any clause.
 #![tactic(auto)]
 
 mod post;
@@ -22,6 +22,6 @@ mod site;
 
 pub use post::Post;
 pub use posts::{posts_at, seats_of};
-pub use rule::{Hand, PieceRule};
+pub use rule::{Hand, ItemRule};
 pub use seats::{Board, Seat, settle};
 pub use site::Site;

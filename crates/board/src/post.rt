@@ -5,7 +5,7 @@ ghost use Rattle.board.specs.Sites.{table_of};
 
 mod dealing;
 
-use crate::rule::PieceRule;
+use crate::rule::ItemRule;
 use crate::seats::{Board, Seat};
 use crate::site::Site;
 use std::marker::PhantomData;
@@ -13,7 +13,7 @@ use std::marker::PhantomData;
 /// A seat with one share, beside its board, which is the one that `J` stands for. Whatever a thread does at its
 /// post, what it gives back is such a post again, so that all posts together are all seats of the board.
 #[derive(Drop)]
-pub struct Post<'b, T, V, S: PieceRule<T, V>, J: Site> {
+pub struct Post<'b, T, V, S: ItemRule<T, V>, J: Site> {
     board: &'b Board<T, V, S>,
     seat: Seat<T, V>,
     site: PhantomData<J>,
@@ -22,7 +22,7 @@ pub struct Post<'b, T, V, S: PieceRule<T, V>, J: Site> {
     ghost one: { share seat ≡ 1 },
 }
 
-impl<'b, T: Drop, V, S: PieceRule<T, V>, J: Site> Post<'b, T, V, S, J> {
+impl<'b, T: Drop, V, S: ItemRule<T, V>, J: Site> Post<'b, T, V, S, J> {
     /// The post of this seat.
     pub(crate) fn new(board: &'b Board<T, V, S>, seat: Seat<T, V>) -> Self
         requires is_seat { IsSeatOf board.now seat }

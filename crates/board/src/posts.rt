@@ -5,14 +5,14 @@ ghost use Rattle.board.specs.Seats.{AreAllSeats};
 ghost use Rattle.board.specs.Sites.{table_of, AreSingleSeats};
 
 use crate::post::Post;
-use crate::rule::PieceRule;
+use crate::rule::ItemRule;
 use crate::seats::{Board, Seat};
 use crate::site::Site;
 use base::Memory;
 use std::alloc::Global;
 
 /// A post for each seat of the board, which has as many seats as a board may have, so one share each.
-pub fn posts_at<'b, T: Drop, V, S: PieceRule<T, V>, J: Site>(
+pub fn posts_at<'b, T: Drop, V, S: ItemRule<T, V>, J: Site>(
     alloc: Global,
     board: &'b Board<T, V, S>,
     mut seats: Vec<Seat<T, V>>,
@@ -33,7 +33,7 @@ pub fn posts_at<'b, T: Drop, V, S: PieceRule<T, V>, J: Site>(
 }
 
 /// The seats of these posts. Where they are as many as a board may have, they are all its seats.
-pub fn seats_of<'b, T: Drop, V, S: PieceRule<T, V>, J: Site>(
+pub fn seats_of<'b, T: Drop, V, S: ItemRule<T, V>, J: Site>(
     alloc: Global,
     board: &Board<T, V, S>,
     mut posts: Vec<Post<'b, T, V, S, J>>,

@@ -4,13 +4,13 @@ use crossbeam_queue::protocol::{Join, Lesson, Outcome, Protocol, Split};
 use std::collections::LinkedList;
 use std::marker::PhantomData;
 
-/// What the pieces `T` of a board are: what each stands for, and which belong to the board. A type stands for it
+/// What the items `T` of a board are: what each stands for, and which belong to the board. A type stands for it
 /// of which no value is made.
-pub trait PieceRule<T, V> {
-    /// What a piece stands for in the accounts of the seats.
+pub trait ItemRule<T, V> {
+    /// What an item stands for in the accounts of the seats.
     ghost stands_for: { T → V };
 
-    /// Whether a piece belongs to the board: asked of whoever deals one, and known to whoever takes one.
+    /// Whether an item belongs to the board: asked of whoever deals one, and known to whoever takes one.
     ghost belongs: { T → Type 0 };
 }
 
@@ -22,12 +22,12 @@ pub struct Hand<V> {
     pub taken: LinkedList<V>,
 }
 
-/// The rule that each piece dealt is taken once or lies on the board, and that what lies there belongs to it.
+/// The rule that each item dealt is taken once or lies on the board, and that what lies there belongs to it.
 pub(crate) struct Balanced<S> {
     setting: PhantomData<S>,
 }
 
-impl<T, V, S: PieceRule<T, V>> Protocol<T, Hand<V>> for Balanced<S> {
+impl<T, V, S: ItemRule<T, V>> Protocol<T, Hand<V>> for Balanced<S> {
     ghost use Rattle.std.specs.Prelude.{[]};
     ghost use Rattle.board.specs.Deal.{whole, hand, IsBalanced};
 
@@ -65,32 +65,32 @@ pub(crate) struct Deals<S> {
     setting: PhantomData<S>,
 }
 
-impl<T, V, S: PieceRule<T, V>> Outcome<T, Hand<V>> for Deals<S> {
+impl<T, V, S: ItemRule<T, V>> Outcome<T, Hand<V>> for Deals<S> {
     ghost use Rattle.std.specs.Prelude.{◌≡◌, ◌∷◌, [], ◌++◌};
     ghost use Rattle.board.specs.Deal.{hand};
 
     ghost then = { λ v x w. w ≡ hand v.share (v.dealt ++ S.stands_for x ∷ []) v.taken };
 }
 
-/// A pop adds to what was taken, and the piece belongs to the board.
+/// A pop adds to what was taken, and the item belongs to the board.
 pub(crate) struct Takes<S> {
     setting: PhantomData<S>,
 }
 
-impl<T, V, S: PieceRule<T, V>> Outcome<T, Hand<V>> for Takes<S> {
+impl<T, V, S: ItemRule<T, V>> Outcome<T, Hand<V>> for Takes<S> {
     ghost use Rattle.std.specs.Prelude.{◌≡◌, ◌∷◌, [], ◌++◌};
     ghost use Rattle.board.specs.Deal.{hand};
 
     ghost then = { λ v x w. (w ≡ hand v.share v.dealt (v.taken ++ S.stands_for x ∷ [])) × S.belongs x };
 }
 
-impl<T, V, S: PieceRule<T, V>> Lesson<T, Hand<V>> for Deals<S> {
+impl<T, V, S: ItemRule<T, V>> Lesson<T, Hand<V>> for Deals<S> {
     ghost use Rattle.board.specs.Deal.{Sees};
 
     ghost fact = { Sees S.stands_for S.belongs };
 }
 
-impl<T, V, S: PieceRule<T, V>> Lesson<T, Hand<V>> for Takes<S> {
+impl<T, V, S: ItemRule<T, V>> Lesson<T, Hand<V>> for Takes<S> {
     ghost use Rattle.board.specs.Deal.{Sees};
 
     ghost fact = { Sees S.stands_for S.belongs };

@@ -4,40 +4,40 @@ ghost use Rattle.std.specs.List.{All, flat_map};
 ghost use Rattle.board.specs.Deal.{DealBalance, SameBag, hand, whole};
 ghost use Rattle.board.specs.Seats.{IsSeatOf, IsSameSeat, AreAllSeats, HasEmptyBags, record_of, room, dealt, taken, share};
 
-use crate::rule::{Balanced, Cut, Deals, Hand, PieceRule, Takes, Together};
+use crate::rule::{Balanced, Cut, Deals, Hand, ItemRule, Takes, Together};
 use base::Memory;
 use crossbeam_queue::{Pass, RuledArrayQueue};
 use std::alloc::Global;
 use std::sync::Wait;
 
-/// A shared object on which pieces `T` lie until somebody takes them. Threads share it by reference.
+/// A shared object on which items `T` lie until somebody takes them. Threads share it by reference.
 #[derive(Drop)]
-pub struct Board<T, V, S: PieceRule<T, V>> {
+pub struct Board<T, V, S: ItemRule<T, V>> {
     queue: RuledArrayQueue<T, Hand<V>, Balanced<S>>,
 }
 
 /// A seat at a board, for one thread. It keeps account, in proofs alone, of what was dealt from it and of what it
-/// has taken: two bags of what the pieces stand for (`dealt` and `taken`). It has no bytes.
+/// has taken: two bags of what the items stand for (`dealt` and `taken`). It has no bytes.
 #[derive(Drop)]
 pub struct Seat<T, V> {
     pass: Pass<T, Hand<V>>,
 }
 
-impl<T: Drop, V, S: PieceRule<T, V>> Board<T, V, S> {
-    /// A board on which nothing lies, with room for so many pieces (1 to 64), and all its seats, as many as are
+impl<T: Drop, V, S: ItemRule<T, V>> Board<T, V, S> {
+    /// A board on which nothing lies, with room for so many items (1 to 64), and all its seats, as many as are
     /// asked for (1 to 65), with empty bags. `Err` where memory is refused.
     pub fn new(
         alloc: Global,
-        pieces: usize,
+        items: usize,
         seats: usize,
     ) -> Result<(Board<T, V, S>, Vec<Seat<T, V>>), Memory>
-        requires pieces { (1 ≤ pieces) × (pieces ≤ 64) }
+        requires items { (1 ≤ items) × (items ≤ 64) }
         requires seats { (1 ≤ seats) × (seats ≤ 65) }
-        ensures room { IfOk result (λ made. room made.0 ≡ pieces) }
+        ensures room { IfOk result (λ made. room made.0 ≡ items) }
         ensures count { IfOk result (λ made. length made.1.items ≡ seats) }
         ensures seats { IfOk result (λ made. AreAllSeats made.0 made.1.items × All HasEmptyBags made.1.items) }
     {
-        let Ok((queue, pass)) = RuledArrayQueue::ruled(alloc, pieces) else {
+        let Ok((queue, pass)) = RuledArrayQueue::ruled(alloc, items) else {
             return Err(Memory);
         };
         let board = Board { queue };
@@ -71,36 +71,36 @@ impl<T: Drop, V, S: PieceRule<T, V>> Board<T, V, S> {
         }
     }
 
-    /// Puts a piece that belongs to the board there, behind all that lie there: `Ok` adds what it stands for to
-    /// what was dealt from the seat. `Err` hands that very piece back and changes nothing: the board was full at
+    /// Puts an item that belongs to the board there, behind all that lie there: `Ok` adds what it stands for to
+    /// what was dealt from the seat. `Err` hands that very item back and changes nothing: the board was full at
     /// one moment of the call, which is known for sure where the board has no other seat.
-    pub fn deal<R: Wait>(&self, rt: &R, seat: &mut Seat<T, V>, piece: T) -> Result<(), T>
+    pub fn deal<R: Wait>(&self, rt: &R, seat: &mut Seat<T, V>, item: T) -> Result<(), T>
         requires seat { IsSeatOf self.now seat.old }
-        requires belongs { S.belongs piece }
+        requires belongs { S.belongs item }
         ensures seat { IsSameSeat seat.old seat.new }
         ensures full { IfErr result (λ _. share seat.old ≡ whole → (lying : List V) × (length lying ≡ room self.now) × DealBalance (dealt seat.old) (taken seat.old) lying) }
-        ensures piece { MatchResult result (λ _. record_of seat.new ≡ hand (share seat.old) (dealt seat.old ++ S.stands_for piece ∷ []) (taken seat.old)) (λ back. (back ≡ piece) × (record_of seat.new ≡ record_of seat.old)) }
+        ensures item { MatchResult result (λ _. record_of seat.new ≡ hand (share seat.old) (dealt seat.old ++ S.stands_for item ∷ []) (taken seat.old)) (λ back. (back ≡ item) × (record_of seat.new ≡ record_of seat.old)) }
     {
-        self.queue.push_as::<Deals<S>, R>(rt, &mut seat.pass, piece)
+        self.queue.push_as::<Deals<S>, R>(rt, &mut seat.pass, item)
     }
 
-    /// Takes the piece that has lain on the board longest: `Some` adds what it stands for to what the seat has
-    /// taken, and the piece belongs to the board. `None` changes nothing: nothing lay there at one moment of the
+    /// Takes the item that has lain on the board longest: `Some` adds what it stands for to what the seat has
+    /// taken, and the item belongs to the board. `None` changes nothing: nothing lay there at one moment of the
     /// call, which is known for sure where the board has no other seat.
     pub fn take<R: Wait>(&self, rt: &R, seat: &mut Seat<T, V>) -> Option<T>
         requires seat { IsSeatOf self.now seat.old }
         ensures seat { IsSameSeat seat.old seat.new }
         ensures empty { IfNone result (share seat.old ≡ whole → DealBalance (dealt seat.old) (taken seat.old) []) }
-        ensures piece { MatchOption result (record_of seat.new ≡ record_of seat.old) (λ piece. (record_of seat.new ≡ hand (share seat.old) (dealt seat.old) (taken seat.old ++ S.stands_for piece ∷ [])) × S.belongs piece) }
+        ensures item { MatchOption result (record_of seat.new ≡ record_of seat.old) (λ item. (record_of seat.new ≡ hand (share seat.old) (dealt seat.old) (taken seat.old ++ S.stands_for item ∷ [])) × S.belongs item) }
     {
         self.queue.pop_as::<Takes<S>, R>(rt, &mut seat.pass)
     }
 }
 
-/// Settles a board, given all its seats: how many pieces still lie there, which go with the board. Over all seats
-/// each piece was dealt as often as it was taken or lies there (`DealBalance`): with 0, every piece that was dealt
+/// Settles a board, given all its seats: how many items still lie there, which go with the board. Over all seats
+/// each item was dealt as often as it was taken or lies there (`DealBalance`): with 0, every item that was dealt
 /// was taken, as often, and no other.
-pub fn settle<T: Drop, V, S: PieceRule<T, V>, R: Wait>(
+pub fn settle<T: Drop, V, S: ItemRule<T, V>, R: Wait>(
     rt: &R,
     board: Board<T, V, S>,
     seats: Vec<Seat<T, V>>,
@@ -114,7 +114,7 @@ pub fn settle<T: Drop, V, S: PieceRule<T, V>, R: Wait>(
 }
 
 // The seat that knows what all seats did.
-fn gather<T: Drop, V, S: PieceRule<T, V>>(
+fn gather<T: Drop, V, S: ItemRule<T, V>>(
     board: &Board<T, V, S>,
     mut seats: Vec<Seat<T, V>>,
 ) -> Seat<T, V>

@@ -24,8 +24,8 @@ pub fn push_causes(text: &mut String, run: &Run) -> Result<(), AllocError>
 {
     let deaths = run.series.deaths();
     let count = deaths.count();
-    let told = deaths.told();
-    push_where(text, run, told, count)
+    let firsts = deaths.firsts();
+    push_where(text, run, firsts, count)
 }
 
 /// Appends the figure of these deaths, where there are any.

@@ -13,7 +13,7 @@ pub(crate) fn sent(tallies: &Tallies, version: Version) -> u64
     let kinds = message_kinds(version);
     let mut sent = 0;
     for kind in kinds {
-        sent += tallies.told(*kind);
+        sent += tallies.rows_of(*kind);
     }
     sent
 }

@@ -89,7 +89,7 @@ pub fn rounds_follow_each_other()
 /// A part begins as its part of the first round's world, is consistent wherever a round begins, and its window
 /// there is that of the round, of which it is to tell; each part has one in each round. A counter that its
 /// window wears out the run wears out.
-pub fn a_part_tells_its_window()
+pub fn a_part_reports_its_window()
     ensures opening { (plan : Plan) (part : ℕ) (w : Cluster) (first : Option ℕ) → IsWorldBefore plan.setup plan.since w
         → IsFirstMoment w first → BeginsRound plan part 0 first (part_of (is_in plan.division part) w) }
     ensures some { (plan : Plan) (part round : ℕ) → IsPlan plan

@@ -20,7 +20,7 @@ pub use faults::first_fault;
 pub use firsts::{first_moment_of, lesser_moment};
 pub use gate::{Entered, Gate, OpenGate, enter};
 pub use laws::{
-    a_part_goes_by_its_messages, a_part_tells_its_window, a_run_has_lasted, lots_make_the_run,
+    a_part_goes_by_its_messages, a_part_reports_its_window, a_run_has_lasted, lots_make_the_run,
     rounds_follow_each_other, schedules_lead_to_the_world_before_their_bound,
     there_is_one_world_before_a_moment,
 };

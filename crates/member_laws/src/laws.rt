@@ -134,7 +134,7 @@ pub fn what_is_off_is_not_done()
 
 /// What a welcome holds, and a push and a pull, is told in the sender's own name: the sender is the
 /// accuser of each entry. The entries come in the order of the members' numbers, one for a member.
-pub fn a_whole_table_is_told_in_ones_own_name()
+pub fn a_whole_table_is_sent_in_ones_own_name()
     ensures accuser { (me incarnation : ℕ) (table : Known)
         → All (λ (u : Update). u.accuser ≡ me) (whole_table me incarnation table) }
     ensures order { (me incarnation : ℕ) (table : Known)
@@ -184,7 +184,7 @@ pub fn a_run_names_members()
 {}
 
 /// No row of a run tells of a mechanism of Lifeguard that is switched off.
-pub fn a_run_tells_only_of_what_is_on()
+pub fn a_run_has_rows_only_of_what_is_on()
     ensures { (s : Setup) (keys : List Key) (rows : List Row) (w : Cluster) → IsSound s
         → Run (step s) s.end (opening s) keys rows w → All (λ (row : Row). IsOn s row.what) rows }
 {}

@@ -5,10 +5,10 @@ mod laws;
 
 pub use laws::{
     a_beat_ends_a_probe_at_its_deadline, a_confirmed_member_stays_so,
-    a_higher_number_alone_revives, a_run_keeps_moments_in_range, a_run_keeps_states_consistent,
-    a_run_lowers_no_incarnation, a_run_names_members, a_run_revives_by_higher_numbers_alone,
-    a_run_revives_nobody, a_run_tells_only_of_what_is_on, a_silent_member_keeps_silent,
-    a_waiting_member_is_as_opened, a_whole_table_is_told_in_ones_own_name,
+    a_higher_number_alone_revives, a_run_has_rows_only_of_what_is_on, a_run_keeps_moments_in_range,
+    a_run_keeps_states_consistent, a_run_lowers_no_incarnation, a_run_names_members,
+    a_run_revives_by_higher_numbers_alone, a_run_revives_nobody, a_silent_member_keeps_silent,
+    a_waiting_member_is_as_opened, a_whole_table_is_sent_in_ones_own_name,
     an_incarnation_rises_to_refute_alone, health_stays_within_its_ceiling, states_stay_consistent,
     what_is_off_is_not_done, where_nobody_leaves_runs_are_plain,
 };

@@ -13,14 +13,14 @@ use Rattle.atomic_table.proofs.send_lease.SendLease.TheSendSync as lease
 use Rattle.board.specs.contracts.seats.Board as board
 use Rattle.board.specs.contracts.seats.Seat as seat
 use Rattle.board.specs.contracts.post.Post as post
-use Rattle.board.specs.declared.rule.PieceRule as piece_rule
+use Rattle.board.specs.declared.rule.ItemRule as item_rule
 use Rattle.board.specs.declared.site.Site as site
 use Rattle.lookahead_windows.proofs.Sent.{declared_send, scenario_sync, links_sync, part_send, event_send, row_send, division_sync}
 use Rattle.lookahead_windows.specs.contracts.course.Rounds as rounds
 use Rattle.parallel_run.specs.declared.of_run.OfRun as of_run
 use Rattle.parallel_run.specs.contracts.event_count.EventCount as bell
 use Rattle.parallel_run.specs.contracts.window_message.WindowMessage as word
-use Rattle.parallel_run.specs.contracts.window_message.Told as told
+use Rattle.parallel_run.specs.contracts.window_message.PeerMessage as told
 use Rattle.parallel_run.specs.contracts.row_batch.RowBatch as lot
 use Rattle.parallel_run.specs.contracts.row_batch.Delivery as delivery
 use Rattle.parallel_run.specs.contracts.ring.Sender as sender
@@ -29,7 +29,7 @@ use Rattle.parallel_run.specs.contracts.peers.Peer as peer
 use Rattle.parallel_run.specs.contracts.rows.Gathered as gathered
 use Rattle.parallel_run.specs.contracts.connections.Connections as lines
 use Rattle.parallel_run.specs.contracts.process.Process as process
-use Rattle.parallel_run.specs.contracts.piece.Piece as piece
+use Rattle.parallel_run.specs.contracts.board_item.BoardItem as board_item
 use Rattle.parallel_run.specs.contracts.crew.Crew as crew
 
 pub bell_sync : IsSync bell.the_row
@@ -71,19 +71,19 @@ process_send : (β : NamedLft) (K Q : RattleType) (k : of_run.Ghosts K.Denot) �
 process_send β K Q k s = search (part_send, gathered_send, lines_send, crosses, sendable) depth 60 fits 20000
 
 -- what lies on the board of a run may go to another thread, where its queue may
-pub piece_send : (β : NamedLft) (K Q : RattleType) (k : of_run.Ghosts K.Denot) → IsSend Q → IsSend (piece.the_row β K Q k)
-piece_send β K Q k s = search (process_send, lines_send, crosses, sendable) depth 60 fits 20000
+pub item_send : (β : NamedLft) (K Q : RattleType) (k : of_run.Ghosts K.Denot) → IsSend Q → IsSend (board_item.the_row β K Q k)
+item_send β K Q k s = search (process_send, lines_send, crosses, sendable) depth 60 fits 20000
 
 -- ---- posts
 
-board_sync : (T V S : RattleType) (g : piece_rule.Ghosts S.Denot T.Denot V.Denot) → IsSend T → IsSync (board.the_row T V S g)
+board_sync : (T V S : RattleType) (g : item_rule.Ghosts S.Denot T.Denot V.Denot) → IsSend T → IsSync (board.the_row T V S g)
 board_sync T V S g s = search (lease.the_sync, shared.the_sync, heap.the_sync, crosses, sendable) depth 60 fits 20000
 
 seat_send : (T V : RattleType) → IsSend T → IsSend (seat.the_field T V).row
 seat_send T V s = search (pass.the_send, crosses, sendable) depth 60 fits 20000
 
--- a post may go where its pieces may
-pub post_send : (β : NamedLft) (T V S P : RattleType) (p : site.Ghosts P.Denot) (g : piece_rule.Ghosts S.Denot T.Denot V.Denot) → IsSend T → IsSend (post.the_row β T V S P p g)
+-- a post may go where its items may
+pub post_send : (β : NamedLft) (T V S P : RattleType) (p : site.Ghosts P.Denot) (g : item_rule.Ghosts S.Denot T.Denot V.Denot) → IsSend T → IsSend (post.the_row β T V S P p g)
 post_send β T V S P p g s =
     let all : AllSend (shape (post.the_type β T V S P p g)).fields = (search (board_sync, sendable), (seat_send T V s, (search sendable, tt))) in
     declared_send (post.the_type β T V S P p g) all

@@ -7,7 +7,7 @@ use Rattle.member_laws.specs.Runs.{CounterOverflows}
 use Rattle.lookahead_windows.specs.Messages.{IsMessage}
 use Rattle.lookahead_windows.specs.Lots.{IsLot, HasLasted}
 use Rattle.parallel_run.specs.declared.window_message.WindowMessage.{WindowMessage}
-use Rattle.parallel_run.specs.declared.window_message.Told.{Told}
+use Rattle.parallel_run.specs.declared.window_message.PeerMessage.{PeerMessage}
 use Rattle.parallel_run.specs.declared.row_batch.RowBatch.{RowBatch}
 use Rattle.parallel_run.specs.declared.row_batch.Delivery.{Delivery}
 use Rattle.lookahead_windows.specs.Basis.{Basis, division_of, plan_of}
@@ -21,9 +21,9 @@ abbrev pub IsWord : Basis → WindowMessage → Type 0
 IsWord basis w = IsMessage (plan_of basis) w.from w.to w.round (map pair_of w.events.items) w.least
 
 -- one worker may tell this another
-abbrev pub IsTold : Basis → Told → Type 0
-IsTold basis (Told.WindowMessage w) = IsWord basis w
-IsTold basis (Told.Ended f) = MayEndBy basis f
+abbrev pub IsTold : Basis → PeerMessage → Type 0
+IsTold basis (PeerMessage.WindowMessage w) = IsWord basis w
+IsTold basis (PeerMessage.Ended f) = MayEndBy basis f
 
 -- The lot's rows are those that the run has there, and where it says so it goes up to the moment after the end, to which its part
 -- has come.
@@ -37,7 +37,7 @@ IsDelivered basis (Delivery.RowBatch lot) = IsLotOfRun basis lot
 IsDelivered basis (Delivery.Ended f) = MayEndBy basis f
 
 -- what a ring allows, of whatever run it is: it has no memory of what went before
-abbrev pub AllowsTold : Option Basis → List Told → Told → Type 0
+abbrev pub AllowsTold : Option Basis → List PeerMessage → PeerMessage → Type 0
 AllowsTold None before told = Unit {0}
 AllowsTold (Some basis) before told = IsTold basis told
 

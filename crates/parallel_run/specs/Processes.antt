@@ -8,7 +8,7 @@ use Rattle.lookahead_windows.specs.Starts.{HasRunTo}
 use Rattle.lookahead_windows.specs.Basis.{Basis, plan_of}
 use Rattle.parallel_run.specs.declared.process.Process.{Process}
 use Rattle.parallel_run.specs.declared.process.Waiting.{Waiting}
-use Rattle.parallel_run.specs.declared.piece.Piece.{Piece}
+use Rattle.parallel_run.specs.declared.board_item.BoardItem.{BoardItem}
 use Rattle.parallel_run.specs.Peers.{AreLines}
 use Rattle.parallel_run.specs.Windows.{AfterWindow, Begins, GathersUpTo, GathersSoFar}
 
@@ -31,12 +31,12 @@ module _ {K Q : Type 0} (set : Q → FinMap key_cmp Event) (basis : Basis) where
     pub gathered : GathersUpTo basis process.lines.number to process.gathered
     pub lines : AreLines basis process.lines
 
--- a piece stands for the number of its part
-abbrev pub number_of : {K Q : Type 0} → Piece K Q → ℕ
-number_of (Piece.Process process) = process.lines.number
-number_of (Piece.Ended lines) = lines.number
+-- an item stands for the number of its part
+abbrev pub number_of : {K Q : Type 0} → BoardItem K Q → ℕ
+number_of (BoardItem.Process process) = process.lines.number
+number_of (BoardItem.Ended lines) = lines.number
 
 -- a process belongs to the board of a run where it is the run's as its round begins
-abbrev pub Belongs : {K Q : Type 0} (set : Q → FinMap key_cmp Event) (given : Option Basis) → Piece K Q → Type 0
-Belongs set given (Piece.Process process) = (basis : Basis) → given ≡ Some basis → IsReady set basis process
-Belongs set given (Piece.Ended lines) = Unit {0}
+abbrev pub Belongs : {K Q : Type 0} (set : Q → FinMap key_cmp Event) (given : Option Basis) → BoardItem K Q → Type 0
+Belongs set given (BoardItem.Process process) = (basis : Basis) → given ≡ Some basis → IsReady set basis process
+Belongs set given (BoardItem.Ended lines) = Unit {0}

@@ -6,8 +6,8 @@ ghost use Rattle.board.specs.Seats.{AreAllSeats, dealt, taken};
 ghost use Rattle.board.specs.Sites.{AreSingleSeats};
 ghost use Rattle.parallel_run.specs.Closing.{IsUnsettled, TakesAll, StillKeeps};
 
+use crate::board_item::{RunBoard, RunPost, RunSeat};
 use crate::of_run::OfRun;
-use crate::piece::{RunBoard, RunPost, RunSeat};
 use base::limits::MOST_WORKERS;
 use base::{Fault, Memory};
 use board::{Site, settle};

@@ -6,8 +6,8 @@ ghost use Rattle.parallel_run.specs.Processes.{Belongs, IsReady, IsWaiting};
 ghost use Rattle.parallel_run.specs.Holding.{Holds};
 ghost use Rattle.parallel_run.specs.Messages.{MayEndBy};
 
+use crate::board_item::{BoardItem, RunPost};
 use crate::of_run::OfRun;
-use crate::piece::{Piece, RunPost};
 use crate::process::{Counts, Process, Waiting};
 use crate::spin_policy::SpinPolicy;
 use base::{Fault, Memory};
@@ -59,8 +59,8 @@ impl<'b, K: OfRun, Q: EventQueue<Event> + Drop> Hold<'b, K, Q> {
         let _ = rounds;
         while self.ready.len() < many {
             match post.take(rt) {
-                Some(Piece::Process(process)) => keep(&mut self.ready, process)?,
-                Some(Piece::Ended(_)) => return Err(Fault::ThreadLost),
+                Some(BoardItem::Process(process)) => keep(&mut self.ready, process)?,
+                Some(BoardItem::Ended(_)) => return Err(Fault::ThreadLost),
                 None => return Ok(false),
             }
         }
@@ -85,7 +85,7 @@ impl<'b, K: OfRun, Q: EventQueue<Event> + Drop> Hold<'b, K, Q> {
         let _ = rounds;
         while self.ready.len() > kept {
             if let Some(process) = self.ready.pop() {
-                deal(rt, post, Piece::Process(process))?;
+                deal(rt, post, BoardItem::Process(process))?;
             }
         }
         Ok(())
@@ -208,7 +208,7 @@ fn run_process<'p, 'b, K: OfRun, Q: EventQueue<Event> + Drop, J: Site, G: Gate>(
 {
     let Some(from) = process.pending(rounds.end) else {
         let lines = process.end(rt, rounds)?;
-        deal(rt, post, Piece::Ended(lines))?;
+        deal(rt, post, BoardItem::Ended(lines))?;
         return Ok(None);
     };
     let bound = process.bound(from, rounds);
@@ -217,16 +217,16 @@ fn run_process<'p, 'b, K: OfRun, Q: EventQueue<Event> + Drop, J: Site, G: Gate>(
     Ok(Some(waiting))
 }
 
-/// Deals a piece onto the board. `ThreadLost` where it comes back.
+/// Deals an item onto the board. `ThreadLost` where it comes back.
 pub(crate) fn deal<'p, 'b, K: OfRun, Q: EventQueue<Event> + Drop, J: Site>(
     rt: &impl Wait,
     post: &mut RunPost<'p, 'b, K, Q, J>,
-    piece: Piece<'b, K, Q>,
+    item: BoardItem<'b, K, Q>,
 ) -> Result<(), Fault>
-    requires belongs { Belongs Q.set K.basis piece }
+    requires belongs { Belongs Q.set K.basis item }
     ensures fault { IfErr result (λ fault. fault ≡ Fault.ThreadLost) }
 {
-    match post.deal(rt, piece) {
+    match post.deal(rt, item) {
         Ok(()) => Ok(()),
         Err(_) => Err(Fault::ThreadLost),
     }

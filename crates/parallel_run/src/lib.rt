@@ -4,6 +4,7 @@
 #![tactic(auto)]
 
 mod batches;
+mod board_item;
 mod closing;
 mod connections;
 mod crew;
@@ -14,7 +15,6 @@ mod of_run;
 mod opening;
 mod pace;
 mod peers;
-mod piece;
 mod process;
 mod protocols;
 mod ring;

@@ -12,7 +12,7 @@ use crate::of_run::OfRun;
 use crate::protocols::Words;
 use crate::ring::{Sender, Taker, ring_between};
 use crate::spin_policy::SpinPolicy;
-use crate::window_message::{Told, WindowMessage};
+use crate::window_message::{PeerMessage, WindowMessage};
 use base::{Fault, Memory, Moment};
 use member::Event;
 use std::alloc::Global;
@@ -28,8 +28,8 @@ const ROOM: usize = 4;
 pub(crate) struct Peer<'b, K: OfRun> {
     /// The part of the other.
     pub(crate) number: usize,
-    to: Sender<'b, Told, Words<K>>,
-    from: Taker<'b, Told, Words<K>>,
+    to: Sender<'b, PeerMessage, Words<K>>,
+    from: Taker<'b, PeerMessage, Words<K>>,
     // what the other sent last: it goes back, so that who took its memory frees it
     spent: Vec<Event>,
 }
@@ -119,7 +119,7 @@ impl<'b, K: OfRun> Peer<'b, K> {
             slept: telling.slept,
             spent: mem::replace(&mut self.spent, Vec::new(alloc)),
         };
-        self.to.send_at_once(Told::WindowMessage(word))
+        self.to.send_at_once(PeerMessage::WindowMessage(word))
     }
 
     /// Keeps what the other process sent until the next word to it.
@@ -134,7 +134,7 @@ impl<'b, K: OfRun> Peer<'b, K> {
         requires { (basis : Basis) → K.basis ≡ Some basis → MayEndBy basis fault }
         ensures number { self.new.number ≡ self.old.number }
     {
-        let _ = self.to.send_at_once(Told::Ended(fault));
+        let _ = self.to.send_at_once(PeerMessage::Ended(fault));
     }
 
     /// What the other process tells of the round.
@@ -153,14 +153,14 @@ impl<'b, K: OfRun> Peer<'b, K> {
         ensures fault { IfErr result (λ fault. (basis : Basis) → K.basis ≡ Some basis → MayEndBy basis fault) }
     {
         match self.from.take(rt, patience) {
-            Some(Told::WindowMessage(word)) => {
+            Some(PeerMessage::WindowMessage(word)) => {
                 if word.from == self.number && word.to == own && word.round == round {
                     Ok(word)
                 } else {
                     Err(Fault::ThreadLost)
                 }
             }
-            Some(Told::Ended(fault)) => Err(fault),
+            Some(PeerMessage::Ended(fault)) => Err(fault),
             None => Err(Fault::ThreadLost),
         }
     }

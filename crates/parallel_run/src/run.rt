@@ -19,13 +19,13 @@ ghost use Rattle.parallel_run.specs.Closing.{TakesAll};
 ghost use Rattle.parallel_run.specs.Processes.{IsReady};
 ghost use Rattle.parallel_run.specs.Starting.{MayStart};
 
+use crate::board_item::{BoardItem, RunBoard, RunPost, RunSeat};
 use crate::closing::{SEATS, closed, no_seats};
 use crate::crew::Crew;
 use crate::event_count::EventCount;
 use crate::hold::deal;
 use crate::of_run::OfRun;
 use crate::opening::{bells_of, processes_of};
-use crate::piece::{Piece, RunBoard, RunPost, RunSeat};
 use crate::process::Process;
 use crate::threads::{Hands, run_threads};
 use crate::writer::Writer;
@@ -330,7 +330,7 @@ fn deal_all<'p, 'b, K: OfRun, Q: EventQueue<Event> + Drop, J: Site>(
 {
     let _ = rounds;
     for process in processes {
-        deal(rt, post, Piece::Process(process))?;
+        deal(rt, post, BoardItem::Process(process))?;
     }
     Ok(())
 }

@@ -7,10 +7,10 @@ ghost use Rattle.lookahead_windows.specs.Basis.{basis_of, GoBy};
 ghost use Rattle.lookahead_windows.specs.Bounds.{AwaitsRounds};
 ghost use Rattle.parallel_run.specs.Starting.{MayStart};
 
+use crate::board_item::RunPost;
 use crate::closing::take_back;
 use crate::crew::Crew;
 use crate::of_run::OfRun;
-use crate::piece::RunPost;
 use crate::worker::{Place, clear, work};
 use crate::writer::{Writer, write_all};
 use base::{Fault, Memory};

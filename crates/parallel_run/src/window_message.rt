@@ -26,7 +26,7 @@ pub struct WindowMessage {
 
 /// What goes from process to process.
 #[derive(Drop)]
-pub enum Told {
+pub enum PeerMessage {
     WindowMessage(WindowMessage),
     /// The process has ended, since its worker found this fault or was told of it.
     Ended(Fault),

@@ -5,11 +5,11 @@ ghost use Rattle.lookahead_windows.specs.Bounds.{AwaitsRounds};
 ghost use Rattle.parallel_run.specs.Holding.{Holds};
 ghost use Rattle.parallel_run.specs.Messages.{MayEndBy};
 
+use crate::board_item::{BoardItem, RunPost};
 use crate::crew::Crew;
 use crate::hold::Hold;
 use crate::of_run::OfRun;
 use crate::pace::{Pace, Solo};
-use crate::piece::{Piece, RunPost};
 use crate::spin_policy::SpinPolicy;
 use base::Fault;
 use board::Site;
@@ -73,11 +73,11 @@ pub(crate) fn clear<'p, 'b, K: OfRun, Q: EventQueue<Event> + Drop, J: Site>(
     let _ = rounds;
     for _ in rt.forever() {
         match post.take(rt) {
-            Some(Piece::Process(process)) => {
+            Some(BoardItem::Process(process)) => {
                 let mut process = process;
                 process.lines.tell_end(rt, fault);
             }
-            Some(Piece::Ended(_lines)) => {}
+            Some(BoardItem::Ended(_lines)) => {}
             None => return,
         }
     }

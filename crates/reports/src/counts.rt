@@ -50,7 +50,7 @@ impl Counts {
     }
 
     /// How many rows tell of this.
-    pub(crate) fn told(&self, kind: What) -> u64
+    pub(crate) fn rows_of(&self, kind: What) -> u64
         ensures { result ≡ slice_index self.now.told (count_place kind) }
     {
         self.told[count_place(kind)]

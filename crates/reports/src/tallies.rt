@@ -103,11 +103,11 @@ impl Tallies {
         self.counts.rows
     }
 
-    /// How many rows tell of this. Of a kind of message, each sending has one.
-    pub fn told(&self, kind: What) -> u64
+    /// How many rows are of this kind. A message has one row for each time it is sent.
+    pub fn rows_of(&self, kind: What) -> u64
         ensures { result ≡ count_of kind self.now }
     {
-        self.counts.told(kind)
+        self.counts.rows_of(kind)
     }
 
     /// How many sendings of this kind were lost.

@@ -218,9 +218,9 @@ pub(crate) fn push_revived(
 pub(crate) fn push_protocol(text: &mut String, tallies: &Tallies) -> Result<(), AllocError>
     ensures { OnOk result (string_bytes text.new ≡ string_bytes text.old ++ protocol_lines tallies.now) }
 {
-    push_count(text, "accuse", tallies.told(What::Accuse))?;
-    push_count(text, "refute", tallies.told(What::Refute))?;
-    push_count(text, "fail", tallies.told(What::Fail))?;
+    push_count(text, "accuse", tallies.rows_of(What::Accuse))?;
+    push_count(text, "refute", tallies.rows_of(What::Refute))?;
+    push_count(text, "fail", tallies.rows_of(What::Fail))?;
     push_count(text, "health", tallies.worst_health())
 }
 
@@ -230,7 +230,7 @@ fn push_message(text: &mut String, kind: What, tallies: &Tallies) -> Result<(), 
     ensures { OnOk result (string_bytes text.new ≡ string_bytes text.old ++ message_line tallies.now kind) }
 {
     let word = kind.word();
-    let sent = tallies.told(kind);
+    let sent = tallies.rows_of(kind);
     let lost = tallies.lost(kind);
     writeln!(text, "sent {word} {sent} lost {lost}")
 }

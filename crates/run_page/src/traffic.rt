@@ -55,7 +55,7 @@ fn sent(run: &Run) -> u64
     let mut all: u64 = 0;
     let kinds = kinds(run);
     for kind in kinds {
-        all = all.saturating_add(run.tallies.told(*kind));
+        all = all.saturating_add(run.tallies.rows_of(*kind));
     }
     all
 }
@@ -159,7 +159,7 @@ fn push_entries(text: &mut String, run: &Run, kinds: &[What]) -> Result<(), Allo
 fn push_kind(text: &mut String, run: &Run, kind: What) -> Result<(), AllocError>
     ensures { OnOk result (string_bytes text.new ≡ string_bytes text.old ++ kind_entry run.now.tallies.now kind) }
 {
-    let told = run.tallies.told(kind);
+    let told = run.tallies.rows_of(kind);
     if told > 0 {
         return push_counted(text, class_of(kind), kind.word(), told);
     }

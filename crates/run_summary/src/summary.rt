@@ -296,8 +296,8 @@ fn push_last_of(text: &mut String, tallies: &Tallies) -> Result<(), AllocError>
     push_last(
         text,
         false_positive_count(tallies, What::Suspect) as u64,
-        tallies.told(What::Refute),
-        tallies.told(What::Fail),
+        tallies.rows_of(What::Refute),
+        tallies.rows_of(What::Fail),
         tallies.worst_health(),
         tallies.rows(),
     )

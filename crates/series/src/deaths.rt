@@ -84,7 +84,7 @@ impl Deaths {
     }
 
     /// The first of them, in their order.
-    pub fn told(&self) -> &[Option<Death>]
+    pub fn firsts(&self) -> &[Option<Death>]
         ensures { result.now ≡ self.now.told.items }
     {
         self.told.as_slice()

@@ -1,8 +1,8 @@
-//! A board of three pieces at one seat.
+//! A board of three items at one seat.
 ghost use Rattle.std.specs.Prelude.{◌<◌};
 ghost use Rattle.board.specs.Seats.{IsSeatOf, IsSameSeat};
 
-use board::{Board, PieceRule, Seat, settle};
+use board::{Board, ItemRule, Seat, settle};
 use std::process::Abort;
 use std::sync::Wait;
 use std::test::Fail;
@@ -10,7 +10,7 @@ use std::test::Fail;
 // Numbers below 100, each of which stands for itself.
 struct Small;
 
-impl PieceRule<u64, u64> for Small {
+impl ItemRule<u64, u64> for Small {
     ghost use Rattle.std.specs.Prelude.{◌<◌};
 
     ghost stands_for = { λ x. x };
@@ -20,7 +20,7 @@ impl PieceRule<u64, u64> for Small {
 
 type Numbers = Board<u64, u64, Small>;
 
-// Three pieces find room, and a fourth comes back.
+// Three items find room, and a fourth comes back.
 fn fill<R: Abort + Wait>(rt: &R, board: &Numbers, seat: &mut Seat<u64, u64>)
     requires { IsSeatOf board.now seat.old }
     ensures { IsSameSeat seat.old seat.new }

@@ -28,7 +28,7 @@ pub fn version_2_keeps_documents()
 
 /// A text of version 1 that is given `version = 2` has the same trace, and in its report the line that
 /// no bye was sent more.
-pub fn a_text_in_version_2_tells_a_line_more()
+pub fn a_text_in_version_2_has_a_line_more()
     ensures { (bytes changed : List ℕ) (tree : Data) (s : Setup) (rows : List Row) → tree_of bytes ≡ Some tree → tree_of changed ≡ Some (given_version_2 tree)
         → s.version ≡ One → verdict bytes ≡ Ok s → IsRunOf s rows
         → (verdict changed ≡ Ok (in_version_2 s)) × IsRunOf (in_version_2 s) rows × (trace_text (in_version_2 s) rows ≡ trace_text s rows)

@@ -10,7 +10,7 @@ len_as-requires-clause-rule g c = sees _ _ _ _
 whole_balance : goal.returns-clause-balance
 whole_balance g c =
     let all = c.gather-gathered.ensures in
-    counted g.S.PieceRule.stands_for g.S.PieceRule.belongs c.len_as.result (record_of c.gather-gathered.result) (flat_map dealt c.args.seats.items) (flat_map taken c.args.seats.items)
+    counted g.S.ItemRule.stands_for g.S.ItemRule.belongs c.len_as.result (record_of c.gather-gathered.result) (flat_map dealt c.args.seats.items) (flat_map taken c.args.seats.items)
     all.seat.1 all.dealt all.taken c.len_as.ensures.rule.1
 
 pub returns-clause-balance : goal.returns-clause-balance

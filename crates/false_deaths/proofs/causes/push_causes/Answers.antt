@@ -9,7 +9,7 @@ use Rattle.false_deaths.proofs.causes.push_causes.Goals as goal
 pub push_where-requires-clause-those : goal.push_where-requires-clause-those
 push_where-requires-clause-those c =
     let rows = c.args.run.now.tallies.now in
-    subst (λ list. AreToldOf list c.count-count.result rows) (sym (c.told-told.ensures ∙ ap (λ (d : Deaths). d.told.items) c.deaths-deaths.ensures))
+    subst (λ list. AreToldOf list c.count-count.result rows) (sym (c.firsts-firsts.ensures ∙ ap (λ (d : Deaths). d.told.items) c.deaths-deaths.ensures))
     (subst (λ n. AreToldOf c.args.run.now.series.now.deaths.told.items n rows) (sym (c.count-count.ensures ∙ ap (λ (d : Deaths). d.count) c.deaths-deaths.ensures)) c.requires.told.gathered.deaths.told)
 
 pub returns : goal.returns

@@ -1,7 +1,7 @@
 use denote.Param.Send.{sendable}
 use Rattle.std.proofs.Crossing.{crosses}
 use Rattle.std.proofs.alloc.Global.TheSendSync as heap
-use Rattle.parallel_run.proofs.SentWorkers.{piece_send, post_send, crew_sync, rounds_sync}
+use Rattle.parallel_run.proofs.SentWorkers.{item_send, post_send, crew_sync, rounds_sync}
 use Rattle.parallel_run.proofs.threads.start_workers.Goals as goal
 
 pub spawn-thread-requires-send-F : goal.spawn-thread-requires-send-F
@@ -12,7 +12,7 @@ spawn-thread-requires-send-F g c κs within =
     let shared_run = c.type_bounds.sync-K in
     let of_gate = c.type_bounds.sync-G in
     let of_rt = c.type_bounds.sync-R in
-    search (post_send, piece_send, rounds_sync, crew_sync, heap.the_send, crosses, sendable) depth 80 fits 60000
+    search (post_send, item_send, rounds_sync, crew_sync, heap.the_send, crosses, sendable) depth 80 fits 60000
 
 pub spawn-thread-requires-send-T : goal.spawn-thread-requires-send-T
-spawn-thread-requires-send-T g c κs within = search (post_send, piece_send, crosses, sendable) depth 40 fits 20000
+spawn-thread-requires-send-T g c κs within = search (post_send, item_send, crosses, sendable) depth 40 fits 20000

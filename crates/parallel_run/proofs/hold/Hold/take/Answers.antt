@@ -6,7 +6,7 @@ use Rattle.parallel_run.proofs.hold.Hold.take.Goals as goal
 
 pub loop-post-preserved : goal.loop-post-preserved
 loop-post-preserved g c =
-    let belongs = subst (Belongs g.Q.EventQueue.set g.K.OfRun.basis) c.in-Some-Process.field-0-is c.in-Some-Process.ensures.piece.1 in
+    let belongs = subst (Belongs g.Q.EventQueue.set g.K.OfRun.basis) c.in-Some-Process.field-0-is c.in-Some-Process.ensures.item.1 in
     record {
       holds = record {
         ready =

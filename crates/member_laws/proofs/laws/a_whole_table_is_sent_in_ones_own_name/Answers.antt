@@ -1,5 +1,5 @@
 use Rattle.member_laws.proofs.Whole.{accused_by_sender, subjects_rise}
-use Rattle.member_laws.proofs.laws.a_whole_table_is_told_in_ones_own_name.Goals as goal
+use Rattle.member_laws.proofs.laws.a_whole_table_is_sent_in_ones_own_name.Goals as goal
 
 pub returns-clause-accuser : goal.returns-clause-accuser
 returns-clause-accuser c = accused_by_sender

@@ -1,5 +1,5 @@
 use Rattle.lookahead_windows.proofs.WindowResult.{begins_opening, some_of_round, begins_consistent, window_here, overflow_here}
-use Rattle.lookahead_windows.proofs.laws.a_part_tells_its_window.Goals as goal
+use Rattle.lookahead_windows.proofs.laws.a_part_reports_its_window.Goals as goal
 
 pub returns-clause-opening : goal.returns-clause-opening
 returns-clause-opening c = begins_opening

@@ -4,7 +4,7 @@ use Rattle.scenario_reader.proofs.Chain.{answered_as_document}
 use Rattle.version_laws.proofs.Runs.{run_stays, same_trace}
 use Rattle.version_laws.proofs.Reports.{one_line_more}
 use Rattle.version_laws.proofs.Documents.{text_stays, no_leaves}
-use Rattle.version_laws.proofs.texts.a_text_in_version_2_tells_a_line_more.Goals as goal
+use Rattle.version_laws.proofs.texts.a_text_in_version_2_has_a_line_more.Goals as goal
 
 pub returns : goal.returns
 returns c bytes changed tree s rows read read_too first ok run = (
