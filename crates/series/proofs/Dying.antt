@@ -16,12 +16,13 @@ use Rattle.reports.proofs.Detections.{tells_of-it, tells_of-other}
 use Rattle.series.specs.declared.lines.Line.{Line}
 use Rattle.series.specs.declared.accusers.Probe.{Probe}
 use Rattle.series.specs.declared.accusers.Accusation.{Accusation}
+use Rattle.series.specs.declared.answers.Answers.{Answers}
 use Rattle.series.specs.declared.standing.Refutation.{Refutation}
 use Rattle.series.specs.declared.standing.Standing.{Standing}
 use Rattle.series.specs.declared.deaths.Death.{Death}
 use Rattle.series.specs.Accusers.{AreAccusers}
 use Rattle.series.specs.Lines.{line_at}
-use Rattle.series.specs.Deaths.{Reached, reached_at, reached, since, refutation_told, last_refutation, hears, hears_of, times_heard, begins_probe, probe_told, last_probe, last_fail, reaches, is_new, is_line_of, accuses, accusation_told, accusations, begins_death, deaths_of, IsGreatest, IsStandingOf, IsDeathOf, IsToldOf, AreToldOf, AreProbesOf}
+use Rattle.series.specs.Deaths.{Reached, reached_at, reached, since, refutation_told, last_refutation, hears, hears_of, times_heard, begins_probe, probe_told, last_probe, answers_of, last_fail, reaches, is_new, is_line_of, accuses, accusation_told, accusations, begins_death, deaths_of, IsGreatest, IsStandingOf, IsDeathOf, IsToldOf, AreToldOf, AreProbesOf}
 use Rattle.series.proofs.Telling.{last_line-push, lines_other, count-push}
 use denote.Enum.Bare.{sameb}
 use Rattle.trace.specs.contracts.row.What.{the_type}
@@ -32,8 +33,8 @@ met earlier row = record { earlier = earlier; row = row }
 abbrev pub refutation : Line → ℕ → Refutation
 refutation line number = record { line = line; number = number }
 
-abbrev pub charge : Line → Option Probe → Accusation
-charge claim probe = record { claim = claim; probe = probe }
+abbrev pub charge : Line → Option Probe → Answers → Accusation
+charge claim probe answers = record { claim = claim; probe = probe; answers = answers }
 
 -- ---- lists
 
@@ -66,7 +67,7 @@ pub map-push : {X Y : Type 0} (f : X → Y) (xs more : List X) → map f (xs ++ 
 map-push f [] more = refl
 map-push f (x ∷ xs) more = ap (λ l. f x ∷ l) (map-push f xs more)
 
-map-if : {X Y : Type 0} (f : X → Y) (t : Bool) (x : X) → map f (if t then x ∷ [] else []) ≡ (if t then f x ∷ [] else [])
+pub map-if : {X Y : Type 0} (f : X → Y) (t : Bool) (x : X) → map f (if t then x ∷ [] else []) ≡ (if t then f x ∷ [] else [])
 map-if f true x = refl
 map-if f false x = refl
 
@@ -109,14 +110,14 @@ reached-push rows row = placed-push [] rows row
 
 -- ---- probes
 
-pub probe-push : (member : ℕ) (rows : List Row) (row : Row) → last_probe member (rows ++ row ∷ []) ≡ (if begins_probe member row then Some (record { ping = line_at (length rows + 2) row; lost = row.lost }) else last_probe member rows)
+pub probe-push : (member : ℕ) (rows : List Row) (row : Row) → last_probe member (rows ++ row ∷ []) ≡ (if begins_probe member row then Some (record { ping = line_at (length rows + 2) row; lost = row.lost; target = row.about; sequence = row.value }) else last_probe member rows)
 probe-push member rows row =
     let test : Reached → Bool = λ r. begins_probe member r.row in
     ap (λ l. last_or None (map probe_told (filter test l))) (reached-push rows row)
     ∙ ap (λ l. last_or None (map probe_told l)) (filter-push test (reached rows) (record { earlier = rows; row = row }))
     ∙ ap (last_or None) (map-push probe_told (filter test (reached rows)) (if begins_probe member row then record { earlier = rows; row = row } ∷ [] else [])
     ∙ ap (λ l. map probe_told (filter test (reached rows)) ++ l) (map-if probe_told (begins_probe member row) (record { earlier = rows; row = row })))
-    ∙ last-if (map probe_told (filter test (reached rows))) (begins_probe member row) (record { ping = line_at (length rows + 2) row; lost = row.lost })
+    ∙ last-if (map probe_told (filter test (reached rows))) (begins_probe member row) (record { ping = line_at (length rows + 2) row; lost = row.lost; target = row.about; sequence = row.value })
 
 -- ---- suspicions
 
@@ -261,20 +262,20 @@ heard-push subject rows row about =
 -- ---- what is known of a member
 
 -- with one row more about it
-pub stands : (subject number : ℕ) (old new : Standing) (probe : Option Probe) (anew charges : Bool) (claim : Line) (rows : List Row) (row : Row)
-    → is_about subject row ≡ true → number ≡ length rows + 2 → probe ≡ last_probe row.member rows
+pub stands : (subject number : ℕ) (old new : Standing) (probe : Option Probe) (answers : Answers) (anew charges : Bool) (claim : Line) (rows : List Row) (row : Row)
+    → is_about subject row ≡ true → number ≡ length rows + 2 → probe ≡ last_probe row.member rows → answers ≡ answers_of row.member rows
     → IsStandingOf subject old rows
     → anew ≡ (has_kind what.Suspect row && not (option_map_or (nat_le row.value) old.suspected false))
     → charges ≡ ((has_kind what.Suspect row || has_kind what.Accuse row) && option_map_or (is_line_of row.member row.at) old.failed false)
     → claim ≡ line_at number row
-    → ((list : List Accusation) → AreAccusers old.accusers list → AreAccusers new.accusers ((if anew then [] else list) ++ (if charges then charge claim probe ∷ [] else [])))
+    → ((list : List Accusation) → AreAccusers old.accusers list → AreAccusers new.accusers ((if anew then [] else list) ++ (if charges then charge claim probe answers ∷ [] else [])))
     → new.suspected ≡ (if has_kind what.Suspect row && not (option_map_or (nat_le row.value) old.suspected false) then Some row.value else old.suspected)
     → new.declared ≡ (if has_kind what.Confirm row && not (option_map_or (nat_le row.value) old.declared false) then Some row.value else old.declared)
     → new.failed ≡ (if has_kind what.Fail row then Some (line_at number row) else old.failed)
     → new.heard ≡ (if has_kind what.Refute row then 0 else (old.heard + cond (hears old.refuted row) 1 0))
     → new.refuted ≡ (if has_kind what.Refute row then Some (record { line = line_at number row; number = row.value }) else old.refuted)
     → IsStandingOf subject new (rows ++ row ∷ [])
-stands subject number old new probe anew charges claim rows row about numbered probed is is_anew is_charge is_claim accusers suspected declared failed heard refuted =
+stands subject number old new probe answers anew charges claim rows row about numbered probed answered is is_anew is_charge is_claim accusers suspected declared failed heard refuted =
     record {
       suspected = greatest-push what.Suspect subject rows row old.suspected new.suspected about is.suspected suspected;
       declared = greatest-push what.Confirm subject rows row old.declared new.declared about is.declared declared;
@@ -301,14 +302,16 @@ stands subject number old new probe anew charges claim rows row about numbered p
         ∙ ap (λ t. (has_kind what.Suspect row || t) && option_map_or (is_line_of row.member row.at) (last_fail subject rows) false) (tells_of-it what.Accuse subject row about)
         ∙ ap (λ o. (has_kind what.Suspect row || has_kind what.Accuse row) && option_map_or (is_line_of row.member row.at) o false) (sym is.failed))
 
-    told : charge claim probe ≡ accusation_told r
-    told = ap (λ l. charge l probe) is_claim ∙ ap (λ n. charge (line_at n row) probe) numbered ∙ ap (charge (line_at (length rows + 2) row)) probed
+    told : charge claim probe answers ≡ accusation_told r
+    told =
+        ap (λ l. charge l probe answers) is_claim ∙ ap (λ n. charge (line_at n row) probe answers) numbered ∙ ap (λ p. charge (line_at (length rows + 2) row) p answers) probed
+        ∙ ap (charge (line_at (length rows + 2) row) (last_probe row.member rows)) answered
 
-    same : (if anew then [] else accusations subject rows) ++ (if charges then charge claim probe ∷ [] else []) ≡ accusations subject (rows ++ row ∷ [])
+    same : (if anew then [] else accusations subject rows) ++ (if charges then charge claim probe answers ∷ [] else []) ≡ accusations subject (rows ++ row ∷ [])
     same =
-        ap (λ t. (if t then [] else accusations subject rows) ++ (if charges then charge claim probe ∷ [] else []))
+        ap (λ t. (if t then [] else accusations subject rows) ++ (if charges then charge claim probe answers ∷ [] else []))
         (is_anew ∙ sym (new-is what.Suspect subject rows row old.suspected about is.suspected))
-        ∙ ap (λ t. (if is_new what.Suspect subject r then [] else accusations subject rows) ++ (if t then charge claim probe ∷ [] else [])) accusing
+        ∙ ap (λ t. (if is_new what.Suspect subject r then [] else accusations subject rows) ++ (if t then charge claim probe answers ∷ [] else [])) accusing
         ∙ ap (λ a. (if is_new what.Suspect subject r then [] else accusations subject rows) ++ (if accuses subject r then a ∷ [] else [])) told
         ∙ sym (accusations-push subject rows row)
 
@@ -367,10 +370,10 @@ get-others (y ∷ ys) x (suc k) apart = get-others ys x k (λ h. apart (next k (
     next : (a b : ℕ) → a ≡ b → suc a ≡ suc b
     next a b h = ap suc h
 
-is_same : (a b : ℕ) → nat_eq a b ≡ true → a ≡ b
+pub is_same : (a b : ℕ) → nat_eq a b ≡ true → a ≡ b
 is_same a b h = grind (arith, h)
 
-not_same : (a b : ℕ) → nat_eq a b ≡ false → ¬ (a ≡ b)
+pub not_same : (a b : ℕ) → nat_eq a b ≡ false → ¬ (a ≡ b)
 not_same a b h = grind (arith, h)
 
 is_none_there : (death : Option Death) → is_some death ≡ false → death ≡ None
@@ -466,12 +469,12 @@ pub read : {X : Type 0} (xs : List X) (i : ℕ) (x d : X) → i < length xs → 
 read xs i x d within is = sym (get_or_from_slice_get xs i x d (slice_get_read xs (length xs) i x refl within is))
 
 pub probes-push : (probes : List (Option Probe)) (number : ℕ) (last new : Option Probe) (rows : List Row) (row : Row) → number ≡ length rows + 2 → row.member < length probes → AreProbesOf probes rows
-    → new ≡ (if has_kind what.Ping row && row.from == row.member then Some (record { ping = line_at number row; lost = row.lost }) else last) → last ≡ slice_index_or probes row.member last
+    → new ≡ (if has_kind what.Ping row && row.from == row.member then Some (record { ping = line_at number row; lost = row.lost; target = row.about; sequence = row.value }) else last) → last ≡ slice_index_or probes row.member last
     → AreProbesOf (slice_set probes row.member new) (rows ++ row ∷ [])
 probes-push probes number last new rows row numbered member are is was who low = at (nat_eq who row.member) refl
   where
     begun : Option Probe
-    begun = Some (record { ping = line_at (length rows + 2) row; lost = row.lost })
+    begun = Some (record { ping = line_at (length rows + 2) row; lost = row.lost; target = row.about; sequence = row.value })
 
     within : who < length probes
     within = omega (arith, low, length-set probes row.member new)
@@ -494,7 +497,7 @@ probes-push probes number last new rows row numbered member are is was who low =
         let same : who ≡ row.member = is_same who row.member h in
         ap (λ k. slice_index_or (slice_set probes row.member new) k None) same
         ∙ get_or-set_same probes row.member new None member
-        ∙ is ∙ ap (λ n. if has_kind what.Ping row && row.from == row.member then Some (record { ping = line_at n row; lost = row.lost }) else last) numbered
+        ∙ is ∙ ap (λ n. if has_kind what.Ping row && row.from == row.member then Some (record { ping = line_at n row; lost = row.lost; target = row.about; sequence = row.value }) else last) numbered
         ∙ ap (λ o. if has_kind what.Ping row && row.from == row.member then begun else o) (read probes row.member last None member was ∙ are row.member member)
         ∙ ap (λ t. if t then begun else last_probe row.member rows) (sym by_own)
         ∙ sym (probe-push row.member rows row)
@@ -506,7 +509,7 @@ probes-push probes number last new rows row numbered member are is was who low =
 
 -- ---- no more is told than there are rows
 
-since_few : {X : Type 0} (test : X → Bool) (xs : List X) → length (since test xs) ≤ length xs
+pub since_few : {X : Type 0} (test : X → Bool) (xs : List X) → length (since test xs) ≤ length xs
 since_few test [] = omega arith
 since_few test (x ∷ xs) = by (list_any test xs) (length (since test xs)) (since_few test xs)
   where

@@ -9,3 +9,4 @@ pub mod Gathering
 pub mod Holding
 mod Watching
 pub mod Dying
+pub mod Answering

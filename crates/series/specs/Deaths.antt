@@ -10,6 +10,8 @@ use Rattle.reports.specs.FalsePositives.{ways_to_depart, departed_in, is_false_c
 use Rattle.series.specs.declared.lines.Line.{Line}
 use Rattle.series.specs.declared.accusers.Probe.{Probe}
 use Rattle.series.specs.declared.accusers.Accusation.{Accusation}
+use Rattle.series.specs.declared.answers.Reply.{Reply}
+use Rattle.series.specs.declared.answers.Answers.{Answers}
 use Rattle.series.specs.declared.standing.Refutation.{Refutation}
 use Rattle.series.specs.declared.standing.Standing.{Standing}
 use Rattle.series.specs.declared.deaths.Death.{Death}
@@ -46,11 +48,66 @@ abbrev pub begins_probe : ℕ → Row → Bool
 begins_probe member row = has_kind what.Ping row && (row.member == member && row.from == member)
 
 abbrev pub probe_told : Reached → Probe
-probe_told r = record { ping = line_reached r; lost = r.row.lost }
+probe_told r = record { ping = line_reached r; lost = r.row.lost; target = r.row.about; sequence = r.row.value }
 
 -- the last probe that a member began
 abbrev pub last_probe : ℕ → List Row → Option Probe
 last_probe member rows = last_or None (map probe_told (filter (λ r. begins_probe member r.row) (reached rows)))
+
+-- a row bears the sequence number of a probe
+abbrev pub is_of : Probe → Row → Bool
+is_of probe row = row.value == probe.sequence
+
+-- the row's member is the one that is probed
+abbrev pub is_by_target : Probe → Row → Bool
+is_by_target probe row = option_map_or (λ target. target == row.member) probe.target false
+
+-- the target sends the prober an ack
+abbrev pub acks_for : ℕ → Option Probe → Row → Bool
+acks_for member probe row = option_map_or (λ p. has_kind what.Ack row && (is_about member row && (is_of p row && is_by_target p row))) probe false
+
+-- the prober asks a helper
+abbrev pub asks_for : ℕ → Option Probe → Row → Bool
+asks_for member probe row = option_map_or (λ p. has_kind what.PingReq row && (row.member == member && is_of p row)) probe false
+
+-- a helper answers the prober, by an ack or a nack
+abbrev pub helps_for : ℕ → Option Probe → Row → Bool
+helps_for member probe row =
+    option_map_or (λ p. (has_kind what.Ack row || has_kind what.Nack row) && (is_about member row && (is_of p row && not (is_by_target p row)))) probe false
+
+-- the same of the last probe that a member began
+abbrev pub acks : ℕ → Reached → Bool
+acks member r = acks_for member (last_probe member r.earlier) r.row
+
+abbrev pub asks : ℕ → Reached → Bool
+asks member r = asks_for member (last_probe member r.earlier) r.row
+
+abbrev pub helps : ℕ → Reached → Bool
+helps member r = helps_for member (last_probe member r.earlier) r.row
+
+abbrev pub is_lost : (Reached → Bool) → Reached → Bool
+is_lost test r = test r && r.row.lost
+
+abbrev pub reply_told : Reached → Reply
+reply_told r = record { line = line_reached r; lost = r.row.lost }
+
+-- the rows since a member began its last probe
+abbrev pub since_probe : ℕ → List Row → List Reached
+since_probe member rows = since (λ r. begins_probe member r.row) (reached rows)
+
+-- what came of the last probe that a member began
+abbrev pub answers_of : ℕ → List Row → Answers
+answers_of member rows =
+    record {
+      ack = last_or None (map reply_told (filter (acks member) (since_probe member rows)));
+      asked = count_by (asks member) (since_probe member rows);
+      requests_lost = count_by (is_lost (asks member)) (since_probe member rows);
+      answered = count_by (helps member) (since_probe member rows);
+      answers_lost = count_by (is_lost (helps member)) (since_probe member rows);
+    }
+
+abbrev pub no_answers : Answers
+no_answers = record { ack = None; asked = 0; requests_lost = 0; answered = 0; answers_lost = 0 }
 
 -- the last failed probe of a subject, by whomever
 abbrev pub last_fail : ℕ → List Row → Option Line
@@ -77,7 +134,7 @@ accuses subject r =
     && option_map_or (is_line_of r.row.member r.row.at) (last_fail subject r.earlier) false
 
 abbrev pub accusation_told : Reached → Accusation
-accusation_told r = record { claim = line_reached r; probe = last_probe r.row.member r.earlier }
+accusation_told r = record { claim = line_reached r; probe = last_probe r.row.member r.earlier; answers = answers_of r.row.member r.earlier }
 
 -- who accused the subject since it was first suspected under its newest number
 abbrev pub accusations : ℕ → List Row → List Accusation
@@ -165,6 +222,9 @@ AreGoneOf gone rows = (member : ℕ) → member < length gone → slice_index_or
 abbrev pub AreProbesOf : List (Option Probe) → List Row → Type 0
 AreProbesOf probes rows = (member : ℕ) → member < length probes → slice_index_or probes member None ≡ last_probe member rows
 
+abbrev pub AreAnswersOf : List Answers → List Row → Type 0
+AreAnswersOf answers rows = (member : ℕ) → member < length answers → slice_index_or answers member no_answers ≡ answers_of member rows
+
 abbrev pub AreStandingsOf : List Standing → List Row → Type 0
 AreStandingsOf standings rows = (subject : ℕ) (standing : Standing) → slice_get standings subject ≡ Some standing → IsStandingOf subject standing rows
 
@@ -173,12 +233,14 @@ pub record AreDeathsOf (deaths : Deaths) (rows : List Row) : Type 0 where
   pub told : AreToldOf deaths.told.items deaths.count rows
   pub gone : AreGoneOf deaths.gone.items rows
   pub probes : AreProbesOf deaths.probes.items rows
+  pub answers : AreAnswersOf deaths.answers.items rows
   pub standings : AreStandingsOf deaths.standings.items rows
 
 -- there is a place for each of so many members
 pub record AreMembers (members : ℕ) (deaths : Deaths) : Type 0 where
   pub gone : length deaths.gone.items ≡ members
   pub probes : length deaths.probes.items ≡ members
+  pub answers : length deaths.answers.items ≡ members
   pub standings : length deaths.standings.items ≡ members
 
 -- the row can be taken in: it names members that have a place, and few rows came before

@@ -1,7 +1,9 @@
 //! Members that accuse another one on their own evidence.
 ghost use Rattle.std.specs.Prelude.{◌≡◌, ℕ, ◌<◌, ◌^◌, ◌++◌, ◌∷◌, [], List, Some, None, slice_get};
 
+use crate::answers::Answers;
 use crate::lines::Line;
+use base::MemberId;
 
 /// The most accusers that are kept.
 const KEPT: u64 = 4;
@@ -13,6 +15,10 @@ pub struct Probe {
     pub ping: Line,
     /// Whether it was lost.
     pub lost: bool,
+    /// The member that it probes.
+    pub target: Option<MemberId>,
+    /// Its sequence number, which its requests and answers bear too.
+    pub sequence: u64,
 }
 
 /// A row by which a member suspects or accuses another, since its own probe of it failed.
@@ -22,6 +28,8 @@ pub struct Accusation {
     pub claim: Line,
     /// The probe that failed.
     pub probe: Option<Probe>,
+    /// What came of it by then.
+    pub answers: Answers,
 }
 
 /// The first accusations of a list, and how many there are.

@@ -3,9 +3,10 @@ ghost use Rattle.std.specs.Prelude.{◌≡◌, ℕ, ◌+◌, ◌<◌, ◌≤◌,
 ghost use Rattle.reports.specs.Rows.{has_kind};
 ghost use Rattle.series.specs.Lines.{line_at};
 ghost use Rattle.trace.specs.declared.row.Row.{Row as AnyRow};
-ghost use Rattle.series.specs.Deaths.{AreToldOf, AreStandingsOf, AreProbesOf, AreGoneOf, CanStand, IsToldOf, begins_death};
+ghost use Rattle.series.specs.Deaths.{AreAnswersOf, AreGoneOf, AreProbesOf, AreStandingsOf, AreToldOf, CanStand, IsToldOf, answers_of, begins_death, no_answers};
 
 use crate::accusers::Probe;
+use crate::answers::Answers;
 use crate::lines::{Line, line_at};
 use crate::standing::{Standing, is_new};
 use base::{MemberId, Memory};
@@ -39,6 +40,8 @@ pub struct Deaths {
     gone: Vec<bool>,
     /// The last probe that each began.
     probes: Vec<Option<Probe>>,
+    /// What came of it.
+    answers: Vec<Answers>,
     /// What is known of each.
     standings: Vec<Standing>,
 }
@@ -56,6 +59,7 @@ impl Deaths {
             told: no_deaths(alloc)?,
             gone: nobody_gone(alloc, members)?,
             probes: no_probes(alloc, members)?,
+            answers: no_answers_yet(alloc, members)?,
             standings: no_standings(alloc, members)?,
         })
     }
@@ -71,7 +75,9 @@ impl Deaths {
         let death = death_told(gone, standings, row, number);
         keep(&mut self.told, &mut self.count, death);
         let probes = self.probes.as_slice();
-        follow_standing(&mut self.standings, probes, row, number);
+        let answers = self.answers.as_slice();
+        follow_standing(&mut self.standings, probes, answers, row, number);
+        follow_answers(&mut self.answers, probes, row, number);
         follow_probe(&mut self.probes, row, number);
         follow_departure(&mut self.gone, row);
     }
@@ -139,19 +145,66 @@ fn put_at(told: &mut Vec<Option<Death>>, place: u64, death: Option<Death>)
 }
 
 /// Takes in what a row tells of the member that it is about.
-fn follow_standing(standings: &mut Vec<Standing>, probes: &[Option<Probe>], row: &Row, number: u64)
+fn follow_standing(
+    standings: &mut Vec<Standing>,
+    probes: &[Option<Probe>],
+    answers: &[Answers],
+    row: &Row,
+    number: u64,
+)
     requires can { CanStand row.now standings.old.items }
     requires member { row.now.member < length probes.now }
+    requires answers { row.now.member < length answers.now }
     requires about { IfSome row.now.about (λ m. m < length standings.old.items) }
-    ensures follows { (rows : List AnyRow) → number ≡ length rows + 2 → AreProbesOf probes.now rows → AreStandingsOf standings.old.items rows
+    ensures follows { (rows : List AnyRow) → number ≡ length rows + 2 → AreProbesOf probes.now rows → AreAnswersOf answers.now rows → AreStandingsOf standings.old.items rows
         → AreStandingsOf standings.new.items (rows ++ row.now ∷ []) }
     ensures kept { length standings.new.items ≡ length standings.old.items }
 {
     if let Some(subject) = row.about {
         let probe = probes[row.member.index()];
+        let answers = answers[row.member.index()];
         let standing = &mut standings[subject.index()];
-        standing.follow(row, number, probe);
+        standing.follow(row, number, probe, answers);
     }
+}
+
+/// Takes in what a row tells of the last probes of its member and of the member that it is about.
+fn follow_answers(answers: &mut Vec<Answers>, probes: &[Option<Probe>], row: &Row, number: u64)
+    requires member { row.now.member < length answers.old.items }
+    requires about { IfSome row.now.about (λ m. m < length answers.old.items) }
+    requires probes { length probes.now ≡ length answers.old.items }
+    ensures follows { (rows : List AnyRow) → number ≡ length rows + 2 → AreProbesOf probes.now rows → AreAnswersOf answers.old.items rows
+        → AreAnswersOf answers.new.items (rows ++ row.now ∷ []) }
+    ensures kept { length answers.new.items ≡ length answers.old.items }
+{
+    follow_answer(answers, probes, row.member, row, number);
+    let Some(about) = row.about else {
+        return;
+    };
+    if about == row.member {
+        return;
+    }
+    follow_answer(answers, probes, about, row, number);
+}
+
+/// Takes in what a row tells of a member's last probe.
+fn follow_answer(
+    answers: &mut Vec<Answers>,
+    probes: &[Option<Probe>],
+    member: MemberId,
+    row: &Row,
+    number: u64,
+)
+    requires member { member < length answers.old.items }
+    requires probes { member < length probes.now }
+    ensures here { (rows : List AnyRow) → number ≡ length rows + 2 → AreProbesOf probes.now rows
+        → slice_index_or answers.old.items member no_answers ≡ answers_of member rows
+        → slice_index_or answers.new.items member no_answers ≡ answers_of member (rows ++ row.now ∷ []) }
+    ensures others { (other : ℕ) → ¬ (other ≡ member) → slice_index_or answers.new.items other no_answers ≡ slice_index_or answers.old.items other no_answers }
+    ensures kept { length answers.new.items ≡ length answers.old.items }
+{
+    let place = member.index();
+    answers[place] = answers[place].with(member, probes[place], row, number);
 }
 
 /// Takes in the probe that a row begins, where it does.
@@ -166,13 +219,15 @@ fn follow_probe(probes: &mut Vec<Option<Probe>>, row: &Row, number: u64)
 
 /// The last probe of a row's member, with that row.
 fn begun(last: Option<Probe>, row: &Row, number: u64) -> Option<Probe>
-    ensures { result ≡ (if has_kind What.Ping row.now && row.now.from == row.now.member then Some (record { ping = line_at number row.now; lost = row.now.lost }) else last) }
+    ensures { result ≡ (if has_kind What.Ping row.now && row.now.from == row.now.member then Some (record { ping = line_at number row.now; lost = row.now.lost; target = row.now.about; sequence = row.now.value }) else last) }
 {
     if row.what == What::Ping && row.from == row.member {
         let ping = line_at(number, row);
         Some(Probe {
             ping,
             lost: row.lost,
+            target: row.about,
+            sequence: row.value,
         })
     } else {
         last
@@ -218,6 +273,16 @@ fn no_probes(alloc: Global, members: usize) -> Result<Vec<Option<Probe>>, Memory
     let mut probes = Vec::new(alloc);
     probes.resize(members, None)?;
     Ok(probes)
+}
+
+/// A place for each of so many members, of whose probe nothing came.
+fn no_answers_yet(alloc: Global, members: usize) -> Result<Vec<Answers>, Memory>
+    ensures all { IfOk result (λ answers. length answers.items ≡ members) }
+    ensures none { IfOk result (λ answers. (member : ℕ) → slice_index_or answers.items member no_answers ≡ no_answers) }
+{
+    let mut answers = Vec::new(alloc);
+    answers.resize(members, Answers::none())?;
+    Ok(answers)
 }
 
 /// What no rows tell of each of so many members.

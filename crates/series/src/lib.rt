@@ -3,6 +3,7 @@
 #![tactic(auto)]
 
 mod accusers;
+mod answers;
 mod deaths;
 mod flows;
 mod grid;
@@ -15,6 +16,7 @@ mod standing;
 mod story;
 
 pub use accusers::{Accusation, Accusers, Probe};
+pub use answers::{Answers, Reply};
 pub use deaths::{Death, Deaths};
 pub use flows::Flows;
 pub use grid::Grid;

@@ -8,6 +8,7 @@ ghost use Rattle.series.specs.Deaths.{is_line_of, hears};
 ghost use Rattle.series.specs.declared.accusers.Accusation.{Accusation as AnAccusation};
 
 use crate::accusers::{Accusation, Accusers, Probe};
+use crate::answers::Answers;
 use crate::lines::{Line, last_line, line_at};
 use trace::{Row, What};
 
@@ -40,7 +41,7 @@ pub struct Standing {
 impl Standing {
     ghost use Rattle.trace.specs.declared.row.Row.{Row as AnyRow};
     ghost use Rattle.reports.specs.Rows.{is_about};
-    ghost use Rattle.series.specs.Deaths.{IsStandingOf, last_probe};
+    ghost use Rattle.series.specs.Deaths.{IsStandingOf, answers_of, last_probe};
 
     /// What no rows tell.
     pub(crate) fn new() -> Standing
@@ -57,12 +58,12 @@ impl Standing {
     }
 
     /// Takes in what a row tells that is about the member, and stands on the line of that number. The
-    /// probe is the last one that the row's member began.
-    pub(crate) fn follow(&mut self, row: &Row, number: u64, probe: Option<Probe>)
+    /// probe is the last one that the row's member began, and the answers are what came of it.
+    pub(crate) fn follow(&mut self, row: &Row, number: u64, probe: Option<Probe>, answers: Answers)
         requires few { self.old.accusers.count < 2 ^ 63 }
         requires heard { self.old.heard < 2 ^ 63 }
         ensures { (subject : ℕ) (rows : List AnyRow) → is_about subject row.now ≡ true → number ≡ length rows + 2
-            → probe ≡ last_probe row.now.member rows → IsStandingOf subject self.old rows → IsStandingOf subject self.new (rows ++ row.now ∷ []) }
+            → probe ≡ last_probe row.now.member rows → answers ≡ answers_of row.now.member rows → IsStandingOf subject self.old rows → IsStandingOf subject self.new (rows ++ row.now ∷ []) }
     {
         let anew = is_new(self.suspected, What::Suspect, row);
         let accuses = accuses(self.failed, row);
@@ -71,7 +72,11 @@ impl Standing {
             &mut self.accusers,
             anew,
             accuses,
-            Accusation { claim, probe },
+            Accusation {
+                claim,
+                probe,
+                answers,
+            },
         );
         self.suspected = greatest(self.suspected, What::Suspect, row);
         self.declared = greatest(self.declared, What::Confirm, row);
