@@ -15,6 +15,8 @@ use Rattle.presets.specs.Presets.{word_of}
 use Rattle.presets.specs.declared.preset.Preset.{Preset}
 use Rattle.decimals.specs.Numbers.{IsDecimal}
 use Rattle.arguments.specs.Rules.{file_rule, flag_rule, is_given, option_rule, repeated_rule, required_rule}
+use Rattle.ticks.specs.Ticks.{IsTickWord}
+use Rattle.ticks.specs.declared.tick.Tick.{Tick}
 use Rattle.command_line.specs.declared.words.Asked.{Asked}
 use Rattle.command_line.specs.declared.words.Asked.TheVariants.{Run, Check, Explain, Sweep, Init, Join, Page, Help, Version}
 use Rattle.command_line.specs.declared.explaining.ExplainWords.{ExplainWords}
@@ -25,11 +27,13 @@ use Rattle.command_line.specs.declared.words.SweepWords.{SweepWords}
 use Rattle.command_line.specs.declared.words.Split.{Split}
 use Rattle.command_line.specs.declared.words.Split.TheVariants as split
 
--- a command, and what says which files a run is written to: the option --trace, which is required; --report and --page
+-- a command, and what says which files a run is written to: the option --trace, which is required; --report and --page; and how long
+-- a tick lasts: --tick
 abbrev pub with_outputs : App → App
 with_outputs app =
     let traced = with_rule app (required_rule (codes "trace")) in
-    with_rule (with_rule traced (option_rule (codes "report"))) (option_rule (codes "page"))
+    let paged = with_rule (with_rule traced (option_rule (codes "report"))) (option_rule (codes "page")) in
+    with_rule paged (option_rule (codes "tick"))
 
 -- and how many workers run it, and which part each member is in: --workers, --parts and --division
 abbrev pub with_parting : App → App
@@ -117,6 +121,13 @@ IsSplitIn rows split.Workers = (first_of (codes "parts") rows ≡ None) × (firs
 IsSplitIn rows (split.Parts word) = (first_of (codes "parts") rows ≡ Some word.now) × (first_of (codes "division") rows ≡ None)
 IsSplitIn rows (split.List list) = (first_of (codes "parts") rows ≡ None) × (first_of (codes "division") rows ≡ Some list.now)
 
+-- the word says how long a tick lasts; nothing is said of it where there is no word
+abbrev pub AsksForTick : Option Text → Option Tick → Type 0
+AsksForTick None None = Unit {0}
+AsksForTick None (Some tick) = ⊥
+AsksForTick (Some word) None = ⊥
+AsksForTick (Some word) (Some tick) = IsTickWord word tick
+
 -- the command that was met is `run`, with these words
 pub record IsRunIn (met : Option (Text × List Row)) (run : RunWords) : Type 0 where
   pub rows : List Row
@@ -125,6 +136,7 @@ pub record IsRunIn (met : Option (Text × List Row)) (run : RunWords) : Type 0 w
   pub trace : first_of (codes "trace") rows ≡ Some run.trace.now
   pub report : first_of (codes "report") rows ≡ option_map (λ word. word.now) run.report
   pub page : first_of (codes "page") rows ≡ option_map (λ word. word.now) run.page
+  pub tick : AsksForTick (first_of (codes "tick") rows) run.tick
   pub workers : first_of (codes "workers") rows ≡ option_map (λ word. word.now) run.workers
   pub divided : IsSplitIn rows run.split
   pub progress : is_given (first_of (codes "progress") rows) ≡ run.progress

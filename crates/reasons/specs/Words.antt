@@ -23,6 +23,7 @@ option_of fault.SeedsMany = codes "--seeds"
 option_of fault.Setting = codes "--set"
 option_of fault.KeyTwice = codes "--set"
 option_of fault.Want = codes "--want"
+option_of fault.Tick = codes "--tick"
 
 -- what is wrong with it, and what to write
 abbrev pub advice_of : WordFault → List ℕ
@@ -38,6 +39,7 @@ advice_of fault.SeedsMany = codes "a sweep has at most 1000000 runs"
 advice_of fault.Setting = codes "write KEY=V1,V2,.. as swim.period=200,300"
 advice_of fault.KeyTwice = codes "the key is set twice; write all its values behind one --set"
 advice_of fault.Want = codes "write 'STATISTIC<=N', as 'out<=0.01', with at most six digits behind the point"
+advice_of fault.Tick = codes "write a whole number and us, ms or s, from 1us to 1s, as 1ms"
 
 -- what is wrong with options that don't go together
 abbrev pub clash_text : Clash → List ℕ

@@ -47,6 +47,8 @@ pub enum WordFault {
     KeyTwice,
     /// A word of `--want` is no statistic with a bound, as out<=0.01.
     Want,
+    /// The word of `--tick` is no length from 1us to 1s, as 1ms.
+    Tick,
 }
 
 /// What is wrong with the words of a command line.
@@ -99,6 +101,7 @@ fn option_of(fault: WordFault) -> &'static str
         WordFault::Seeds | WordFault::SeedsOrder | WordFault::SeedsMany => "--seeds",
         WordFault::Setting | WordFault::KeyTwice => "--set",
         WordFault::Want => "--want",
+        WordFault::Tick => "--tick",
     }
 }
 
@@ -119,6 +122,7 @@ fn advice_of(fault: WordFault) -> &'static str
         WordFault::KeyTwice => "the key is set twice; write all its values behind one --set",
         WordFault::Want =>
             "write 'STATISTIC<=N', as 'out<=0.01', with at most six digits behind the point",
+        WordFault::Tick => "write a whole number and us, ms or s, from 1us to 1s, as 1ms",
     }
 }
 

@@ -13,6 +13,8 @@ use Rattle.sweep_plan.specs.declared.keys.SettingKey.{SettingKey}
 use Rattle.sweep_plan.specs.declared.values.SettingValue.{SettingValue}
 use Rattle.shards.specs.Pieces.{IsPieceWord}
 use Rattle.shards.specs.declared.piece.Piece.{Piece}
+use Rattle.ticks.specs.Ticks.{IsTickWord}
+use Rattle.ticks.specs.declared.tick.Tick.{Tick}
 use Rattle.reasons.specs.declared.words.Clash.{Clash}
 use Rattle.reasons.specs.declared.words.Clash.TheVariants as clash
 use Rattle.reasons.specs.declared.words.WordFault.{WordFault}
@@ -80,6 +82,7 @@ IsRefusedWord rows fault.SeedsMany word = (first_of (codes "seeds") rows ≡ Som
 IsRefusedWord rows fault.Setting word = Contains (words_of (codes "set") rows) word × SetsNothing word
 IsRefusedWord rows fault.KeyTwice word = Contains (words_of (codes "set") rows) word
 IsRefusedWord rows fault.Want word = Contains (words_of (codes "want") rows) word × WantsNothing word
+IsRefusedWord rows fault.Tick word = (first_of (codes "tick") rows ≡ Some word) × ((tick : Tick) → ¬ (IsTickWord word tick))
 
 -- what a reason says is true of the words that were found, and by it they ask for nothing
 abbrev pub IsReasonOf : List Row → WordReason → Type 0

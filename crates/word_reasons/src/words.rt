@@ -5,7 +5,7 @@ ghost use Rattle.command_line.specs.Words.{swimsim_app};
 ghost use Rattle.word_reasons.specs.Found.{IsReasonMet, IsReasonOf};
 ghost use Rattle.word_reasons.specs.Faults.{IsFaultOf};
 
-use crate::options::{join_clash, list_word, parts_word, run_clash, workers_word};
+use crate::options::{join_clash, list_word, parts_word, run_clash, tick_word, workers_word};
 use crate::sweeping::sweep_reason;
 use crate::wants::wants_reason;
 use base::Memory;
@@ -71,7 +71,10 @@ fn run_reason<'a>(run: &ArgMatches<'a>, failure: &Failure<'_>) -> Option<WordRea
     ensures { IfSome result (IsReasonOf (rows_of (found_of run.now))) }
 {
     match failure {
-        Failure::Usage => run_clash(run),
+        Failure::Usage => match run_clash(run) {
+            Some(clash) => Some(clash),
+            None => tick_word(run),
+        },
         Failure::Workers => workers_word(run),
         Failure::Division(fault) => division_reason(run, *fault),
         _ => None,
