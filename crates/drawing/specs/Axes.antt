@@ -3,7 +3,7 @@ use Rattle.std.specs.Prelude.{ℕ, Bool, ◌+◌, ◌-◌, ◌*◌, ◌/◌, nat
 use Rattle.std.specs.List.{flat_map, range_with_len}
 use Rattle.drawing.specs.Escaped.{escaped, markup}
 use Rattle.ticks.specs.declared.tick.Tick.{Tick}
-use Rattle.drawing.specs.Lengths.{ticks_words}
+use Rattle.drawing.specs.Lengths.{ticks_words, time_text}
 use Rattle.drawing.specs.Numbers.{grouped, place}
 use Rattle.drawing.specs.Rounds.{round_step}
 
@@ -43,10 +43,19 @@ abbrev pub time_across : Option Tick → ℕ → List ℕ → List ℕ
 time_across None most unit = axis_across most unit
 time_across (Some tick) most unit = axis_lasting tick most unit
 
--- a tick of an axis up
-unfoldable pub tick_up : ℕ → ℕ → List ℕ
-tick_up most at = markup (codes "<span style=\"bottom:") ++ place at most ++ markup (codes "\">") ++ grouped at ++ markup (codes "</span>")
+-- a tick of an axis up begins; of time it may take several lines, since what stands behind its number has no room else
+abbrev pub tick_up_opening : Option Tick → List ℕ
+tick_up_opening None = codes "<span style=\"bottom:"
+tick_up_opening (Some tick) = codes "<span style=\"white-space:normal;text-align:right;bottom:"
 
--- an axis up from 0 to `most`, with at most five ticks
-unfoldable pub axis_up : ℕ → List ℕ
-axis_up most = markup (codes "<div class=\"up\" aria-hidden=\"true\">") ++ at_ticks (tick_up most) most (round_step most 4) ++ markup (codes "</div>")
+-- a tick of an axis up
+unfoldable pub tick_up : Option Tick → ℕ → ℕ → List ℕ
+tick_up time most at = tick_up_opening time ++ place at most ++ markup (codes "\">") ++ time_text time at ++ markup (codes "</span>")
+
+-- an axis up from 0 to `most`, with at most five ticks, and how long they last where it is time, and known how long the unit lasts in which it is counted
+unfoldable pub time_up : Option Tick → ℕ → List ℕ
+time_up time most = markup (codes "<div class=\"up\" aria-hidden=\"true\">") ++ at_ticks (tick_up time most) most (round_step most 4) ++ markup (codes "</div>")
+
+-- one that counts anything else
+abbrev pub axis_up : ℕ → List ℕ
+axis_up most = time_up None most

@@ -2,12 +2,12 @@
 ghost use Rattle.std.specs.Prelude.{◌≡◌, ◌++◌, ◌<◌, ◌^◌, OnOk, codes};
 ghost use Rattle.std.specs.String.{string_bytes};
 ghost use Rattle.drawing.specs.Rounds.{round_step};
-ghost use Rattle.drawing.specs.Axes.{at_ticks, axis_across, axis_lasting, axis_up, beneath, tick_across, tick_opening, tick_up, time_across};
+ghost use Rattle.drawing.specs.Axes.{at_ticks, axis_across, axis_lasting, axis_up, beneath, tick_across, tick_opening, tick_up, tick_up_opening, time_across, time_up};
 ghost use Rattle.drawing.specs.Escaped.{markup};
 ghost use Rattle.drawing.specs.Lengths.{ticks_words};
 
 use crate::escape::{push_escaped, push_markup};
-use crate::length::push_ticks_words;
+use crate::length::{push_ticks_words, push_timed};
 use crate::number::{push_grouped, push_place};
 use crate::round::round_step;
 use std::alloc::AllocError;
@@ -119,36 +119,55 @@ fn push_tick_opening(text: &mut String, last: bool) -> Result<(), AllocError>
 }
 
 /// Appends the ticks of an axis up, from 0 to `most`.
-#[tactic(auto, unfolding(crate::specs::Axes::axis_up))]
 pub fn push_up(text: &mut String, most: u64) -> Result<(), AllocError>
     requires { most < 2 ^ 63 }
     ensures { OnOk result (string_bytes text.new ≡ string_bytes text.old ++ axis_up most) }
 {
+    push_time_up(text, most, None)
+}
+
+/// Appends the ticks of an axis of time up, from 0 to `most` ticks of the simulation and, where it is known
+/// how long such a tick lasts, how long so many last.
+#[tactic(auto, unfolding(crate::specs::Axes::time_up))]
+pub fn push_time_up(text: &mut String, most: u64, time: Option<Tick>) -> Result<(), AllocError>
+    requires { most < 2 ^ 63 }
+    ensures { OnOk result (string_bytes text.new ≡ string_bytes text.old ++ time_up time most) }
+{
     push_markup(text, "<div class=\"up\" aria-hidden=\"true\">")?;
-    push_ticks_up(text, most)?;
+    push_ticks_up(text, most, time)?;
     push_markup(text, "</div>")
 }
 
 /// Appends the ticks of an axis up.
-fn push_ticks_up(text: &mut String, most: u64) -> Result<(), AllocError>
+fn push_ticks_up(text: &mut String, most: u64, time: Option<Tick>) -> Result<(), AllocError>
     requires { most < 2 ^ 63 }
-    ensures { OnOk result (string_bytes text.new ≡ string_bytes text.old ++ at_ticks (tick_up most) most (round_step most 4)) }
+    ensures { OnOk result (string_bytes text.new ≡ string_bytes text.old ++ at_ticks (tick_up time most) most (round_step most 4)) }
 {
     let step = round_step(most, 4);
     for tick in 0..most / step + 1 {
-        push_tick_up(text, tick * step, most)?;
+        push_tick_up(text, tick * step, most, time)?;
     }
     Ok(())
 }
 
 /// Appends a tick of an axis up.
 #[tactic(auto, unfolding(crate::specs::Axes::tick_up))]
-fn push_tick_up(text: &mut String, at: u64, most: u64) -> Result<(), AllocError>
-    ensures { OnOk result (string_bytes text.new ≡ string_bytes text.old ++ tick_up most at) }
+fn push_tick_up(text: &mut String, at: u64, most: u64, time: Option<Tick>) -> Result<(), AllocError>
+    ensures { OnOk result (string_bytes text.new ≡ string_bytes text.old ++ tick_up time most at) }
 {
-    push_markup(text, "<span style=\"bottom:")?;
+    push_tick_up_opening(text, time)?;
     push_place(text, at, most)?;
     push_markup(text, "\">")?;
-    push_grouped(text, at)?;
+    push_timed(text, time, at)?;
     push_markup(text, "</span>")
+}
+
+/// Begins a tick of an axis up.
+fn push_tick_up_opening(text: &mut String, time: Option<Tick>) -> Result<(), AllocError>
+    ensures { OnOk result (string_bytes text.new ≡ string_bytes text.old ++ tick_up_opening time) }
+{
+    match time {
+        Some(_) => text.push_str("<span style=\"white-space:normal;text-align:right;bottom:"),
+        None => text.push_str("<span style=\"bottom:"),
+    }
 }

@@ -14,7 +14,7 @@ mod palette;
 mod round;
 mod shapes;
 
-pub use axis::{push_across, push_time_across, push_up};
+pub use axis::{push_across, push_time_across, push_time_up, push_up};
 pub use escape::{push_escaped, push_markup};
 pub use laws::escaped_texts_are_no_markup;
 pub use legend::{push_counted, push_entry};
