@@ -4,14 +4,14 @@ ghost use Rattle.std.specs.List.{flat_map, range_with_len};
 ghost use Rattle.std.specs.String.{string_bytes};
 ghost use Rattle.drawing.specs.Axes.{at_ticks};
 ghost use Rattle.drawing.specs.Rounds.{round_step};
-ghost use Rattle.sweep_page.specs.Front.{farthest, front_heading, highest, messages_words, most_messages, plane_title, plane_words, reach_of, speed_words, unit_words, share_tick, shares_up, plane, plane_opening, front_row, front_row_of, front_heads, front_table, front_words, front_chart, front_figure};
+ghost use Rattle.sweep_page.specs.Front.{axis_of, time_where, farthest, front_heading, highest, messages_words, most_messages, plane_title, plane_words, reach_of, speed_words, unit_words, share_tick, shares_up, plane, plane_opening, front_row, front_row_of, front_heads, front_table, front_words, front_chart, front_figure};
 
 use crate::front_points::{FrontPoint, across_of};
 use crate::marks::{push_joined, push_marks, push_numbers};
 use crate::table::push_shares;
 use base::Memory;
 use drawing::{
-    close_figure, close_plot, open_figure, open_plot, push_across, push_markup, push_place,
+    close_figure, close_plot, open_figure, open_plot, push_markup, push_place, push_time_across,
     round_step,
 };
 use figures::SettingSummary;
@@ -21,6 +21,7 @@ use sweep_cells::{
     thousandths,
 };
 use sweep_plan::Plan;
+use ticks::Tick;
 
 /// The greatest number that an axis reaches.
 const MOST: u64 = 1_000_000_000_000_000_000;
@@ -97,19 +98,20 @@ fn most_messages(settings: &[SettingSummary]) -> u128
 pub(crate) fn push_front(
     alloc: Global,
     text: &mut String,
+    time: Option<Tick>,
     plan: &Plan,
     settings: &[SettingSummary],
     front: &[bool],
     points: &[FrontPoint],
     crashed: bool,
 ) -> Result<(), Memory>
-    ensures { OnOk result (string_bytes text.new ≡ string_bytes text.old ++ front_figure crashed plan.now.swept_keys settings.now front.now points.now) }
+    ensures { OnOk result (string_bytes text.new ≡ string_bytes text.old ++ front_figure time crashed plan.now.swept_keys settings.now front.now points.now) }
 {
     let reach = reach_of(crashed, settings);
     open_figure(text, "front", front_heading(crashed))?;
     push_words(text, crashed)?;
-    push_chart(text, settings, front, points, &reach)?;
-    push_rows(alloc, text, plan, settings, points)?;
+    push_chart(text, time, settings, front, points, &reach)?;
+    push_rows(alloc, text, time, plan, settings, points)?;
     close_figure(text)?;
     Ok(())
 }
@@ -156,6 +158,7 @@ fn push_messages_words(text: &mut String) -> Result<(), AllocError>
 #[tactic(auto, unfolding(crate::specs::Front::front_chart))]
 fn push_chart(
     text: &mut String,
+    time: Option<Tick>,
     settings: &[SettingSummary],
     front: &[bool],
     points: &[FrontPoint],
@@ -163,13 +166,34 @@ fn push_chart(
 ) -> Result<(), AllocError>
     requires across { reach.now.across < 2 ^ 63 }
     requires up { reach.now.up < 2 ^ 63 }
-    ensures { OnOk result (string_bytes text.new ≡ string_bytes text.old ++ front_chart reach.now settings.now front.now points.now) }
+    ensures { OnOk result (string_bytes text.new ≡ string_bytes text.old ++ front_chart time reach.now settings.now front.now points.now) }
 {
     push_markup(text, "<div class=\"chart\">")?;
     push_shares_up(text, reach.up)?;
     push_plane(text, settings, front, points, reach)?;
-    push_across(text, reach.across, unit_words(reach.crashed))?;
+    push_axis(text, time, reach)?;
     push_markup(text, "</div>")
+}
+
+/// Appends the axis across.
+#[tactic(auto, unfolding(crate::specs::Front::axis_of))]
+fn push_axis(text: &mut String, time: Option<Tick>, reach: &Reach) -> Result<(), AllocError>
+    requires { reach.now.across < 2 ^ 63 }
+    ensures { OnOk result (string_bytes text.new ≡ string_bytes text.old ++ axis_of time reach.now) }
+{
+    push_time_across(
+        text,
+        reach.across,
+        unit_words(reach.crashed),
+        time_where(time, reach.crashed),
+    )
+}
+
+/// How long a tick lasts, where time is across.
+fn time_where(time: Option<Tick>, crashed: bool) -> Option<Tick>
+    ensures { result ≡ time_where time crashed }
+{
+    if crashed { time } else { None }
 }
 
 /// Appends the axis of shares.
@@ -293,14 +317,15 @@ fn front_heading(crashed: bool) -> &'static str
 fn push_rows(
     alloc: Global,
     text: &mut String,
+    time: Option<Tick>,
     plan: &Plan,
     settings: &[SettingSummary],
     points: &[FrontPoint],
 ) -> Result<(), Memory>
-    ensures { OnOk result (string_bytes text.new ≡ string_bytes text.old ++ front_table plan.now.swept_keys settings.now points.now) }
+    ensures { OnOk result (string_bytes text.new ≡ string_bytes text.old ++ front_table time plan.now.swept_keys settings.now points.now) }
 {
     push_heads(text)?;
-    push_rows_of(alloc, text, plan, settings, points)?;
+    push_rows_of(alloc, text, time, plan, settings, points)?;
     push_markup(text, "</tbody></table></div></details>")?;
     Ok(())
 }
@@ -324,14 +349,15 @@ fn push_heads(text: &mut String) -> Result<(), AllocError>
 fn push_rows_of(
     alloc: Global,
     text: &mut String,
+    time: Option<Tick>,
     plan: &Plan,
     settings: &[SettingSummary],
     points: &[FrontPoint],
 ) -> Result<(), Memory>
-    ensures { OnOk result (string_bytes text.new ≡ string_bytes text.old ++ flat_map (front_row_of plan.now.swept_keys settings.now) points.now) }
+    ensures { OnOk result (string_bytes text.new ≡ string_bytes text.old ++ flat_map (front_row_of time plan.now.swept_keys settings.now) points.now) }
 {
     for point in points {
-        push_row_of(alloc, text, plan, settings, point)?;
+        push_row_of(alloc, text, time, plan, settings, point)?;
     }
     Ok(())
 }
@@ -341,14 +367,15 @@ fn push_rows_of(
 fn push_row_of(
     alloc: Global,
     text: &mut String,
+    time: Option<Tick>,
     plan: &Plan,
     settings: &[SettingSummary],
     point: &FrontPoint,
 ) -> Result<(), Memory>
-    ensures { OnOk result (string_bytes text.new ≡ string_bytes text.old ++ front_row_of plan.now.swept_keys settings.now point.now) }
+    ensures { OnOk result (string_bytes text.new ≡ string_bytes text.old ++ front_row_of time plan.now.swept_keys settings.now point.now) }
 {
     match setting_at(settings, point.place) {
-        Some(setting) => push_row(alloc, text, plan, point.place, &setting),
+        Some(setting) => push_row(alloc, text, time, plan, point.place, &setting),
         None => Ok(()),
     }
 }
@@ -358,18 +385,19 @@ fn push_row_of(
 fn push_row(
     alloc: Global,
     text: &mut String,
+    time: Option<Tick>,
     plan: &Plan,
     place: usize,
     setting: &SettingSummary,
 ) -> Result<(), Memory>
-    ensures { OnOk result (string_bytes text.new ≡ string_bytes text.old ++ front_row plan.now.swept_keys place setting.now) }
+    ensures { OnOk result (string_bytes text.new ≡ string_bytes text.old ++ front_row time plan.now.swept_keys place setting.now) }
 {
     push_markup(text, "<tr><th scope=\"row\">")?;
     push_number(text, place)?;
     push_markup(text, "</th><td>")?;
     push_swept_keys_at(alloc, text, plan, place)?;
     push_markup(text, "</td>")?;
-    push_time_cell(text, setting.confirm_p50)?;
+    push_time_cell(text, time, setting.confirm_p50)?;
     push_shares(text, setting)?;
     push_markup(text, "<td>")?;
     push_rate(text, setting.messages)?;
