@@ -7,7 +7,7 @@ ghost use Rattle.arguments.specs.Rules.{IsLocal};
 ghost use Rattle.command_line.specs.Words.{run_app, with_outputs, with_parting, IsRunIn, IsSplitIn};
 
 use crate::chained::{and_flag, and_option, and_required};
-use crate::lasting::tick_asked;
+use crate::lasting::{tick_asked, with_tick};
 use crate::words::{RunWords, Split};
 use arguments::{is_given, new_command, value_of, with_file};
 use clap::{ArgMatches, Command};
@@ -25,7 +25,7 @@ pub(crate) fn run_command<'a>(alloc: Global) -> Result<Command<'a>, AllocError>
         alloc,
         parted,
         "progress",
-        "Tells on standard error how far the run has come",
+        "Prints on standard error how far the run has come",
     )
 }
 
@@ -57,13 +57,7 @@ fn with_outputs<'a>(
         "P",
         "The file that takes a page of the run, in HTML; one that is there is replaced",
     );
-    and_option(
-        alloc,
-        paged,
-        "tick",
-        "LENGTH",
-        "How long a tick lasts, from 1us to 1s, as 1ms: the page then tells its times in units too",
-    )
+    with_tick(alloc, paged)
 }
 
 /// A command with the options more that say how many workers run a scenario, and which part each
@@ -93,7 +87,7 @@ fn with_parting<'a>(
         parted,
         "division",
         "LIST",
-        "The part of each member, 0 to 63, parted by commas; not together with --parts",
+        "The part of each member, 0 to 63, separated by commas; not together with --parts",
     )
 }
 

@@ -45,7 +45,7 @@ pub struct RunWords<'a> {
     pub report: Option<&'a str>,
     /// The name of the file that takes the page, where one is asked for.
     pub page: Option<&'a str>,
-    /// How long a tick lasts, where that is said: the page then tells its times in units too.
+    /// How long a tick lasts, where that is said: the page then shows its times in units, too.
     pub tick: Option<Tick>,
     /// How many workers run it; one where that isn't said.
     pub workers: Option<&'a str>,
@@ -79,6 +79,8 @@ pub struct SweepWords<'a> {
     pub jsonl: bool,
     /// The name of the file that takes the page, where one is asked for. Never with a shard.
     pub page: Option<&'a str>,
+    /// How long a tick lasts, where that is said: the page then shows its times in units, too.
+    pub tick: Option<Tick>,
 }
 
 /// What the words ask for.

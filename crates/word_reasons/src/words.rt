@@ -62,7 +62,7 @@ fn taken_reason<'a>(
     }
     match matches.subcommand_matches("sweep") {
         Some(sweep) => sweep_failed(alloc, sweep, failure),
-        None => Ok(None),
+        None => Ok(page_reason(matches, failure)),
     }
 }
 
@@ -107,6 +107,19 @@ fn sweep_failed<'a>(
     }
 }
 
+/// What is wrong with the words of a page.
+fn page_reason<'a>(matches: &ArgMatches<'a>, failure: &Failure<'_>) -> Option<WordReason<'a>>
+    ensures { IfSome result (IsReasonMet (subcommand_rows_of matches.now)) }
+{
+    match failure {
+        Failure::Usage => {
+            let page = matches.subcommand_matches("page")?;
+            tick_word(page)
+        }
+        _ => None,
+    }
+}
+
 /// What is wrong with the words of a joining.
 fn join_reason<'a>(
     alloc: Global,
@@ -118,8 +131,18 @@ fn join_reason<'a>(
     match failure {
         Failure::Usage => match join_clash(join) {
             Some(clash) => Ok(Some(clash)),
-            None => wants_reason(alloc, join),
+            None => join_word(alloc, join),
         },
         _ => Ok(None),
+    }
+}
+
+/// What is wrong with the word of `--tick` in the words of a joining, else with what is wanted.
+fn join_word<'a>(alloc: Global, join: &ArgMatches<'a>) -> Result<Option<WordReason<'a>>, Memory>
+    ensures { IfOk result (λ reason. IfSome reason (IsReasonOf (rows_of (found_of join.now)))) }
+{
+    match tick_word(join) {
+        Some(tick) => Ok(Some(tick)),
+        None => wants_reason(alloc, join),
     }
 }
