@@ -77,6 +77,8 @@ def cells(tag, values):
 
 # room for a second line beneath an axis across
 STYLE_OF_TWO_LINES = ' style="height:2.8em"'
+# several lines for a tick of an axis up
+STYLE_OF_SEVERAL_LINES = 'white-space:normal;text-align:right;'
 
 
 def step_of(most, ticks):
@@ -100,10 +102,11 @@ def axis_across(most, unit, tick=None):
     return text + f'</div><p class="unit">{escaped(unit)}</p>'
 
 
-def axis_up(most, told=grouped):
-    text = '<div class="up" aria-hidden="true">'
+def axis_up(most, told=grouped, tick=None):
+    """An axis up; one of time has lengths behind its ticks, on further lines, where it is known how long a tick of the simulation lasts."""
+    text, lines = '<div class="up" aria-hidden="true">', STYLE_OF_SEVERAL_LINES if tick else ''
     for at in steps_up(most, 4):
-        text += f'<span style="bottom:{place(at, most)}">{told(at)}</span>'
+        text += f'<span style="{lines}bottom:{place(at, most)}">{told(at)}{lasting(tick, at)}</span>'
     return text + '</div>'
 
 
