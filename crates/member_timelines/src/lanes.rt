@@ -297,5 +297,6 @@ fn push_row(
     push_escaped(text, name)?;
     write!(text, "<td>{from}")?;
     push_lasting(text, time, from)?;
-    write!(text, "<td>{suspected}<td>{dead}")
+    write!(text, "<td>{suspected}<td>{dead}")?;
+    Ok(())
 }

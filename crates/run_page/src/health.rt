@@ -252,5 +252,6 @@ fn push_row(
 {
     write!(text, "<tr><td>{value}<td>{from}")?;
     push_lasting(text, time, from)?;
-    write!(text, "<td>{count}")
+    write!(text, "<td>{count}")?;
+    Ok(())
 }

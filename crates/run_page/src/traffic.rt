@@ -212,7 +212,8 @@ fn push_words(
     text.push_str(words)?;
     write!(text, "{width} ticks")?;
     push_lasting(text, time, width)?;
-    text.push_str(".</p>")
+    text.push_str(".</p>")?;
+    Ok(())
 }
 
 /// Appends the messages that were lost, where some were.
