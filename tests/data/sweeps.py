@@ -30,6 +30,8 @@ delay = 10
 name = "n"
 count = 2
 '''
+# words that say how long a tick lasts, and how many microseconds that is
+TICKS = ((None, None), ('1ms', 1000), ('700us', 700))
 WORKERS = ([], ['--workers', '1'], ['--workers', '2'], ['--workers', '3'], ['--workers', '64'])
 
 
@@ -132,27 +134,29 @@ def check(program, sweep):
     objects = objects_of(lines, keys)
     expect_ran(program.call([*words, '--jsonl']), 0, objects, b'', 'objects ')
     expect('table beside objects', program.held('t.csv'), table)
-    plain = check_page(program, [*words, '--page', 'p.html'], sweep, lines, objects, spreads)
-    expect('table beside the page', program.held('t.csv'), table)
-    check_read(program, wants, lines, plain)
+    for word, tick in TICKS:
+        told = ['--tick', word] if word else []
+        plain = check_page(program, [*words, '--page', 'p.html', *told], sweep, lines, objects, spreads, tick)
+        expect('table beside the page', program.held('t.csv'), table)
+        check_read(program, wants, lines, plain, told)
 
 
-def check_read(program, wants, lines, plain):
-    """Reads the table of the sweep, beside its page: `page` makes that page without what is wanted, and `join` gives its lines,
-    its page and itself."""
-    expect_ran(program.call(['page', 't.csv', '--out', 'q.html', '--name', 's.toml']), 0, b'', b'', 'page of the table ')
+def check_read(program, wants, lines, plain, told):
+    """Reads the table of the sweep, beside its page, with this told of a tick: `page` makes that page without what is wanted, and
+    `join` gives its lines, its page and itself."""
+    expect_ran(program.call(['page', 't.csv', '--out', 'q.html', '--name', 's.toml', *told]), 0, b'', b'', 'page of the table ')
     expect('page of the table', program.held('q.html'), plain)
-    program.call(['page', 't.csv', '--out', 'q.html', '--name', NAME])
+    program.call(['page', 't.csv', '--out', 'q.html', '--name', NAME, *told])
     expect('page by a name', program.held('q.html'), plain.replace(b's.toml', escaped(NAME).encode()))
-    words = ['join', 't.csv', '--table', 'u.csv', '--page', 'r.html', '--name', 's.toml', *wants]
+    words = ['join', 't.csv', '--table', 'u.csv', '--page', 'r.html', '--name', 's.toml', *told, *wants]
     expect_ran(program.call(words), 0, lines, b'', 'join of the table ')
     expect('join of the table', program.held('u.csv'), program.held('t.csv'))
     expect('page of the join', program.held('r.html'), program.held('p.html'))
 
 
-def check_page(program, words, sweep, lines, objects, spreads):
-    """Compares the page of a sweep with the model's, over these objects of its cases, and how their times spread; its style
-    is taken as it stands. Answers the page without what is wanted."""
+def check_page(program, words, sweep, lines, objects, spreads, tick):
+    """Compares the page of a sweep with the model's, over these objects of its cases, and how their times spread, where a tick lasts so
+    many microseconds, or it isn't known how long; its style is taken as it stands. Answers the page without what is wanted."""
     expect_ran(program.call(words), 0, lines, b'', 'page ')
     page = program.held('p.html')
     style = page.partition(b'<style>')[2].partition(b'</style>')[0].decode()
@@ -160,8 +164,8 @@ def check_page(program, words, sweep, lines, objects, spreads):
     told = [{**json.loads(line), **spread} for line, spread in zip(objects.splitlines(), spreads, strict=True)]
     seeds = len(seeds_of(sweep.get('seeds')) or [0])
     shown = ('s.toml', release, style, settings_of(sweep['set']), seeds, 'until' in sweep, told)
-    expect('page', page, page_of(*shown, sweep.get('want', [])).encode())
-    return page_of(*shown).encode()
+    expect('page', page, page_of(*shown, sweep.get('want', []), tick).encode())
+    return page_of(*shown, tick=tick).encode()
 
 
 def check_pace(program, counts):

@@ -27,6 +27,37 @@ def grouped(number):
     return f'{number:,}'
 
 
+# how many microseconds each unit of a length has
+SECOND = 10**6
+LONG_UNITS = (('d', 24 * 3600 * SECOND), ('h', 3600 * SECOND), ('min', 60 * SECOND))
+SHORT_UNITS = (('s', SECOND), ('ms', 1000), ('&micro;s', 1))
+
+
+def in_unit(length, name, unit):
+    whole, part = divmod(length * 10**6 // unit, 10**6)
+    return f'{whole}.{part:06}'.rstrip('0').rstrip('.') + f' {name}'
+
+
+def length_words(length):
+    """A length of so many microseconds, in words."""
+    words = []
+    for name, unit in LONG_UNITS:
+        count, length = divmod(length, unit)
+        words += [f'{count} {name}'] if count else []
+    if words:
+        return ' '.join(words + ([in_unit(length, 's', SECOND)] if length else []))
+    return in_unit(length, *next((it for it in SHORT_UNITS if it[1] <= length), SHORT_UNITS[0]))
+
+
+def lasting(tick, ticks):
+    """How long so many ticks last, where it is known how many microseconds a tick lasts."""
+    return f' ({length_words(tick * ticks)})' if tick else ''
+
+
+def time_text(tick, ticks):
+    return grouped(ticks) + lasting(tick, ticks)
+
+
 def place(value, most):
     """Where a value stands on an axis, in percent."""
     parts = 10000 if value >= most else value * 10000 // most
@@ -44,6 +75,12 @@ def cells(tag, values):
 
 # ---- Axes and legends ----
 
+# room for a second line beneath an axis across
+STYLE_OF_TWO_LINES = ' style="height:2.8em"'
+# several lines for a tick of an axis up
+STYLE_OF_SEVERAL_LINES = 'white-space:normal;text-align:right;'
+
+
 def step_of(most, ticks):
     """The least round step of which so many, at most, fit."""
     steps = (digit * 10 ** power for power in range(19) for digit in (1, 2, 5))
@@ -55,18 +92,21 @@ def steps_up(most, ticks):
     return range(0, most + 1, step)
 
 
-def axis_across(most, unit):
-    text = '<div class="across" aria-hidden="true">'
+def axis_across(most, unit, tick=None):
+    """An axis across; one of time has lengths beneath its ticks, where it is known how long a tick of the simulation lasts."""
+    text = f'<div class="across"{STYLE_OF_TWO_LINES if tick else ""} aria-hidden="true">'
     for at in steps_up(most, 5):
         style = ' class="last"' if at > most - most // 16 else ''
-        text += f'<span{style} style="left:{place(at, most)}">{grouped(at)}</span>'
+        beneath = f'<br>{length_words(tick * at)}' if tick else ''
+        text += f'<span{style} style="left:{place(at, most)}">{grouped(at)}{beneath}</span>'
     return text + f'</div><p class="unit">{escaped(unit)}</p>'
 
 
-def axis_up(most, told=grouped):
-    text = '<div class="up" aria-hidden="true">'
+def axis_up(most, told=grouped, tick=None):
+    """An axis up; one of time has lengths behind its ticks, on further lines, where it is known how long a tick of the simulation lasts."""
+    text, lines = '<div class="up" aria-hidden="true">', STYLE_OF_SEVERAL_LINES if tick else ''
     for at in steps_up(most, 4):
-        text += f'<span style="bottom:{place(at, most)}">{told(at)}</span>'
+        text += f'<span style="{lines}bottom:{place(at, most)}">{told(at)}{lasting(tick, at)}</span>'
     return text + '</div>'
 
 

@@ -3,8 +3,8 @@
 Written from docs/PAGES.md ("The page of a run") alone.
 """
 
-from model_drawing import (FIGURE_END, PLOT_END, area, axis_across, axis_up, band, dot, escaped, figure, grouped, legend,
-                           legend_entry, line, page_opening, plot, rule)
+from model_drawing import (FIGURE_END, PLOT_END, area, axis_across, axis_up, band, dot, escaped, figure, grouped, lasting, legend,
+                           legend_entry, line, page_opening, plot, rule, time_text)
 from model_run_series import MOST_HEALTH, MOST_SPANS, Series, deaths_of
 from model_text import CONFIRM, SUSPECT
 from scenarios import keys_of
@@ -30,10 +30,10 @@ def folded(summary, heads):
 
 
 class Page:
-    """The page of a run of a scenario with these rows."""
+    """The page of a run of a scenario with these rows, where a tick lasts so many microseconds, or it isn't known how long."""
 
-    def __init__(self, scenario, rows):
-        self.scenario, self.series = scenario, Series(scenario, rows)
+    def __init__(self, scenario, rows, tick):
+        self.scenario, self.series, self.tick = scenario, Series(scenario, rows), tick
         self.others = max(1, len(self.series.names) - 1)
         self.past = self.series.end + 1
         self.lanes = self.series.lanes()
@@ -43,15 +43,21 @@ class Page:
         return (self.summary() + self.lanes_figure() + self.false_deaths() + self.causes() + self.spread() + self.traffic() + self.health()
                 + Settings(self.scenario).text(release))
 
+    def time(self, ticks):
+        return time_text(self.tick, ticks)
+
+    def lasting(self, ticks):
+        return lasting(self.tick, ticks)
+
     def time_axis(self):
-        return axis_across(max(1, self.series.end), 'moment, in ticks')
+        return axis_across(max(1, self.series.end), 'moment, in ticks', self.tick)
 
     # what happened, in words
 
     def summary(self):
         series = self.series
         crashed, out = len(series.crash), sum(story.false_deaths > 0 for story in series.stories)
-        text = (f'<p class="lead">{counted(len(series.names), "member", "members")}, {counted(series.end, "tick", "ticks")}. '
+        text = (f'<p class="lead">{counted(len(series.names), "member", "members")}, {counted(series.end, "tick", "ticks")}{self.lasting(series.end)}. '
                 + self.crash_words(crashed))
         text += {0: 'No member that was up was declared dead.',
                  1: '<b>1 member was declared dead while it was up.</b>'}.get(
@@ -78,8 +84,8 @@ class Page:
             return text + ', undetected. '
         was = 'was' if len(found) == 1 else 'were'
         text += f', {len(found)} of them {was} detected' if len(found) < crashed else ''
-        upto = f' to {grouped(max(found))}' if max(found) > min(found) else ''
-        return f'{text}: first declared dead after {grouped(min(found))}{upto} ticks. '
+        upto = f' to {self.time(max(found))}' if max(found) > min(found) else ''
+        return f'{text}: first declared dead after {self.time(min(found))}{upto} ticks. '
 
     # a lane for each member of whom there is something to tell
 
@@ -138,11 +144,11 @@ class Page:
         words = []
         if story.false_deaths:
             back = sum(story.recovered.values())
-            words.append(f'<b>{counted(story.false_deaths, "false death", "false deaths")}</b>, first at {grouped(story.first_confirm[0])}'
+            words.append(f'<b>{counted(story.false_deaths, "false death", "false deaths")}</b>, first at {self.time(story.first_confirm[0])}'
                          + (f', declared alive again {counted(back, "time", "times")}' if back else ''))
         if member in series.crash or member in series.leave:
-            gone = f'crashed at {grouped(series.crash[member])}' if member in series.crash else f'left at {grouped(series.leave[member])}'
-            found = f'first declared dead at {grouped(story.first_confirm[0])}' if story.first_confirm else 'never declared dead'
+            gone = f'crashed at {self.time(series.crash[member])}' if member in series.crash else f'left at {self.time(series.leave[member])}'
+            found = f'first declared dead at {self.time(story.first_confirm[0])}' if story.first_confirm else 'never declared dead'
             words.append(f'{gone}, {found}')
         return '; '.join(words) or ('suspected, and refuted it' if story.last_refute else 'never declared dead')
 
@@ -152,7 +158,8 @@ class Page:
             last = 0, 0
             for span, both in enumerate(zip(*self.claims(member))):
                 if both != last:
-                    text += f'<tr><td>{self.series.names[member]}<td>{span * self.series.width}<td>{both[0]}<td>{both[1]}'
+                    text += (f'<tr><td>{self.series.names[member]}<td>{span * self.series.width}{self.lasting(span * self.series.width)}'
+                             f'<td>{both[0]}<td>{both[1]}')
                 last = both
         return text + TABLE_END
 
@@ -170,8 +177,8 @@ class Page:
     def false_deaths_row(self, member):
         story = self.series.stories[member]
         moment, accuser, place = story.first_confirm
-        refuted = f'<td>{grouped(story.last_refute[0])}<td>{story.last_refute[1]}' if story.last_refute else '<td>never<td>'
-        return (f'<tr><td>{self.series.names[member]}<td>{grouped(moment)}<td>{self.series.names[accuser]}<td>{place}'
+        refuted = f'<td>{self.time(story.last_refute[0])}<td>{story.last_refute[1]}' if story.last_refute else '<td>never<td>'
+        return (f'<tr><td>{self.series.names[member]}<td>{self.time(moment)}<td>{self.series.names[accuser]}<td>{place}'
                 f'<td>{grouped(story.false_deaths)}<td>{grouped(sum(story.recovered.values()))}<td>{self.condition(member, moment)}'
                 f'<td>{grouped(story.failed_probes)}{refuted}\n')
 
@@ -198,14 +205,14 @@ class Page:
 
     def cause(self, death):
         row, names = death.row, self.series.names
-        text = f'<div class="cause"><h3>{names[row.about]} at {grouped(row.moment)}</h3><ul>'
+        text = f'<div class="cause"><h3>{names[row.about]} at {self.time(row.moment)}</h3><ul>'
         text += f'<li>{names[row.member]} declared it dead first, on line {death.line}, under incarnation number {grouped(row.value)}.'
         text += f'{self.states(row.member, row.moment, row.moment)}</li>'
         since = self.began(death.accusers[0]) if death.accusers else row.moment
-        text += f'<li>From {grouped(since)} until its death:{self.states(row.about, since, row.moment)}</li>'
+        text += f'<li>From {self.time(since)} until its death:{self.states(row.about, since, row.moment)}</li>'
         if death.refutation:
             refuted, line, heard = death.refutation
-            text += (f'<li>It had last refuted at {grouped(refuted.moment)}, on line {line}; members that had heard of that by then: '
+            text += (f'<li>It had last refuted at {self.time(refuted.moment)}, on line {line}; members that had heard of that by then: '
                      f'{grouped(heard)}.</li>')
         else:
             text += '<li>It had refuted nothing.</li>'
@@ -228,10 +235,10 @@ class Page:
 
     def accuser(self, accuser):
         row, line, ping = accuser
-        text = f'<li>{self.series.names[row.member]} accused it at {grouped(row.moment)}, on line {line}.'
+        text = f'<li>{self.series.names[row.member]} accused it at {self.time(row.moment)}, on line {line}.'
         if ping:
             sent, place = ping
-            text += f' Its ping of {grouped(sent.moment)}, on line {place}, {"was" if sent.lost else "wasn" + chr(39) + "t"} lost.'
+            text += f' Its ping of {self.time(sent.moment)}, on line {place}, {"was" if sent.lost else "wasn" + chr(39) + "t"} lost.'
         return f'{text}{self.states(row.member, self.began(accuser), row.moment)}</li>'
 
     def states(self, member, first, last):
@@ -242,9 +249,9 @@ class Page:
                                       (self.series.cuts(member), 'at', 'cut off')):
             then = [entry for entry in entries if entry[begin] <= last and first < entry['until']]
             if then:
-                told = words.format(grouped(then[-1].get('extra', 0)))
-                text += (f' {self.series.names[member]} was {told} from {grouped(then[-1][begin])} until '
-                         f'{grouped(then[-1]["until"])}.')
+                told = words.format(self.time(then[-1].get('extra', 0)))
+                text += (f' {self.series.names[member]} was {told} from {self.time(then[-1][begin])} until '
+                         f'{self.time(then[-1]["until"])}.')
         return text or f' {self.series.names[member]} was well.'
 
     # how the news of a crash spread
@@ -274,15 +281,14 @@ class Page:
         for kind, times in (('suspect', suspected), ('dead', dead)):
             reached = [sum(time < (nth + 1) * step for time in times) for nth in range(MOST_SPANS)]
             text += line(kind, reached, step, most)
-        text += f'{PLOT_END}{axis_across(width, "ticks since the crash")}</div>'
+        text += f'{PLOT_END}{axis_across(width, "ticks since the crash", self.tick)}</div>'
         text += '<div class="wide"><table><tr><th>of those up<th>first<th>50 %<th>90 %<th>99 %<th>all</tr>'
         text += self.shares('suspected it after', suspected, len(stay)) + self.shares('declared it dead after', dead, len(stay))
         return text + '</table></div></div>\n'
 
-    @staticmethod
-    def shares(words, times, of_all):
+    def shares(self, words, times, of_all):
         ranks = [max(1, (of_all * percent + 99) // 100) for percent in (0, 50, 90, 99, 100)]
-        return f'<tr><td>{words}' + ''.join(f'<td>{grouped(times[rank - 1]) if rank <= len(times) else "-"}' for rank in ranks)
+        return f'<tr><td>{words}' + ''.join(f'<td>{self.time(times[rank - 1]) if rank <= len(times) else "-"}' for rank in ranks)
 
     # messages, and health
 
@@ -315,17 +321,18 @@ class Page:
         if all_sent:
             layers = [(MESSAGE_CLASSES[kind], heights) for kind, heights in zip(series.kinds, sent)]
             text += self.chart('', 'Messages sent', 'How many messages of each kind were sent in each span of time.', layers)
-            text += f'<p class="soft">Sent in each span of {series.width} ticks.</p>' + self.losses(lost)
+            text += f'<p class="soft">Sent in each span of {series.width} ticks{self.lasting(series.width)}.</p>' + self.losses(lost)
             text += folded('The messages as a table', '<th>from moment' + ''.join(f'<th>{kind}<th>lost' for kind in series.kinds))
             for span in series.spans:
-                text += f'<tr><td>{span * series.width}' + ''.join(f'<td>{ours[span]}<td>{theirs[span]}' for ours, theirs in zip(sent, lost))
+                text += f'<tr><td>{span * series.width}{self.lasting(span * series.width)}'
+                text += ''.join(f'<td>{ours[span]}<td>{theirs[span]}' for ours, theirs in zip(sent, lost))
             text += TABLE_END
         return text + FIGURE_END
 
     def losses(self, lost):
         layer = [sum(counts) for counts in zip(*lost)]
         text = self.chart('low', 'Messages lost', 'How many messages were lost in each span of time.', [('lost', layer)])
-        return text + (f'<p class="soft">Lost in each span of {self.series.width} ticks.</p>' if text else '')
+        return text + (f'<p class="soft">Lost in each span of {self.series.width} ticks{self.lasting(self.series.width)}.</p>' if text else '')
 
     def health(self):
         series = self.series
@@ -342,7 +349,7 @@ class Page:
         for value, counts in zip(values, heights):
             for span, count in enumerate(counts):
                 if count != (counts[span - 1] if span else 0):
-                    text += f'<tr><td>{value}<td>{span * series.width}<td>{count}'
+                    text += f'<tr><td>{value}<td>{span * series.width}{self.lasting(span * series.width)}<td>{count}'
         return text + TABLE_END + FIGURE_END
 
 
@@ -398,7 +405,7 @@ class Settings:
         return ''.join(self.item(escaped(it), False) for it in words)
 
 
-def page_of(name, release, style, scenario, rows):
-    """The page of the run of a scenario's file of this name."""
+def page_of(name, release, style, scenario, rows, tick=None):
+    """The page of the run of a scenario's file of this name, where a tick lasts so many microseconds, or it isn't known how long."""
     head = page_opening(name, ' - swimsim', style) + f'{escaped(name)}</h1></header>\n'
-    return head + Page(scenario, rows).text(release) + '</main></body></html>\n'
+    return head + Page(scenario, rows, tick).text(release) + '</main></body></html>\n'

@@ -6,7 +6,8 @@ Written from docs/PAGES.md ("The page of a sweep"); how it looks is the style's,
 
 from collections import namedtuple
 
-from model_drawing import FIGURE_END, axis_across, axis_up, cells, escaped, figure, grouped, heads, page_opening, place, plot
+from model_drawing import (FIGURE_END, axis_across, axis_up, cells, escaped, figure, grouped, heads, page_opening, place, plot,
+                           time_text)
 from model_sweeps import axes_of, cases_of, more_runs
 from model_sweep_times import times_figure
 
@@ -63,10 +64,6 @@ def hundredths(rate):
 
 # ---- Numbers and words ----
 
-def time(ticks):
-    return '-' if ticks is None else grouped(ticks)
-
-
 def rate(parts):
     return '-' if parts is None else f'{parts // 100}.{parts % 100:02}'
 
@@ -102,16 +99,20 @@ FOLDED_END = '</tbody></table></div></details></section>\n'
 # ---- The page ----
 
 class Page:
-    """The page of a sweep of these settings, with so many seeds, or at most so many, over the cases in their order."""
+    """The page of a sweep of these settings, with so many seeds, or at most so many, over the cases in their order, where a tick lasts
+    so many microseconds, or it isn't known how long."""
 
-    def __init__(self, settings, seeds, at_most, cases, wants):
+    def __init__(self, settings, seeds, at_most, cases, wants, tick):
         self.settings, self.seeds, self.cases = settings, seeds, [Shown(told) for told in cases]
-        self.at_most, self.all_told = at_most, cases
+        self.at_most, self.all_told, self.tick = at_most, cases, tick
         self.choices = cases_of(settings)
         self.wants, self.crashed = wants, any(told['crashes'] for told in cases)
         on_front = [Front(self.across(case), at) for at, case in enumerate(self.cases)
                     if case.is_best and self.across(case) is not None]
         self.front = sorted(on_front)
+
+    def time(self, ticks):
+        return '-' if ticks is None else time_text(self.tick, ticks)
 
     def across(self, case):
         """Where a case stands across the front: by its median, or by its messages where no run has a crash."""
@@ -192,7 +193,7 @@ class Page:
 
     def item(self, at):
         case = self.cases[at]
-        speed = (f'<span>first confirmed after <b>{time(case.confirmed)}</b> ticks, median</span>' if self.crashed else
+        speed = (f'<span>first confirmed after <b>{self.time(case.confirmed)}</b> ticks, median</span>' if self.crashed else
                  f'<span><b>{rate(case.deaths)}</b> false deaths per run</span>')
         return (f'<li class="{case.safety()}"><span class="number">{grouped(at + 1)}</span><code>{self.name(at)}</code>{speed}'
                 f'<span>a false death in <b>{of_runs(case)}</b> runs ({interval(case)})</span>'
@@ -219,7 +220,7 @@ class Page:
                      f'Across: {told}. Up: the share of runs with a false death. The table beneath has the settings on the front.')
         text += ''.join(self.dot(case, up) for case in self.cases if not case.is_best) + self.joined(up)
         text += ''.join(self.dot(case, up) for case in self.cases if case.is_best) + '</svg>' + self.numbers(across, up)
-        text += '</div>' + axis_across(across, unit) + '</div>'
+        text += '</div>' + axis_across(across, unit, self.tick if self.crashed else None) + '</div>'
         return text + self.front_table()
 
     def dot(self, case, up):
@@ -246,7 +247,7 @@ class Page:
                        'false deaths per run', 'messages per member per 1,000 ticks'))
         for _, at in self.front:
             case = self.cases[at]
-            values = (self.name(at), time(case.confirmed), *self.shares(case), rate(case.messages))
+            values = (self.name(at), self.time(case.confirmed), *self.shares(case), rate(case.messages))
             text += f'<tr>{row_head(grouped(at + 1))}{cells("td", values)}</tr>'
         return text + FOLDED_END
 
@@ -256,7 +257,7 @@ class Page:
     # how the times of those on the front spread
 
     def times_figure(self):
-        return times_figure([(at + 1, self.name(at), self.all_told[at]) for _, at in self.front])
+        return times_figure([(at + 1, self.name(at), self.all_told[at]) for _, at in self.front], self.tick)
 
     # what each key changes
 
@@ -290,7 +291,7 @@ class Page:
     def row(self, at, case):
         begin, star = ('<tr class="best">', '&#9733;&nbsp;') if case.is_best else ('<tr>', '')
         times = (case.suspected, case.late, case.latest, case.last, case.last_latest)
-        values = (*map(word, self.choices[at]), time(case.confirmed), *self.shares(case), *map(time, times), rate(case.false),
+        values = (*map(word, self.choices[at]), self.time(case.confirmed), *self.shares(case), *map(self.time, times), rate(case.false),
                   rate(case.messages))
         return f'{begin}{row_head(star + grouped(at + 1))}{cells("td", values)}</tr>\n'
 
@@ -336,7 +337,7 @@ class KeyFigure:
         spreads = {(line, value): self.case(line, value).spreads[nth] for line in self.lines for value in range(len(self.values))}
         last = max([1] + [time for spread in spreads.values() for time in spread if time is not None])
         most = last + last // 16 + 1
-        text = f'<div><h3>{title}</h3><div class="chart">' + axis_up(most, grouped) + '<div class="plane">'
+        text = f'<div><h3>{title}</h3><div class="chart">' + axis_up(most, tick=self.page.tick) + '<div class="plane">'
         text += plot('lines', 32 * len(self.values), most, title,
                      'Ticks since the crash against the values of the key: a line of medians for each value of the others, and over '
                      'each value a bar from the 5th to the 95th percentile, or to the top where more than 5 % of the crashes '
@@ -382,7 +383,7 @@ class KeyFigure:
                 case = self.case(line, nth)
                 suspected, confirmed, last = case.spreads
                 times = (*suspected, *confirmed, case.late, *last, case.last_latest)
-                text += '<tr>' + cells('td', (value, self.other_keys(line, nth), *map(time, times))) + '</tr>'
+                text += '<tr>' + cells('td', (value, self.other_keys(line, nth), *map(self.page.time, times))) + '</tr>'
         return text + FOLDED_END
 
 
@@ -391,9 +392,10 @@ def word(value):
     return str(value).lower()
 
 
-def page_of(name, release, style, settings, seeds, at_most, cases, wants=()):
-    """The page of the sweep of a file of this name, of which this is wanted."""
-    page = Page(settings, seeds, at_most, cases, wants)
+def page_of(name, release, style, settings, seeds, at_most, cases, wants=(), tick=None):
+    """The page of the sweep of a file of this name, of which this is wanted, where a tick lasts so many microseconds, or it isn't known
+    how long."""
+    page = Page(settings, seeds, at_most, cases, wants, tick)
     head = page_opening(name, ' - swimsim sweep', style) + f'Which setting of {escaped(name)}?</h1></header>\n'
     end = f'<footer class="soft">swimsim {escaped(release)}</footer></main></body></html>\n'
     times = page.times_figure() + page.key_figures() if page.crashed else ''

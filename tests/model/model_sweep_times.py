@@ -3,7 +3,7 @@
 Written from docs/PAGES.md ("The page of a sweep").
 """
 
-from model_drawing import FIGURE_END, PLOT_END, axis_across, axis_up, cells, figure, grouped, heads, plot, rule
+from model_drawing import FIGURE_END, PLOT_END, axis_across, axis_up, cells, figure, grouped, heads, plot, rule, time_text
 from model_sweeps import percentile
 
 # so many bins have the times of a case, and so many cases are drawn, at the most
@@ -28,10 +28,11 @@ def bins_of(times):
 
 
 class Times:
-    """A case of the section: its number, its name as HTML, its median, and its bins that have times."""
+    """A case of the section: its number, its name as HTML, its median, and its bins that have times; and how many microseconds a tick
+    lasts, or None."""
 
-    def __init__(self, number, name, case):
-        self.number, self.name, self.median = grouped(number), name, case['confirm_p50']
+    def __init__(self, tick, number, name, case):
+        self.number, self.name, self.median, self.tick = grouped(number), name, case['confirm_p50'], tick
         self.title = f'Setting {number}: ticks until a crash is first confirmed'
         self.crashes, width = case['crashes'], case['confirm_times']['width']
         self.bins = [(nth * width, (nth + 1) * width, count)
@@ -45,7 +46,7 @@ class Times:
     def chart(self, across):
         up = max([1] + [count for _, _, count in self.bins])
         text = (f'<div><h3><span class="number">{self.number}</span> <code>{self.name}</code></h3>'
-                f'<p class="soft">Median: {grouped(self.median)} ticks. Never confirmed: {grouped(self.never)} '
+                f'<p class="soft">Median: {time_text(self.tick, self.median)} ticks. Never confirmed: {grouped(self.never)} '
                 f'of {grouped(self.crashes)} crashes.</p>')
         text += '<div class="chart">' + axis_up(up) + '<div class="plane">'
         text += plot('times', across, up, self.title,
@@ -53,10 +54,10 @@ class Times:
                      'then. The upright rule is the median. The table beneath has the numbers.')
         text += ''.join(bar('one', first, past, count, up) for first, past, count in self.bins)
         text += rule('median', self.median, up) + PLOT_END + '</div>'
-        return text + axis_across(across, 'ticks since the crash') + '</div></div>'
+        return text + axis_across(across, 'ticks since the crash', self.tick) + '</div></div>'
 
     def rows(self):
-        spans = [(f'{grouped(first)} to {grouped(past - 1)}', count) for first, past, count in self.bins]
+        spans = [(f'{time_text(self.tick, first)} to {time_text(self.tick, past - 1)}', count) for first, past, count in self.bins]
         return ''.join('<tr>' + cells('td', (self.number, span, grouped(count))) + '</tr>'
                        for span, count in [*spans, ('never', self.never)])
 
@@ -65,11 +66,12 @@ def bar(kind, first, past, count, most):
     return f'<rect class="{kind}" x="{first}" y="{most - count}" width="{past - first}" height="{count}"/>'
 
 
-def times_figure(cases):
-    """The section of the cases on the front, each with its number, its name as HTML and its dict."""
+def times_figure(cases, tick):
+    """The section of the cases on the front, each with its number, its name as HTML and its dict, where a tick lasts so many
+    microseconds, or it isn't known how long."""
     if not cases:
         return ''
-    drawn = [Times(*case) for case in cases[:MOST_DRAWN]]
+    drawn = [Times(tick, *case) for case in cases[:MOST_DRAWN]]
     across = max([1] + [case.end() for case in drawn])
     text = figure('times', 'How the times to confirm spread')
     text += ('<p class="soft">For each of the fastest settings on the front, at most 12: how many crashes of all its runs were '

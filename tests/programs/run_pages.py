@@ -11,6 +11,8 @@ EXAMPLES = TOP / 'examples'
 SHOWN = ('crash', 'slow-member', 'slow-member-without-lifeguard', 'cut-between-sites', 'rolling-join', 'rolling-restart', 'pauses',
          'three-sites-wan', 'quiet')
 WAYS = ([], ['--workers', '2'], ['--workers', '3', '--parts', '3'])
+# words that say how long a tick lasts, and how many microseconds that is
+TICKS = (('1ms', 1000), ('1us', 1), ('250us', 250), ('7ms', 7000), ('1s', 10**6))
 # n-4 is held dead by all when it crashes; n-5 is suspected by all, and declared dead later
 HELD = """version = 3
 seed = 1
@@ -40,19 +42,25 @@ def check(program, text):
         expect(f'{told} trace', program.held('t.csv'), trace)
         expect(f'{told} report', program.held('r.txt'), report)
         expect_page(program, f'{told} page', text, trace)
+    for word, tick in TICKS:
+        ran = program.call(['run', NAME, '--trace', 't.csv', '--report', 'r.txt', '--page', 'p.html', '--tick', word])
+        expect_ran(ran, 0, rows, b'', f'{word} ')
+        expect(f'{word} trace', program.held('t.csv'), trace)
+        expect(f'{word} report', program.held('r.txt'), report)
+        expect_page(program, f'{word} page', text, trace, tick)
     program.keep('p.html', 'an older page\n' * 100000)
     ran = program.call(['run', NAME, '--trace', '/dev/null', '--page', 'p.html'])
     expect_ran(ran, 0, rows, b'', 'page alone ')
     expect_page(program, 'page alone', text, trace)
 
 
-def expect_page(program, told, text, trace):
+def expect_page(program, told, text, trace, tick=None):
     """Compares the page with the model's; its style is taken as it stands."""
     page = program.held('p.html')
     style = page.partition(b'<style>')[2].partition(b'</style>')[0].decode()
     release = program.call(['--version']).out.split()[1].decode()
     scenario = scenario_of(text)
-    expect(told, page, page_of(NAME, release, style, scenario, rows_in(scenario, trace.decode())).encode())
+    expect(told, page, page_of(NAME, release, style, scenario, rows_in(scenario, trace.decode()), tick).encode())
 
 
 def check_held(program):

@@ -156,10 +156,10 @@ pub fn simulate_with_page<T: Write, R: Sink, P: Write, W: Write>(
 ) -> (Put<T>, R, Put<P>, Result<Summary, Fault>)
     requires divided { length division.now.part_of ≡ member_count scenario.now }
     requires countable { R.failed report < 2 ^ 63 }
-    ensures written { IfOk result.3 (λ summary. WritesRunAndPage shown.now.name.now shown.now.release.now scenario.now
+    ensures written { IfOk result.3 (λ summary. WritesRunAndPage shown.now.tick shown.now.name.now shown.now.release.now scenario.now
         (T.contents trace) (T.contents (writer_under result.0)) (R.held report) (R.held result.1)
         (P.contents page) (P.contents (writer_under result.2)) summary.rows) }
-    ensures beginning { OnErr result.3 (BeginsRunAndPage shown.now.name.now shown.now.release.now scenario.now
+    ensures beginning { OnErr result.3 (BeginsRunAndPage shown.now.tick shown.now.name.now shown.now.release.now scenario.now
         (T.contents trace) (T.contents (writer_under result.0)) (R.held report) (R.held result.1)
         (P.contents page) (P.contents (writer_under result.2))) }
     ensures first { 0 < put_failures result.0 → result.1 ≡ report }

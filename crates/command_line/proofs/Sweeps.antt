@@ -5,7 +5,8 @@ use Rattle.clap.specs.Words.{Row, first_of}
 use Rattle.sweep_plan.specs.Sweep.{Sweep as Planned}
 use Rattle.goals.specs.declared.want.Want.{Want}
 use Rattle.shards.specs.declared.shard.Shard.{Shard}
-use Rattle.command_line.specs.Words.{have_sense, AreWantsIn, AsksForShard, IsPlanIn, IsSweepIn}
+use Rattle.ticks.specs.declared.tick.Tick.{Tick}
+use Rattle.command_line.specs.Words.{have_sense, AreWantsIn, AsksForShard, AsksForTick, IsPlanIn, IsSweepIn}
 use Rattle.command_line.specs.declared.words.SweepWords.{SweepWords}
 use Rattle.command_line.proofs.RunRows.{rows_met}
 
@@ -24,6 +25,9 @@ module _ (rows : List Row) (sweep : SweepWords) (h : IsSweepIn (Some (codes "swe
 
   pub no_plan : ((plan : Planned) → IsPlanIn rows plan → ⊥) → ⊥
   no_plan none = none sweep.plan (subst (λ r. IsPlanIn r sweep.plan) same h.plan)
+
+  pub no_tick : ((tick : Option Tick) → AsksForTick (first_of (codes "tick") rows) tick → ⊥) → ⊥
+  no_tick none = none sweep.tick (subst (λ r. AsksForTick (first_of (codes "tick") r) sweep.tick) same h.tick)
 
   pub no_shard : ((shard : Option Shard) → AsksForShard (first_of (codes "shard") rows) shard → ⊥) → ⊥
   no_shard none = none sweep.shard (subst (λ r. AsksForShard (first_of (codes "shard") r) sweep.shard) same h.shard)

@@ -15,6 +15,8 @@ use Rattle.presets.specs.Presets.{word_of}
 use Rattle.presets.specs.declared.preset.Preset.{Preset}
 use Rattle.decimals.specs.Numbers.{IsDecimal}
 use Rattle.arguments.specs.Rules.{file_rule, flag_rule, is_given, option_rule, repeated_rule, required_rule}
+use Rattle.ticks.specs.Ticks.{IsTickWord}
+use Rattle.ticks.specs.declared.tick.Tick.{Tick}
 use Rattle.command_line.specs.declared.words.Asked.{Asked}
 use Rattle.command_line.specs.declared.words.Asked.TheVariants.{Run, Check, Explain, Sweep, Init, Join, Page, Help, Version}
 use Rattle.command_line.specs.declared.explaining.ExplainWords.{ExplainWords}
@@ -25,11 +27,15 @@ use Rattle.command_line.specs.declared.words.SweepWords.{SweepWords}
 use Rattle.command_line.specs.declared.words.Split.{Split}
 use Rattle.command_line.specs.declared.words.Split.TheVariants as split
 
--- a command, and what says which files a run is written to: the option --trace, which is required; --report and --page
+-- a command, and what says how long a tick lasts: the option --tick
+abbrev pub with_tick : App → App
+with_tick app = with_rule app (option_rule (codes "tick"))
+
+-- a command, and what says which files a run is written to: the option --trace, which is required; --report and --page; and --tick
 abbrev pub with_outputs : App → App
 with_outputs app =
     let traced = with_rule app (required_rule (codes "trace")) in
-    with_rule (with_rule traced (option_rule (codes "report"))) (option_rule (codes "page"))
+    with_tick (with_rule (with_rule traced (option_rule (codes "report"))) (option_rule (codes "page")))
 
 -- and how many workers run it, and which part each member is in: --workers, --parts and --division
 abbrev pub with_parting : App → App
@@ -65,11 +71,11 @@ with_runs app =
     with_rule (with_rule sharded (flag_rule (codes "resume"))) (option_rule (codes "workers"))
 
 -- a command, and what says what is told of the settings of a sweep: the option --want, which may stand more than once; the flag --jsonl; and the
--- option --page
+-- options --page and --tick
 abbrev pub with_telling : App → App
 with_telling app =
     let wanted = with_rule app (repeated_rule (codes "want")) in
-    with_rule (with_rule wanted (flag_rule (codes "jsonl"))) (option_rule (codes "page"))
+    with_tick (with_rule (with_rule wanted (flag_rule (codes "jsonl"))) (option_rule (codes "page")))
 
 -- the command `sweep`: a file, which is required, the options of its runs and those of what is told of its settings, and the flag --progress
 abbrev pub sweep_app : App
@@ -77,7 +83,7 @@ sweep_app = with_rule (with_telling (with_runs (with_rule (new_app (codes "sweep
 
 -- the files of shards: one or more
 abbrev pub shards_rule : Rule
-shards_rule = record (new_rule (codes "PIECE")) { required = true; range = Some (record { start_inclusive = 1; end_inclusive = usize_max }) }
+shards_rule = record (new_rule (codes "SHARD")) { required = true; range = Some (record { start_inclusive = 1; end_inclusive = usize_max }) }
 
 -- the command `join`: files of shards and the option --table, both required, the options of what is told of the settings, and the option --name
 abbrev pub join_app : App
@@ -85,9 +91,9 @@ join_app =
     let tabled = with_rule (with_rule (new_app (codes "join")) shards_rule) (required_rule (codes "table")) in
     with_rule (with_telling tabled) (option_rule (codes "name"))
 
--- the command `page`: files of shards and the option --out, both required, and the option --name
+-- the command `page`: files of shards and the option --out, both required, and the options --name and --tick
 abbrev pub page_app : App
-page_app = with_rule (with_rule (with_rule (new_app (codes "page")) shards_rule) (required_rule (codes "out"))) (option_rule (codes "name"))
+page_app = with_tick (with_rule (with_rule (with_rule (new_app (codes "page")) shards_rule) (required_rule (codes "out"))) (option_rule (codes "name")))
 
 -- the command `init`: the name of a preset
 abbrev pub preset_rule : Rule
@@ -117,6 +123,13 @@ IsSplitIn rows split.Workers = (first_of (codes "parts") rows ≡ None) × (firs
 IsSplitIn rows (split.Parts word) = (first_of (codes "parts") rows ≡ Some word.now) × (first_of (codes "division") rows ≡ None)
 IsSplitIn rows (split.List list) = (first_of (codes "parts") rows ≡ None) × (first_of (codes "division") rows ≡ Some list.now)
 
+-- the word says how long a tick lasts; nothing is said of it where there is no word
+abbrev pub AsksForTick : Option Text → Option Tick → Type 0
+AsksForTick None None = Unit {0}
+AsksForTick None (Some tick) = ⊥
+AsksForTick (Some word) None = ⊥
+AsksForTick (Some word) (Some tick) = IsTickWord word tick
+
 -- the command that was met is `run`, with these words
 pub record IsRunIn (met : Option (Text × List Row)) (run : RunWords) : Type 0 where
   pub rows : List Row
@@ -125,6 +138,7 @@ pub record IsRunIn (met : Option (Text × List Row)) (run : RunWords) : Type 0 w
   pub trace : first_of (codes "trace") rows ≡ Some run.trace.now
   pub report : first_of (codes "report") rows ≡ option_map (λ word. word.now) run.report
   pub page : first_of (codes "page") rows ≡ option_map (λ word. word.now) run.page
+  pub tick : AsksForTick (first_of (codes "tick") rows) run.tick
   pub workers : first_of (codes "workers") rows ≡ option_map (λ word. word.now) run.workers
   pub divided : IsSplitIn rows run.split
   pub progress : is_given (first_of (codes "progress") rows) ≡ run.progress
@@ -191,6 +205,7 @@ pub record IsSweepIn (met : Option (Text × List Row)) (sweep : SweepWords) : Ty
   pub resume : is_given (first_of (codes "resume") rows) ≡ sweep.resume
   pub jsonl : is_given (first_of (codes "jsonl") rows) ≡ sweep.jsonl
   pub page : first_of (codes "page") rows ≡ option_map (λ word. word.now) sweep.page
+  pub tick : AsksForTick (first_of (codes "tick") rows) sweep.tick
   pub sense : have_sense rows ≡ true
 
 -- the command that was met is `init`, with the name of this preset
@@ -215,21 +230,23 @@ may_name page name = is_none name || is_some page
 pub record IsJoinIn (met : Option (Text × List Row)) (join : JoinWords) : Type 0 where
   pub rows : List Row
   pub met_join : met ≡ Some (codes "join", rows)
-  pub files : map (λ word. word.now) join.files.items ≡ unwrap_or (all_of (codes "PIECE") rows) []
+  pub files : map (λ word. word.now) join.files.items ≡ unwrap_or (all_of (codes "SHARD") rows) []
   pub table : first_of (codes "table") rows ≡ Some join.table.now
   pub wants : AreWantsIn rows join.wants.items
   pub jsonl : is_given (first_of (codes "jsonl") rows) ≡ join.jsonl
   pub page : first_of (codes "page") rows ≡ option_map (λ word. word.now) join.page
   pub name : first_of (codes "name") rows ≡ option_map (λ word. word.now) join.name
+  pub tick : AsksForTick (first_of (codes "tick") rows) join.tick
   pub sense : may_name (first_of (codes "page") rows) (first_of (codes "name") rows) ≡ true
 
 -- the command that was met is `page`, with these words
 pub record IsPageIn (met : Option (Text × List Row)) (wish : PageWords) : Type 0 where
   pub rows : List Row
   pub met_page : met ≡ Some (codes "page", rows)
-  pub files : map (λ word. word.now) wish.files.items ≡ unwrap_or (all_of (codes "PIECE") rows) []
+  pub files : map (λ word. word.now) wish.files.items ≡ unwrap_or (all_of (codes "SHARD") rows) []
   pub page : first_of (codes "out") rows ≡ Some wish.page.now
   pub name : first_of (codes "name") rows ≡ option_map (λ word. word.now) wish.name
+  pub tick : AsksForTick (first_of (codes "tick") rows) wish.tick
 
 -- the words have no fault, and ask for this run
 abbrev pub AsksForRun : List Text → RunWords → Type 0

@@ -24,7 +24,7 @@ pub(crate) fn explain_command<'a>(alloc: Global) -> Result<Command<'a>, AllocErr
     ensures { IfOk result (IsLocal explain_app) }
 {
     let about =
-        "Tells all mistakes of a scenario that is refused, or what one that is accepted means";
+        "Prints all errors of a scenario that is refused, or what one that is accepted means";
     let filed = with_file(alloc, new_command(alloc, "explain", about));
     and_flag(
         alloc,

@@ -7,11 +7,13 @@ ghost use Rattle.command_line.specs.Words.{join_app, may_name, shards_rule, IsJo
 
 use crate::chained::{and_option, and_required};
 use crate::failure::Failure;
+use crate::lasting::tick_asked;
 use crate::telling::{wants_asked, with_telling};
 use arguments::{is_given, new_command, value_of, values_of};
 use clap::{Arg, ArgMatches, Command};
 use goals::Want;
 use std::alloc::{AllocError, Global};
+use ticks::Tick;
 
 /// The words of the command `join`.
 #[derive(Debug, Drop)]
@@ -28,13 +30,15 @@ pub struct JoinWords<'a> {
     pub page: Option<&'a str>,
     /// What the page calls the scenario, where that is said. Never without a page.
     pub name: Option<&'a str>,
+    /// How long a tick lasts, where that is said: the page then shows its times in units, too.
+    pub tick: Option<Tick>,
 }
 
 /// The command `join`.
 pub(crate) fn join_command<'a>(alloc: Global) -> Result<Command<'a>, AllocError>
     ensures { IfOk result (IsLocal join_app) }
 {
-    let about = "Puts the pieces of a sweep together, and writes the table of the whole";
+    let about = "Puts the shards of a sweep together, and writes the table of the whole";
     let filed = with_shards(alloc, new_command(alloc, "join", about));
     let tabled = and_required(
         alloc,
@@ -49,7 +53,7 @@ pub(crate) fn join_command<'a>(alloc: Global) -> Result<Command<'a>, AllocError>
         told,
         "name",
         "FILE",
-        "What the page calls the scenario [default: the name of the first PIECE]; only with --page",
+        "What the page calls the scenario [default: the name of the first SHARD]; only with --page",
     )
 }
 
@@ -68,8 +72,8 @@ fn shards_argument<'a>(alloc: Global) -> Arg<'a>
     ensures rule { rule_of result ≡ shards_rule }
     ensures local { result.global ≡ false }
 {
-    Arg::new(alloc, "PIECE")
-        .help("The pieces, tables that sweep wrote, in any order")
+    Arg::new(alloc, "SHARD")
+        .help("The shards, tables that sweep wrote, in any order")
         .required(true)
         .num_args(1..)
 }
@@ -94,6 +98,9 @@ pub(crate) fn join_asked<'a>(
     let Some(table) = value_of(join, "table") else {
         return Ok(None);
     };
+    let Some(tick) = tick_asked(join) else {
+        return Ok(None);
+    };
     if !may_name(join) {
         return Err(Failure::Usage);
     }
@@ -106,6 +113,7 @@ pub(crate) fn join_asked<'a>(
         jsonl: is_given(join, "jsonl"),
         page: value_of(join, "page"),
         name: value_of(join, "name"),
+        tick,
     }))
 }
 
@@ -124,10 +132,10 @@ pub(crate) fn shards_named<'a>(
     matches: &ArgMatches<'a>,
 ) -> Result<Vec<&'a str>, Failure<'a>>
     ensures files { IfOk result (λ files. map (λ word. word.now) files.items
-        ≡ unwrap_or (all_of (codes "PIECE") (rows_of (found_of matches.now))) []) }
+        ≡ unwrap_or (all_of (codes "SHARD") (rows_of (found_of matches.now))) []) }
     ensures failures { IfErr result (λ f. f ≡ Failure.Memory) }
 {
-    match values_of(alloc, matches, "PIECE") {
+    match values_of(alloc, matches, "SHARD") {
         Ok(files) => Ok(files),
         Err(_) => Err(Failure::Memory),
     }

@@ -8,6 +8,7 @@ mod explaining;
 mod failure;
 mod initial;
 mod joining;
+mod lasting;
 mod paging;
 mod printing;
 mod release;

@@ -8,9 +8,11 @@ ghost use Rattle.command_line.specs.Words.{page_app, IsPageIn};
 use crate::chained::{and_option, and_required};
 use crate::failure::Failure;
 use crate::joining::{shards_named, with_shards};
+use crate::lasting::{tick_asked, with_tick};
 use arguments::{new_command, value_of};
 use clap::{ArgMatches, Command};
 use std::alloc::{AllocError, Global};
+use ticks::Tick;
 
 /// The words of the command `page`.
 #[derive(Debug, Drop)]
@@ -21,13 +23,15 @@ pub struct PageWords<'a> {
     pub page: &'a str,
     /// What the page calls the scenario, where that is said.
     pub name: Option<&'a str>,
+    /// How long a tick lasts, where that is said: the page then shows its times in units, too.
+    pub tick: Option<Tick>,
 }
 
 /// The command `page`.
 pub(crate) fn page_command<'a>(alloc: Global) -> Result<Command<'a>, AllocError>
     ensures { IfOk result (IsLocal page_app) }
 {
-    let about = "Makes a sweep's page of the pieces of its table";
+    let about = "Makes a sweep's page of the shards of its table";
     let filed = with_shards(alloc, new_command(alloc, "page", about));
     let made = and_required(
         alloc,
@@ -36,13 +40,14 @@ pub(crate) fn page_command<'a>(alloc: Global) -> Result<Command<'a>, AllocError>
         "P",
         "The file that takes the page, in HTML; one that is there is replaced",
     );
-    and_option(
+    let named = and_option(
         alloc,
         made,
         "name",
         "FILE",
-        "What the page calls the scenario [default: the name of the first PIECE]",
-    )
+        "What the page calls the scenario [default: the name of the first SHARD]",
+    );
+    with_tick(alloc, named)
 }
 
 /// The page that is asked for by words that `clap` took, if they ask for one.
@@ -62,7 +67,14 @@ pub(crate) fn page_asked<'a>(
     let Some(page) = value_of(words, "out") else {
         return Ok(None);
     };
+    let Some(tick) = tick_asked(words) else {
+        return Ok(None);
+    };
     let files = shards_named(alloc, words)?;
-    let name = value_of(words, "name");
-    Ok(Some(PageWords { files, page, name }))
+    Ok(Some(PageWords {
+        files,
+        page,
+        name: value_of(words, "name"),
+        tick,
+    }))
 }

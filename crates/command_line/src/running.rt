@@ -7,6 +7,7 @@ ghost use Rattle.arguments.specs.Rules.{IsLocal};
 ghost use Rattle.command_line.specs.Words.{run_app, with_outputs, with_parting, IsRunIn, IsSplitIn};
 
 use crate::chained::{and_flag, and_option, and_required};
+use crate::lasting::{tick_asked, with_tick};
 use crate::words::{RunWords, Split};
 use arguments::{is_given, new_command, value_of, with_file};
 use clap::{ArgMatches, Command};
@@ -24,11 +25,11 @@ pub(crate) fn run_command<'a>(alloc: Global) -> Result<Command<'a>, AllocError>
         alloc,
         parted,
         "progress",
-        "Tells on standard error how far the run has come",
+        "Prints on standard error how far the run has come",
     )
 }
 
-/// A command with the options more that say which files a run is written to.
+/// A command with the options more that say which files a run is written to, and how long a tick lasts.
 fn with_outputs<'a>(
     alloc: Global,
     so_far: Result<Command<'a>, AllocError>,
@@ -49,13 +50,14 @@ fn with_outputs<'a>(
         "R",
         "The file that takes the report; one that is there is replaced",
     );
-    and_option(
+    let paged = and_option(
         alloc,
         reported,
         "page",
         "P",
         "The file that takes a page of the run, in HTML; one that is there is replaced",
-    )
+    );
+    with_tick(alloc, paged)
 }
 
 /// A command with the options more that say how many workers run a scenario, and which part each
@@ -85,7 +87,7 @@ fn with_parting<'a>(
         parted,
         "division",
         "LIST",
-        "The part of each member, 0 to 63, parted by commas; not together with --parts",
+        "The part of each member, 0 to 63, separated by commas; not together with --parts",
     )
 }
 
@@ -99,6 +101,7 @@ pub(crate) fn run_asked<'a>(matches: &ArgMatches<'a>) -> Option<RunWords<'a>>
     let trace = value_of(run, "trace")?;
     let report = value_of(run, "report");
     let page = value_of(run, "page");
+    let tick = tick_asked(run)?;
     let workers = value_of(run, "workers");
     let split = split_asked(run)?;
     let progress = is_given(run, "progress");
@@ -107,6 +110,7 @@ pub(crate) fn run_asked<'a>(matches: &ArgMatches<'a>) -> Option<RunWords<'a>>
         trace,
         report,
         page,
+        tick,
         workers,
         split,
         progress,

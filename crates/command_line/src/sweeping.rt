@@ -10,6 +10,7 @@ ghost use Rattle.command_line.specs.Words.{have_sense, sweep_app, with_settings,
 
 use crate::chained::{and_flag, and_option, and_repeated, and_required};
 use crate::failure::Failure;
+use crate::lasting::tick_asked;
 use crate::telling::{wants_asked, with_telling};
 use crate::words::SweepWords;
 use arguments::{is_given, new_command, value_of, values_of, with_file};
@@ -31,7 +32,7 @@ pub(crate) fn sweep_command<'a>(alloc: Global) -> Result<Command<'a>, AllocError
         alloc,
         told,
         "progress",
-        "Tells on standard error how far the sweep has come",
+        "Prints on standard error how far the sweep has come",
     )
 }
 
@@ -55,13 +56,13 @@ fn with_runs<'a>(
         set,
         "shard",
         "I/N",
-        "Makes the I-th of N pieces of the runs, for the commands join and page; N is at most 10000",
+        "Makes the I-th of N shards of the runs, for the commands join and page; N is at most 10000",
     );
     let resumed = and_flag(
         alloc,
         sharded,
         "resume",
-        "Goes on with a piece whose table T was cut off, after T's last whole line; with --until after T's last whole case",
+        "Goes on with a shard whose table T was cut off, after T's last whole line; with --until after T's last whole setting",
     );
     and_option(
         alloc,
@@ -84,21 +85,21 @@ fn with_settings<'a>(
         so_far,
         "seeds",
         "A..B",
-        "The seeds of each case, from A to B, both included [default: the scenario's seed]",
+        "The seeds of each setting, from A to B, both included [default: the scenario's seed]",
     );
     let limited = and_option(
         alloc,
         seeded,
         "until",
         "WIDTH",
-        "Gives each case seeds only until the 95 % interval of its share of runs with a healthy member thrown out is at most WIDTH hundredths wide, 1 to 100",
+        "Gives each setting seeds only until the 95 % interval of its share of runs with a false death is at most WIDTH hundredths wide, 1 to 100",
     );
     and_repeated(
         alloc,
         limited,
         "set",
         "KEY=V1,V2,..",
-        "A key of the scenario, as swim.period or group.NAME.count, and its values, each of which makes cases; for any number of keys; A+B=1+2,3+4 sets keys that go together",
+        "A key of the scenario, as swim.period or group.NAME.count, and its values: each choice of values, one for each key, is a setting; for any number of keys; A+B=1+2,3+4 sets keys that go together",
     )
 }
 
@@ -155,6 +156,9 @@ fn runs_asked<'a>(
     ensures usage { IsErrOf result Failure.Usage → (wish : Sought) → ¬ (IsSweepIn (Some (codes "sweep", rows_of (found_of sweep.now))) wish) }
     ensures failures { IfErr result (λ f. (f ≡ Failure.Usage) ⊎ (f ≡ Failure.Memory)) }
 {
+    let Some(tick) = tick_asked(sweep) else {
+        return Err(Failure::Usage);
+    };
     let plan = plan_asked(alloc, sweep)?;
     let shard = shard_asked(sweep)?;
     let wants = wants_asked(alloc, sweep)?;
@@ -169,6 +173,7 @@ fn runs_asked<'a>(
         progress: is_given(sweep, "progress"),
         jsonl: is_given(sweep, "jsonl"),
         page: value_of(sweep, "page"),
+        tick,
     })
 }
 

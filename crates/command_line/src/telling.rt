@@ -7,6 +7,7 @@ ghost use Rattle.command_line.specs.Words.{with_telling, AreWantsIn};
 
 use crate::chained::{and_flag, and_option, and_repeated};
 use crate::failure::Failure;
+use crate::lasting::with_tick;
 use arguments::values_of;
 use clap::{ArgMatches, Command};
 use goals::{Want, WantFault, read_wants};
@@ -24,21 +25,22 @@ pub(crate) fn with_telling<'a>(
         so_far,
         "want",
         "STATISTIC<=N",
-        "What cases are to meet, as 'out<=0.01' or 'confirm_p99<=20000', in quotes; for any number of statistics",
+        "What settings are to meet, as 'out<=0.01' or 'confirm_p99<=20000', in quotes; for any number of statistics",
     );
     let objects = and_flag(
         alloc,
         wanted,
         "jsonl",
-        "Prints a JSON object for each case, a line each, in place of columns",
+        "Prints a JSON object for each setting, a line each, in place of columns",
     );
-    and_option(
+    let paged = and_option(
         alloc,
         objects,
         "page",
         "P",
-        "The file that takes a page of the cases, in HTML; one that is there is replaced",
-    )
+        "The file that takes a page of the settings, in HTML; one that is there is replaced",
+    );
+    with_tick(alloc, paged)
 }
 
 /// What is wanted of the settings by the words of a command.

@@ -21,6 +21,7 @@ use shards::Shard;
 use std::alloc::Global;
 use std::convert::AsStr;
 use sweep_plan::Plan;
+use ticks::Tick;
 
 /// How the members are to be divided into parts, in the words of the command line.
 #[derive(Clone, Copy, Debug)]
@@ -44,6 +45,8 @@ pub struct RunWords<'a> {
     pub report: Option<&'a str>,
     /// The name of the file that takes the page, where one is asked for.
     pub page: Option<&'a str>,
+    /// How long a tick lasts, where that is said: the page then shows its times in units, too.
+    pub tick: Option<Tick>,
     /// How many workers run it; one where that isn't said.
     pub workers: Option<&'a str>,
     /// How the members are to be divided.
@@ -76,6 +79,8 @@ pub struct SweepWords<'a> {
     pub jsonl: bool,
     /// The name of the file that takes the page, where one is asked for. Never with a shard.
     pub page: Option<&'a str>,
+    /// How long a tick lasts, where that is said: the page then shows its times in units, too.
+    pub tick: Option<Tick>,
 }
 
 /// What the words ask for.

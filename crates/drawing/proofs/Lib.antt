@@ -3,3 +3,4 @@ pub mod Pushes
 pub mod Groups
 pub mod Ranges
 pub mod Steps
+mod Lengths

@@ -2,6 +2,7 @@ pub mod Axes
 pub mod Escaped
 pub mod Legends
 pub mod Numbers
+pub mod Lengths
 pub mod Pages
 pub mod Rounds
 pub mod Shapes

@@ -1,4 +1,4 @@
-//! Drawing: heads of pages, texts escaped, numbers grouped, axes with round ticks, and shapes as inline SVG. Shapes
+//! Drawing: heads of pages, texts escaped, numbers grouped, lengths of time, axes with round ticks, and shapes as inline SVG. Shapes
 //! are drawn in the units of the data, and stretched over the room that a page gives them; words
 //! stand beside them as HTML, so that they stay as large as the reader's text.
 #![tactic(auto)]
@@ -7,16 +7,18 @@ mod axis;
 mod escape;
 mod laws;
 mod legend;
+mod length;
 mod number;
 mod page;
 mod palette;
 mod round;
 mod shapes;
 
-pub use axis::{push_across, push_up};
+pub use axis::{push_across, push_time_across, push_time_up, push_up};
 pub use escape::{push_escaped, push_markup};
 pub use laws::escaped_texts_are_no_markup;
 pub use legend::{push_counted, push_entry};
+pub use length::{push_lasting, push_timed};
 pub use number::{push_grouped, push_place};
 pub use page::open_page;
 pub use palette::drawing_style;

@@ -15,6 +15,7 @@ use Rattle.series.specs.declared.standing.Refutation.{Refutation}
 use Rattle.series.specs.declared.deaths.Death.{Death}
 use Rattle.series.proofs.Dying.{filter-push, last-if}
 use Rattle.series.specs.Deaths.{Reached, reached_at, reached, line_reached, since, reaches, is_new, accuses, IsDeathOf, IsToldOf, accusation_told, accusations, last_refutation, times_heard, begins_death, deaths_of}
+use Rattle.ticks.specs.declared.tick.Tick.{Tick}
 use Rattle.false_deaths.specs.Causes.{cause_words, cause, is_later, IsNamed, AreNamed, CanTell}
 
 placed_named : (s : Setup) (earlier rows : List Row) → All (NamesMembers s) earlier → All (NamesMembers s) rows → All (λ p. IsNamed s (reached_at p)) (placed_after earlier rows)
@@ -70,19 +71,19 @@ take_next n xs = ap (λ k. take k xs) (one n) ∙ by n xs
     by (suc k) (x ∷ l) = ap (λ m. x ∷ m) (by k l)
 
 -- the words of what is kept of a death are those of its row
-pub cause_is : (s : Setup) (death : Death) (r : Reached) (later : Bool) (refuted : Option Refutation) (heard : ℕ) → refuted ≡ death.standing.refuted → heard ≡ death.standing.heard → later ≡ option_map_or (nat_le (death.number + 1)) death.standing.suspected false → IsDeathOf death r
-    → cause_words s death.subject death.line death.number later (accusations death.subject r.earlier) refuted heard ≡ cause s r
-cause_is s death r later refuted heard is_refuted is_heard is_so is =
+pub cause_is : (time : Option Tick) (s : Setup) (death : Death) (r : Reached) (later : Bool) (refuted : Option Refutation) (heard : ℕ) → refuted ≡ death.standing.refuted → heard ≡ death.standing.heard → later ≡ option_map_or (nat_le (death.number + 1)) death.standing.suspected false → IsDeathOf death r
+    → cause_words time s death.subject death.line death.number later (accusations death.subject r.earlier) refuted heard ≡ cause time s r
+cause_is time s death r later refuted heard is_refuted is_heard is_so is =
     let subject = death.subject in
     let list = accusations subject r.earlier in
     let last = last_refutation subject r.earlier in
     let times = times_heard subject r.earlier in
-    ap (λ o. cause_words s subject death.line death.number later list o heard) (is_refuted ∙ is.standing.refuted)
-    ∙ ap (λ n. cause_words s subject death.line death.number later list last n) (is_heard ∙ is.standing.heard)
-    ∙ ap (λ t. cause_words s subject death.line death.number t list last times) (is_so ∙ sym (is.standing.suspected (death.number + 1)))
-    ∙ ap (λ l. cause_words s subject l death.number (list_any (reaches what.Suspect subject (death.number + 1)) r.earlier) list last times) is.line
-    ∙ ap (λ n. cause_words s subject (line_reached r) n (list_any (reaches what.Suspect subject (n + 1)) r.earlier) list last times) is.number
-    ∙ sym (ap (λ o. option_map_or (λ who. cause_words s who (line_reached r) r.row.value (is_later who r) (accusations who r.earlier) (last_refutation who r.earlier) (times_heard who r.earlier)) o []) is.subject)
+    ap (λ o. cause_words time s subject death.line death.number later list o heard) (is_refuted ∙ is.standing.refuted)
+    ∙ ap (λ n. cause_words time s subject death.line death.number later list last n) (is_heard ∙ is.standing.heard)
+    ∙ ap (λ t. cause_words time s subject death.line death.number t list last times) (is_so ∙ sym (is.standing.suspected (death.number + 1)))
+    ∙ ap (λ l. cause_words time s subject l death.number (list_any (reaches what.Suspect subject (death.number + 1)) r.earlier) list last times) is.line
+    ∙ ap (λ n. cause_words time s subject (line_reached r) n (list_any (reaches what.Suspect subject (n + 1)) r.earlier) list last times) is.number
+    ∙ sym (ap (λ o. option_map_or (λ who. cause_words time s who (line_reached r) r.row.value (is_later who r) (accusations who r.earlier) (last_refutation who r.earlier) (times_heard who r.earlier)) o []) is.subject)
 
 -- a death that is kept can be told of, where its row's names are known
 pub can_tell : (s : Setup) (slot : Option Death) (r : Option Reached) → IsToldOf slot r → IfSome r (IsNamed s) → IfSome slot (CanTell s)

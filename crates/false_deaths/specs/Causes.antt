@@ -17,6 +17,8 @@ use Rattle.drawing.specs.Numbers.{grouped}
 use Rattle.drawing.specs.Shapes.{figure_opening, figure_end}
 use Rattle.member_timelines.specs.Numbers.{by_number}
 use Rattle.false_deaths.specs.Troubles.{states}
+use Rattle.drawing.specs.Lengths.{time_text}
+use Rattle.ticks.specs.declared.tick.Tick.{Tick}
 
 -- ---- an accuser
 
@@ -32,24 +34,24 @@ line_words number = codes ", on line " ++ decimal number
 abbrev pub fate : Bool → List ℕ
 fate lost = if lost then codes ", was lost." else codes ", wasn't lost."
 
-unfoldable pub ping_words : ℕ → ℕ → Bool → List ℕ
-ping_words at line lost = codes " Its ping of " ++ grouped at ++ line_words line ++ fate lost
+unfoldable pub ping_words : Option Tick → ℕ → ℕ → Bool → List ℕ
+ping_words time at line lost = codes " Its ping of " ++ time_text time at ++ line_words line ++ fate lost
 
-abbrev pub ping_told : Option Probe → List ℕ
-ping_told (Some probe) = ping_words probe.ping.at probe.ping.number probe.lost
-ping_told None = []
+abbrev pub ping_told : Option Tick → Option Probe → List ℕ
+ping_told time (Some probe) = ping_words time probe.ping.at probe.ping.number probe.lost
+ping_told time None = []
 
 -- who accused the member, when and on which line
-unfoldable pub claim_of : List ℕ → ℕ → ℕ → List ℕ
-claim_of name at number = codes "<li>" ++ escaped name ++ codes " accused it at " ++ grouped at ++ line_words number ++ codes "."
+unfoldable pub claim_of : Option Tick → List ℕ → ℕ → ℕ → List ℕ
+claim_of time name at number = codes "<li>" ++ escaped name ++ codes " accused it at " ++ time_text time at ++ line_words number ++ codes "."
 
-abbrev pub claim_words : Setup → Line → List ℕ
-claim_words s claim = claim_of (name_of s claim.member) claim.at claim.number
+abbrev pub claim_words : Option Tick → Setup → Line → List ℕ
+claim_words time s claim = claim_of time (name_of s claim.member) claim.at claim.number
 
 -- the same, how its ping fared, and what the accuser was from then on
-unfoldable pub accuser_item : Setup → Accusation → List ℕ
-accuser_item s accusation =
-    claim_words s accusation.claim ++ ping_told accusation.probe ++ states s accusation.claim.member (began accusation) accusation.claim.at ++ codes "</li>"
+unfoldable pub accuser_item : Option Tick → Setup → Accusation → List ℕ
+accuser_item time s accusation =
+    claim_words time s accusation.claim ++ ping_told time accusation.probe ++ states time s accusation.claim.member (began accusation) accusation.claim.at ++ codes "</li>"
 
 -- how many accusations more there are than four
 unfoldable pub more_accusers : ℕ → List ℕ
@@ -61,8 +63,8 @@ accusers_end count =
     else if nat_lt 4 count then more_accusers (count - 4) else []
 
 -- the first four, and how many more there are
-unfoldable pub accusers_told : Setup → List Accusation → List ℕ
-accusers_told s list = flat_map (accuser_item s) (take 4 list) ++ accusers_end (length list)
+unfoldable pub accusers_told : Option Tick → Setup → List Accusation → List ℕ
+accusers_told time s list = flat_map (accuser_item time s) (take 4 list) ++ accusers_end (length list)
 
 -- ---- a death
 
@@ -75,15 +77,15 @@ abbrev pub declared_words : Setup → Line → ℕ → List ℕ
 declared_words s line number = declared_by (name_of s line.member) line.number number
 
 -- the same, and what that member was
-unfoldable pub declared_item : Setup → Line → ℕ → List ℕ
-declared_item s line number = declared_words s line number ++ states s line.member line.at line.at ++ codes "</li>"
+unfoldable pub declared_item : Option Tick → Setup → Line → ℕ → List ℕ
+declared_item time s line number = declared_words s line number ++ states time s line.member line.at line.at ++ codes "</li>"
 
 -- what the member itself was from a moment until its death
-unfoldable pub own_opening : ℕ → List ℕ
-own_opening since = codes "<li>From " ++ grouped since ++ codes " until its death:"
+unfoldable pub own_opening : Option Tick → ℕ → List ℕ
+own_opening time since = codes "<li>From " ++ time_text time since ++ codes " until its death:"
 
-unfoldable pub own_item : Setup → ℕ → ℕ → ℕ → List ℕ
-own_item s subject since at = own_opening since ++ states s subject since at ++ codes "</li>"
+unfoldable pub own_item : Option Tick → Setup → ℕ → ℕ → ℕ → List ℕ
+own_item time s subject since at = own_opening time since ++ states time s subject since at ++ codes "</li>"
 
 -- since when: since the probe of its first accuser began, where it has one
 abbrev pub since_first : List Accusation → ℕ → ℕ
@@ -94,35 +96,35 @@ abbrev pub later_item : Bool → List ℕ
 later_item is_later = if is_later then codes "<li>It was suspected under a higher incarnation number before that; these are its accusers under that one.</li>" else []
 
 -- when it had last refuted what was said of it, and how many heard of that
-unfoldable pub refuted_item : ℕ → ℕ → ℕ → List ℕ
-refuted_item at line heard =
-    codes "<li>It had last refuted at " ++ grouped at ++ line_words line ++ codes "; members that had heard of that by then: " ++ grouped heard ++ codes ".</li>"
+unfoldable pub refuted_item : Option Tick → ℕ → ℕ → ℕ → List ℕ
+refuted_item time at line heard =
+    codes "<li>It had last refuted at " ++ time_text time at ++ line_words line ++ codes "; members that had heard of that by then: " ++ grouped heard ++ codes ".</li>"
 
 -- the same, where it had
-abbrev pub refuted_told : Option Refutation → ℕ → List ℕ
-refuted_told (Some refutation) heard = refuted_item refutation.line.at refutation.line.number heard
-refuted_told None heard = codes "<li>It had refuted nothing.</li>"
+abbrev pub refuted_told : Option Tick → Option Refutation → ℕ → List ℕ
+refuted_told time (Some refutation) heard = refuted_item time refutation.line.at refutation.line.number heard
+refuted_told time None heard = codes "<li>It had refuted nothing.</li>"
 
 -- what the member itself was, and its last refutation
-unfoldable pub own_told : Setup → ℕ → ℕ → ℕ → Option Refutation → ℕ → List ℕ
-own_told s subject since at refutation heard = own_item s subject since at ++ refuted_told refutation heard
+unfoldable pub own_told : Option Tick → Setup → ℕ → ℕ → ℕ → Option Refutation → ℕ → List ℕ
+own_told time s subject since at refutation heard = own_item time s subject since at ++ refuted_told time refutation heard
 
-unfoldable pub cause_opening : List ℕ → ℕ → List ℕ
-cause_opening name at = codes "<div class=\"cause\"><h3>" ++ escaped name ++ codes " at " ++ grouped at ++ codes "</h3><ul>"
+unfoldable pub cause_opening : Option Tick → List ℕ → ℕ → List ℕ
+cause_opening time name at = codes "<div class=\"cause\"><h3>" ++ escaped name ++ codes " at " ++ time_text time at ++ codes "</h3><ul>"
 
 -- the death of a member on a line, under a number, after these accusations and its last refutation, of which so many heard
-unfoldable pub cause_words : Setup → ℕ → Line → ℕ → Bool → List Accusation → Option Refutation → ℕ → List ℕ
-cause_words s subject line number is_later list refutation heard =
-    cause_opening (name_of s subject) line.at ++ declared_item s line number ++ own_told s subject (since_first list line.at) line.at refutation heard
-    ++ later_item is_later ++ accusers_told s list ++ codes "</ul></div>\n"
+unfoldable pub cause_words : Option Tick → Setup → ℕ → Line → ℕ → Bool → List Accusation → Option Refutation → ℕ → List ℕ
+cause_words time s subject line number is_later list refutation heard =
+    cause_opening time (name_of s subject) line.at ++ declared_item time s line number ++ own_told time s subject (since_first list line.at) line.at refutation heard
+    ++ later_item is_later ++ accusers_told time s list ++ codes "</ul></div>\n"
 
 -- the subject was suspected under a higher number before it died
 abbrev pub is_later : ℕ → Reached → Bool
 is_later subject r = list_any (reaches what.Suspect subject (r.row.value + 1)) r.earlier
 
 -- the same of a row
-abbrev pub cause : Setup → Reached → List ℕ
-cause s r = option_map_or (λ subject. cause_words s subject (line_reached r) r.row.value (is_later subject r) (accusations subject r.earlier) (last_refutation subject r.earlier) (times_heard subject r.earlier)) r.row.about []
+abbrev pub cause : Option Tick → Setup → Reached → List ℕ
+cause time s r = option_map_or (λ subject. cause_words time s subject (line_reached r) r.row.value (is_later subject r) (accusations subject r.earlier) (last_refutation subject r.earlier) (times_heard subject r.earlier)) r.row.about []
 
 -- ---- all deaths
 
@@ -136,17 +138,17 @@ unfoldable pub intro : List ℕ
 intro = codes "<p class=\"soft\">Each false death that is the first under its member's incarnation number: the later ones under that number follow from it, or have the same cause.</p>"
 
 -- the first twenty, and how many more there are
-unfoldable pub causes_figure : Setup → List Reached → List ℕ
-causes_figure s deaths =
-    figure_opening (codes "causes") (codes "How false deaths came about") ++ intro ++ flat_map (cause s) (take 20 deaths) ++ more_told (length deaths) ++ figure_end
+unfoldable pub causes_figure : Option Tick → Setup → List Reached → List ℕ
+causes_figure time s deaths =
+    figure_opening (codes "causes") (codes "How false deaths came about") ++ intro ++ flat_map (cause time s) (take 20 deaths) ++ more_told (length deaths) ++ figure_end
 
 -- the same, where there are any
-abbrev pub causes_where : Setup → List Reached → ℕ → List ℕ
-causes_where s deaths count = if nat_eq count 0 then [] else causes_figure s deaths
+abbrev pub causes_where : Option Tick → Setup → List Reached → ℕ → List ℕ
+causes_where time s deaths count = if nat_eq count 0 then [] else causes_figure time s deaths
 
 -- the same of these rows
-abbrev pub causes_text : Setup → List Row → List ℕ
-causes_text s rows = causes_where s (deaths_of rows) (length (deaths_of rows))
+abbrev pub causes_text : Option Tick → Setup → List Row → List ℕ
+causes_text time s rows = causes_where time s (deaths_of rows) (length (deaths_of rows))
 
 -- ---- names
 

@@ -8,6 +8,8 @@ use Rattle.scenario.specs.declared.settings.Cut.{Cut}
 use Rattle.drawing.specs.Escaped.{escaped}
 use Rattle.drawing.specs.Numbers.{grouped}
 use Rattle.member_timelines.specs.Lanes.{is_cut_of}
+use Rattle.drawing.specs.Lengths.{time_text}
+use Rattle.ticks.specs.declared.tick.Tick.{Tick}
 
 -- what holds from one moment until another holds at some moment of a time
 abbrev pub meets : ℕ → ℕ → ℕ → ℕ → Bool
@@ -38,30 +40,30 @@ unfoldable pub sentence_opening : List ℕ → List ℕ → List ℕ
 sentence_opening name words = codes " " ++ escaped name ++ words
 
 -- it ends by a time
-unfoldable pub time_words : ℕ → ℕ → List ℕ
-time_words from until = codes " from " ++ grouped from ++ codes " until " ++ grouped until ++ codes "."
+unfoldable pub time_words : Option Tick → ℕ → ℕ → List ℕ
+time_words time from until = codes " from " ++ time_text time from ++ codes " until " ++ time_text time until ++ codes "."
 
-unfoldable pub slow_sentence : List ℕ → ℕ → ℕ → ℕ → List ℕ
-slow_sentence name extra from until = sentence_opening name (codes " was slow by ") ++ grouped extra ++ time_words from until
+unfoldable pub slow_sentence : Option Tick → List ℕ → ℕ → ℕ → ℕ → List ℕ
+slow_sentence time name extra from until = sentence_opening name (codes " was slow by ") ++ time_text time extra ++ time_words time from until
 
-unfoldable pub pause_sentence : List ℕ → ℕ → ℕ → List ℕ
-pause_sentence name from until = sentence_opening name (codes " was paused") ++ time_words from until
+unfoldable pub pause_sentence : Option Tick → List ℕ → ℕ → ℕ → List ℕ
+pause_sentence time name from until = sentence_opening name (codes " was paused") ++ time_words time from until
 
-unfoldable pub cut_sentence : List ℕ → ℕ → ℕ → List ℕ
-cut_sentence name at until = sentence_opening name (codes " was cut off") ++ time_words at until
+unfoldable pub cut_sentence : Option Tick → List ℕ → ℕ → ℕ → List ℕ
+cut_sentence time name at until = sentence_opening name (codes " was cut off") ++ time_words time at until
 
 -- the same, where there is one
-abbrev pub slow_told : List ℕ → Option Slow → List ℕ
-slow_told name (Some slow) = slow_sentence name slow.extra slow.from slow.until
-slow_told name None = []
+abbrev pub slow_told : Option Tick → List ℕ → Option Slow → List ℕ
+slow_told time name (Some slow) = slow_sentence time name slow.extra slow.from slow.until
+slow_told time name None = []
 
-abbrev pub pause_told : List ℕ → Option Pause → List ℕ
-pause_told name (Some pause) = pause_sentence name pause.from pause.until
-pause_told name None = []
+abbrev pub pause_told : Option Tick → List ℕ → Option Pause → List ℕ
+pause_told time name (Some pause) = pause_sentence time name pause.from pause.until
+pause_told time name None = []
 
-abbrev pub cut_told : List ℕ → Option Cut → List ℕ
-cut_told name (Some cut) = cut_sentence name cut.at cut.until
-cut_told name None = []
+abbrev pub cut_told : Option Tick → List ℕ → Option Cut → List ℕ
+cut_told time name (Some cut) = cut_sentence time name cut.at cut.until
+cut_told time name None = []
 
 -- nothing of all that is told
 abbrev pub well_told : List ℕ → Option Slow → Option Pause → Option Cut → List ℕ
@@ -71,9 +73,9 @@ well_told name None (Some pause) cut = []
 well_told name None None (Some cut) = []
 
 -- what a member of that name was
-unfoldable pub states_told : List ℕ → Option Slow → Option Pause → Option Cut → List ℕ
-states_told name slow pause cut = slow_told name slow ++ pause_told name pause ++ cut_told name cut ++ well_told name slow pause cut
+unfoldable pub states_told : Option Tick → List ℕ → Option Slow → Option Pause → Option Cut → List ℕ
+states_told time name slow pause cut = slow_told time name slow ++ pause_told time name pause ++ cut_told time name cut ++ well_told name slow pause cut
 
 -- what the member was from a first moment up to a last one
-abbrev pub states : Setup → ℕ → ℕ → ℕ → List ℕ
-states s member first last = states_told (name_of s member) (last_slow s member first last) (last_pause s member first last) (last_cut s member first last)
+abbrev pub states : Option Tick → Setup → ℕ → ℕ → ℕ → List ℕ
+states time s member first last = states_told time (name_of s member) (last_slow s member first last) (last_pause s member first last) (last_cut s member first last)

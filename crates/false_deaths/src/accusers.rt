@@ -10,11 +10,12 @@ ghost use Rattle.false_deaths.specs.Causes.{began, fate, line_words, ping_words,
 
 use crate::troubles::push_states;
 use base::{MemberId, Moment};
-use drawing::{push_escaped, push_grouped};
+use drawing::{push_escaped, push_grouped, push_timed};
 use member_timelines::by_number;
 use scenario::Scenario;
 use series::{Accusation, Accusers, Line, Probe};
 use std::alloc::AllocError;
+use ticks::Tick;
 
 /// The most accusers that are told of.
 const TOLD: usize = 4;
@@ -23,24 +24,30 @@ const TOLD: usize = 4;
 #[tactic(auto, unfolding(crate::specs::Causes::accusers_told))]
 pub(crate) fn push_accusers(
     text: &mut String,
+    time: Option<Tick>,
     scenario: &Scenario,
     accusers: &Accusers,
 ) -> Result<(), AllocError>
     requires those { (list : List AnAccusation) × AreAccusers accusers.now list × AreNamed scenario.now list }
-    ensures { OnOk result ((list : List AnAccusation) → AreAccusers accusers.now list → string_bytes text.new ≡ string_bytes text.old ++ accusers_told scenario.now list) }
+    ensures { OnOk result ((list : List AnAccusation) → AreAccusers accusers.now list → string_bytes text.new ≡ string_bytes text.old ++ accusers_told time scenario.now list) }
 {
-    push_first(text, scenario, accusers)?;
+    push_first(text, time, scenario, accusers)?;
     push_end(text, accusers.count())?;
     Ok(())
 }
 
 /// Appends the first of them.
-fn push_first(text: &mut String, scenario: &Scenario, accusers: &Accusers) -> Result<(), AllocError>
+fn push_first(
+    text: &mut String,
+    time: Option<Tick>,
+    scenario: &Scenario,
+    accusers: &Accusers,
+) -> Result<(), AllocError>
     requires those { (list : List AnAccusation) × AreAccusers accusers.now list × AreNamed scenario.now list }
-    ensures { OnOk result ((list : List AnAccusation) → AreAccusers accusers.now list → string_bytes text.new ≡ string_bytes text.old ++ flat_map (accuser_item scenario.now) (take 4 list)) }
+    ensures { OnOk result ((list : List AnAccusation) → AreAccusers accusers.now list → string_bytes text.new ≡ string_bytes text.old ++ flat_map (accuser_item time scenario.now) (take 4 list)) }
 {
     for place in 0..TOLD {
-        push_at(text, scenario, accusers.at(place))?;
+        push_at(text, time, scenario, accusers.at(place))?;
     }
     Ok(())
 }
@@ -48,14 +55,15 @@ fn push_first(text: &mut String, scenario: &Scenario, accusers: &Accusers) -> Re
 /// Appends an accuser, where there is one.
 fn push_at(
     text: &mut String,
+    time: Option<Tick>,
     scenario: &Scenario,
     accusation: Option<Accusation>,
 ) -> Result<(), AllocError>
     requires { IfSome accusation (λ a. a.claim.member < member_count scenario.now) }
-    ensures { OnOk result (string_bytes text.new ≡ string_bytes text.old ++ option_map_or (accuser_item scenario.now) accusation []) }
+    ensures { OnOk result (string_bytes text.new ≡ string_bytes text.old ++ option_map_or (accuser_item time scenario.now) accusation []) }
 {
     match accusation {
-        Some(accusation) => push_accuser(text, scenario, &accusation),
+        Some(accusation) => push_accuser(text, time, scenario, &accusation),
         None => Ok(()),
     }
 }
@@ -64,17 +72,19 @@ fn push_at(
 #[tactic(auto, unfolding(crate::specs::Causes::accuser_item))]
 fn push_accuser(
     text: &mut String,
+    time: Option<Tick>,
     scenario: &Scenario,
     accusation: &Accusation,
 ) -> Result<(), AllocError>
     requires { accusation.now.claim.member < member_count scenario.now }
-    ensures { OnOk result (string_bytes text.new ≡ string_bytes text.old ++ accuser_item scenario.now accusation.now) }
+    ensures { OnOk result (string_bytes text.new ≡ string_bytes text.old ++ accuser_item time scenario.now accusation.now) }
 {
-    push_claim(text, scenario, &accusation.claim)?;
-    push_ping_told(text, &accusation.probe)?;
+    push_claim(text, time, scenario, &accusation.claim)?;
+    push_ping_told(text, time, &accusation.probe)?;
     let from = began(accusation);
     push_states(
         text,
+        time,
         scenario,
         accusation.claim.member,
         from,
@@ -95,12 +105,18 @@ pub(crate) fn began(accusation: &Accusation) -> Moment
 }
 
 /// Appends who accused the member, when and on which line.
-fn push_claim(text: &mut String, scenario: &Scenario, claim: &Line) -> Result<(), AllocError>
+fn push_claim(
+    text: &mut String,
+    time: Option<Tick>,
+    scenario: &Scenario,
+    claim: &Line,
+) -> Result<(), AllocError>
     requires { claim.now.member < member_count scenario.now }
-    ensures { OnOk result (string_bytes text.new ≡ string_bytes text.old ++ claim_words scenario.now claim.now) }
+    ensures { OnOk result (string_bytes text.new ≡ string_bytes text.old ++ claim_words time scenario.now claim.now) }
 {
     push_claim_of(
         text,
+        time,
         scenario.name(claim.member),
         claim.at.ticks(),
         claim.number,
@@ -108,22 +124,38 @@ fn push_claim(text: &mut String, scenario: &Scenario, claim: &Line) -> Result<()
 }
 
 /// Appends how a ping fared, where there is one.
-fn push_ping_told(text: &mut String, probe: &Option<Probe>) -> Result<(), AllocError>
-    ensures { OnOk result (string_bytes text.new ≡ string_bytes text.old ++ ping_told probe.now) }
+fn push_ping_told(
+    text: &mut String,
+    time: Option<Tick>,
+    probe: &Option<Probe>,
+) -> Result<(), AllocError>
+    ensures { OnOk result (string_bytes text.new ≡ string_bytes text.old ++ ping_told time probe.now) }
 {
     match probe {
-        Some(probe) => push_ping(text, probe.ping.at.ticks(), probe.ping.number, probe.lost),
+        Some(probe) => push_ping(
+            text,
+            time,
+            probe.ping.at.ticks(),
+            probe.ping.number,
+            probe.lost,
+        ),
         None => Ok(()),
     }
 }
 
 /// Appends how a ping fared that was sent at a moment, on a line of that number.
 #[tactic(auto, unfolding(crate::specs::Causes::ping_words))]
-fn push_ping(text: &mut String, at: u64, line: u64, lost: bool) -> Result<(), AllocError>
-    ensures { OnOk result (string_bytes text.new ≡ string_bytes text.old ++ ping_words at line lost) }
+fn push_ping(
+    text: &mut String,
+    time: Option<Tick>,
+    at: u64,
+    line: u64,
+    lost: bool,
+) -> Result<(), AllocError>
+    ensures { OnOk result (string_bytes text.new ≡ string_bytes text.old ++ ping_words time at line lost) }
 {
     text.push_str(" Its ping of ")?;
-    push_grouped(text, at)?;
+    push_timed(text, time, at)?;
     push_line(text, line)?;
     text.push_str(fate(lost))?;
     Ok(())
@@ -142,13 +174,19 @@ fn fate(lost: bool) -> &'static str
 
 /// Appends who accused the member: one of that name.
 #[tactic(auto, unfolding(crate::specs::Causes::claim_of))]
-fn push_claim_of(text: &mut String, name: &str, at: u64, number: u64) -> Result<(), AllocError>
-    ensures { OnOk result (string_bytes text.new ≡ string_bytes text.old ++ claim_of name.now at number) }
+fn push_claim_of(
+    text: &mut String,
+    time: Option<Tick>,
+    name: &str,
+    at: u64,
+    number: u64,
+) -> Result<(), AllocError>
+    ensures { OnOk result (string_bytes text.new ≡ string_bytes text.old ++ claim_of time name.now at number) }
 {
     text.push_str("<li>")?;
     push_escaped(text, name)?;
     text.push_str(" accused it at ")?;
-    push_grouped(text, at)?;
+    push_timed(text, time, at)?;
     push_line(text, number)?;
     text.push_str(".")?;
     Ok(())

@@ -13,6 +13,7 @@ use member_timelines::{Run, by_number};
 use scenario::Scenario;
 use series::Death;
 use std::alloc::AllocError;
+use ticks::Tick;
 
 /// The most deaths that are told of.
 const TOLD: usize = 20;
@@ -20,7 +21,7 @@ const TOLD: usize = 20;
 /// Appends how the first false deaths of the run came about; nothing where there are none.
 pub fn push_causes(text: &mut String, run: &Run) -> Result<(), AllocError>
     requires told { IsTold run.now }
-    ensures { OnOk result (string_bytes text.new ≡ string_bytes text.old ++ causes_text run.now.scenario.now run.now.tallies.now) }
+    ensures { OnOk result (string_bytes text.new ≡ string_bytes text.old ++ causes_text run.now.tick run.now.scenario.now run.now.tallies.now) }
 {
     let deaths = run.series.deaths();
     let count = deaths.count();
@@ -37,7 +38,7 @@ fn push_where(
 ) -> Result<(), AllocError>
     requires told { IsTold run.now }
     requires those { AreToldOf told.now count run.now.tallies.now }
-    ensures { OnOk result (string_bytes text.new ≡ string_bytes text.old ++ causes_where run.now.scenario.now (deaths_of run.now.tallies.now) count) }
+    ensures { OnOk result (string_bytes text.new ≡ string_bytes text.old ++ causes_where run.now.tick run.now.scenario.now (deaths_of run.now.tallies.now) count) }
 {
     if count == 0 {
         return Ok(());
@@ -55,7 +56,7 @@ fn push_figure(
 ) -> Result<(), AllocError>
     requires told { IsTold run.now }
     requires those { AreToldOf told.now count run.now.tallies.now }
-    ensures { OnOk result (string_bytes text.new ≡ string_bytes text.old ++ causes_figure run.now.scenario.now (deaths_of run.now.tallies.now)) }
+    ensures { OnOk result (string_bytes text.new ≡ string_bytes text.old ++ causes_figure run.now.tick run.now.scenario.now (deaths_of run.now.tallies.now)) }
 {
     open_figure(text, "causes", "How false deaths came about")?;
     push_intro(text)?;
@@ -84,11 +85,11 @@ fn push_each(
 ) -> Result<(), AllocError>
     requires told { IsTold run.now }
     requires those { AreToldOf told.now _count run.now.tallies.now }
-    ensures { OnOk result (string_bytes text.new ≡ string_bytes text.old ++ flat_map (cause run.now.scenario.now) (take 20 (deaths_of run.now.tallies.now))) }
+    ensures { OnOk result (string_bytes text.new ≡ string_bytes text.old ++ flat_map (cause run.now.tick run.now.scenario.now) (take 20 (deaths_of run.now.tallies.now))) }
 {
     for place in 0..TOLD {
         let slot = slot_at(told, place);
-        push_slot(text, run.scenario, slot)?;
+        push_slot(text, run.tick, run.scenario, slot)?;
     }
     Ok(())
 }
@@ -104,12 +105,17 @@ fn slot_at(told: &[Option<Death>], place: usize) -> Option<Death>
 }
 
 /// Appends how a death came about, where there is one.
-fn push_slot(text: &mut String, scenario: &Scenario, slot: Option<Death>) -> Result<(), AllocError>
+fn push_slot(
+    text: &mut String,
+    time: Option<Tick>,
+    scenario: &Scenario,
+    slot: Option<Death>,
+) -> Result<(), AllocError>
     requires { IfSome slot (CanTell scenario.now) }
-    ensures { OnOk result ((r : Option Reached) → IsToldOf slot r → string_bytes text.new ≡ string_bytes text.old ++ option_map_or (cause scenario.now) r []) }
+    ensures { OnOk result ((r : Option Reached) → IsToldOf slot r → string_bytes text.new ≡ string_bytes text.old ++ option_map_or (cause time scenario.now) r []) }
 {
     match slot {
-        Some(death) => push_death(text, scenario, &death),
+        Some(death) => push_death(text, time, scenario, &death),
         None => Ok(()),
     }
 }

@@ -11,23 +11,26 @@ ghost use Rattle.false_deaths.specs.Causes.{cause, cause_opening, cause_words, d
 use crate::accusers::{began, push_accusers, push_line};
 use crate::troubles::push_states;
 use base::{MemberId, Moment};
-use drawing::{push_escaped, push_grouped};
+use drawing::{push_escaped, push_grouped, push_timed};
 use scenario::Scenario;
 use series::{Accusers, Death, Line, Refutation};
 use std::alloc::AllocError;
+use ticks::Tick;
 
 /// Appends how a false death came about.
 pub(crate) fn push_death(
     text: &mut String,
+    time: Option<Tick>,
     scenario: &Scenario,
     death: &Death,
 ) -> Result<(), AllocError>
     requires { CanTell scenario.now death.now }
-    ensures { OnOk result ((r : Reached) → IsDeathOf death.now r → string_bytes text.new ≡ string_bytes text.old ++ cause scenario.now r) }
+    ensures { OnOk result ((r : Reached) → IsDeathOf death.now r → string_bytes text.new ≡ string_bytes text.old ++ cause time scenario.now r) }
 {
     let refutation = death.standing.refuted();
     push_words(
         text,
+        time,
         scenario,
         death.subject,
         &death.line,
@@ -54,6 +57,7 @@ fn is_later(death: &Death) -> bool
 #[tactic(auto, unfolding(crate::specs::Causes::cause_words))]
 fn push_words(
     text: &mut String,
+    time: Option<Tick>,
     scenario: &Scenario,
     subject: MemberId,
     line: &Line,
@@ -67,27 +71,29 @@ fn push_words(
     requires by { line.now.member < member_count scenario.now }
     requires accusers { (list : List AnAccusation) × AreAccusers accusers.now list × AreNamed scenario.now list }
     ensures { OnOk result ((list : List AnAccusation) → AreAccusers accusers.now list
-        → string_bytes text.new ≡ string_bytes text.old ++ cause_words scenario.now subject line.now number is_later list refutation.now heard) }
+        → string_bytes text.new ≡ string_bytes text.old ++ cause_words time scenario.now subject line.now number is_later list refutation.now heard) }
 {
-    open_cause(text, scenario.name(subject), line.at.ticks())?;
-    push_declared(text, scenario, line, number)?;
+    open_cause(text, time, scenario.name(subject), line.at.ticks())?;
+    push_declared(text, time, scenario, line, number)?;
     let since = since_first(accusers, line.at);
-    push_own_told(text, scenario, subject, since, line.at, refutation, heard)?;
+    push_own_told(
+        text, time, scenario, subject, since, line.at, refutation, heard,
+    )?;
     push_later(text, is_later)?;
-    push_accusers(text, scenario, accusers)?;
+    push_accusers(text, time, scenario, accusers)?;
     text.push_str("</ul></div>\n")?;
     Ok(())
 }
 
 /// Begins what is told of the death of a member of that name.
 #[tactic(auto, unfolding(crate::specs::Causes::cause_opening))]
-fn open_cause(text: &mut String, name: &str, at: u64) -> Result<(), AllocError>
-    ensures { OnOk result (string_bytes text.new ≡ string_bytes text.old ++ cause_opening name.now at) }
+fn open_cause(text: &mut String, time: Option<Tick>, name: &str, at: u64) -> Result<(), AllocError>
+    ensures { OnOk result (string_bytes text.new ≡ string_bytes text.old ++ cause_opening time name.now at) }
 {
     text.push_str("<div class=\"cause\"><h3>")?;
     push_escaped(text, name)?;
     text.push_str(" at ")?;
-    push_grouped(text, at)?;
+    push_timed(text, time, at)?;
     text.push_str("</h3><ul>")?;
     Ok(())
 }
@@ -96,15 +102,16 @@ fn open_cause(text: &mut String, name: &str, at: u64) -> Result<(), AllocError>
 #[tactic(auto, unfolding(crate::specs::Causes::declared_item))]
 fn push_declared(
     text: &mut String,
+    time: Option<Tick>,
     scenario: &Scenario,
     line: &Line,
     number: u64,
 ) -> Result<(), AllocError>
     requires { line.now.member < member_count scenario.now }
-    ensures { OnOk result (string_bytes text.new ≡ string_bytes text.old ++ declared_item scenario.now line.now number) }
+    ensures { OnOk result (string_bytes text.new ≡ string_bytes text.old ++ declared_item time scenario.now line.now number) }
 {
     push_declared_by(text, scenario.name(line.member), line.number, number)?;
-    push_states(text, scenario, line.member, line.at, line.at)?;
+    push_states(text, time, scenario, line.member, line.at, line.at)?;
     text.push_str("</li>")?;
     Ok(())
 }
@@ -127,27 +134,28 @@ fn push_declared_by(text: &mut String, name: &str, line: u64, number: u64) -> Re
 #[tactic(auto, unfolding(crate::specs::Causes::own_item))]
 fn push_own(
     text: &mut String,
+    time: Option<Tick>,
     scenario: &Scenario,
     subject: MemberId,
     since: Moment,
     at: Moment,
 ) -> Result<(), AllocError>
     requires { subject < member_count scenario.now }
-    ensures { OnOk result (string_bytes text.new ≡ string_bytes text.old ++ own_item scenario.now subject since at) }
+    ensures { OnOk result (string_bytes text.new ≡ string_bytes text.old ++ own_item time scenario.now subject since at) }
 {
-    open_own(text, since.ticks())?;
-    push_states(text, scenario, subject, since, at)?;
+    open_own(text, time, since.ticks())?;
+    push_states(text, time, scenario, subject, since, at)?;
     text.push_str("</li>")?;
     Ok(())
 }
 
 /// Begins what the member itself was from a moment on.
 #[tactic(auto, unfolding(crate::specs::Causes::own_opening))]
-fn open_own(text: &mut String, since: u64) -> Result<(), AllocError>
-    ensures { OnOk result (string_bytes text.new ≡ string_bytes text.old ++ own_opening since) }
+fn open_own(text: &mut String, time: Option<Tick>, since: u64) -> Result<(), AllocError>
+    ensures { OnOk result (string_bytes text.new ≡ string_bytes text.old ++ own_opening time since) }
 {
     text.push_str("<li>From ")?;
-    push_grouped(text, since)?;
+    push_timed(text, time, since)?;
     text.push_str(" until its death:")?;
     Ok(())
 }
@@ -166,6 +174,7 @@ fn since_first(accusers: &Accusers, at: Moment) -> Moment
 #[tactic(auto, unfolding(crate::specs::Causes::own_told))]
 fn push_own_told(
     text: &mut String,
+    time: Option<Tick>,
     scenario: &Scenario,
     subject: MemberId,
     since: Moment,
@@ -174,24 +183,26 @@ fn push_own_told(
     heard: u64,
 ) -> Result<(), AllocError>
     requires { subject < member_count scenario.now }
-    ensures { OnOk result (string_bytes text.new ≡ string_bytes text.old ++ own_told scenario.now subject since at refutation.now heard) }
+    ensures { OnOk result (string_bytes text.new ≡ string_bytes text.old ++ own_told time scenario.now subject since at refutation.now heard) }
 {
-    push_own(text, scenario, subject, since, at)?;
-    push_refuted_told(text, refutation, heard)?;
+    push_own(text, time, scenario, subject, since, at)?;
+    push_refuted_told(text, time, refutation, heard)?;
     Ok(())
 }
 
 /// Appends when the member had last refuted what was said of it, where it had.
 fn push_refuted_told(
     text: &mut String,
+    time: Option<Tick>,
     refutation: &Option<Refutation>,
     heard: u64,
 ) -> Result<(), AllocError>
-    ensures { OnOk result (string_bytes text.new ≡ string_bytes text.old ++ refuted_told refutation.now heard) }
+    ensures { OnOk result (string_bytes text.new ≡ string_bytes text.old ++ refuted_told time refutation.now heard) }
 {
     match refutation {
         Some(refutation) => push_refuted(
             text,
+            time,
             refutation.line.at.ticks(),
             refutation.line.number,
             heard,
@@ -202,11 +213,17 @@ fn push_refuted_told(
 
 /// Appends when the member had last refuted what was said of it, and how many heard of that.
 #[tactic(auto, unfolding(crate::specs::Causes::refuted_item))]
-fn push_refuted(text: &mut String, at: u64, line: u64, heard: u64) -> Result<(), AllocError>
-    ensures { OnOk result (string_bytes text.new ≡ string_bytes text.old ++ refuted_item at line heard) }
+fn push_refuted(
+    text: &mut String,
+    time: Option<Tick>,
+    at: u64,
+    line: u64,
+    heard: u64,
+) -> Result<(), AllocError>
+    ensures { OnOk result (string_bytes text.new ≡ string_bytes text.old ++ refuted_item time at line heard) }
 {
     text.push_str("<li>It had last refuted at ")?;
-    push_grouped(text, at)?;
+    push_timed(text, time, at)?;
     push_line(text, line)?;
     text.push_str("; members that had heard of that by then: ")?;
     push_grouped(text, heard)?;

@@ -6,54 +6,63 @@ ghost use Rattle.scenario.specs.Setup.{member_count};
 ghost use Rattle.false_deaths.specs.Troubles.{meets, slows_in, pauses_in, cuts_in, sentence_opening, time_words, slow_sentence, pause_sentence, cut_sentence, slow_told, pause_told, cut_told, well_told, states_told, states};
 
 use base::{MemberId, Moment};
-use drawing::{push_escaped, push_grouped};
+use drawing::{push_escaped, push_timed};
 use member_timelines::is_cut_of;
 use scenario::{Cut, Pause, Scenario, Slow};
 use std::alloc::AllocError;
+use ticks::Tick;
 
 /// Appends what the member was from a first moment up to a last one.
 pub(crate) fn push_states(
     text: &mut String,
+    time: Option<Tick>,
     scenario: &Scenario,
     member: MemberId,
     first: Moment,
     last: Moment,
 ) -> Result<(), AllocError>
     requires { member < member_count scenario.now }
-    ensures { OnOk result (string_bytes text.new ≡ string_bytes text.old ++ states scenario.now member first last) }
+    ensures { OnOk result (string_bytes text.new ≡ string_bytes text.old ++ states time scenario.now member first last) }
 {
     let group = scenario.group_number(member);
     let slow = last_slow(scenario.slows(), member, first, last);
     let pause = last_pause(scenario.pauses(), member, first, last);
     let cut = last_cut(scenario.cuts(), group, first, last);
-    push_all(text, scenario.name(member), &slow, &pause, &cut)
+    push_all(text, time, scenario.name(member), &slow, &pause, &cut)
 }
 
 /// Appends what a member of that name was.
 #[tactic(auto, unfolding(crate::specs::Troubles::states_told))]
 fn push_all(
     text: &mut String,
+    time: Option<Tick>,
     name: &str,
     slow: &Option<Slow>,
     pause: &Option<Pause>,
     cut: &Option<Cut>,
 ) -> Result<(), AllocError>
-    ensures { OnOk result (string_bytes text.new ≡ string_bytes text.old ++ states_told name.now slow.now pause.now cut.now) }
+    ensures { OnOk result (string_bytes text.new ≡ string_bytes text.old ++ states_told time name.now slow.now pause.now cut.now) }
 {
-    push_slow_told(text, name, slow)?;
-    push_pause_told(text, name, pause)?;
-    push_cut_told(text, name, cut)?;
+    push_slow_told(text, time, name, slow)?;
+    push_pause_told(text, time, name, pause)?;
+    push_cut_told(text, time, name, cut)?;
     push_well(text, name, slow, pause, cut)?;
     Ok(())
 }
 
 /// Appends that it was slow, where it was.
-fn push_slow_told(text: &mut String, name: &str, slow: &Option<Slow>) -> Result<(), AllocError>
-    ensures { OnOk result (string_bytes text.new ≡ string_bytes text.old ++ slow_told name.now slow.now) }
+fn push_slow_told(
+    text: &mut String,
+    time: Option<Tick>,
+    name: &str,
+    slow: &Option<Slow>,
+) -> Result<(), AllocError>
+    ensures { OnOk result (string_bytes text.new ≡ string_bytes text.old ++ slow_told time name.now slow.now) }
 {
     match slow {
         Some(slow) => push_slow(
             text,
+            time,
             name,
             slow.extra,
             slow.from.ticks(),
@@ -64,21 +73,31 @@ fn push_slow_told(text: &mut String, name: &str, slow: &Option<Slow>) -> Result<
 }
 
 /// Appends that it was paused, where it was.
-fn push_pause_told(text: &mut String, name: &str, pause: &Option<Pause>) -> Result<(), AllocError>
-    ensures { OnOk result (string_bytes text.new ≡ string_bytes text.old ++ pause_told name.now pause.now) }
+fn push_pause_told(
+    text: &mut String,
+    time: Option<Tick>,
+    name: &str,
+    pause: &Option<Pause>,
+) -> Result<(), AllocError>
+    ensures { OnOk result (string_bytes text.new ≡ string_bytes text.old ++ pause_told time name.now pause.now) }
 {
     match pause {
-        Some(pause) => push_pause(text, name, pause.from.ticks(), pause.until.ticks()),
+        Some(pause) => push_pause(text, time, name, pause.from.ticks(), pause.until.ticks()),
         None => Ok(()),
     }
 }
 
 /// Appends that it was cut off, where it was.
-fn push_cut_told(text: &mut String, name: &str, cut: &Option<Cut>) -> Result<(), AllocError>
-    ensures { OnOk result (string_bytes text.new ≡ string_bytes text.old ++ cut_told name.now cut.now) }
+fn push_cut_told(
+    text: &mut String,
+    time: Option<Tick>,
+    name: &str,
+    cut: &Option<Cut>,
+) -> Result<(), AllocError>
+    ensures { OnOk result (string_bytes text.new ≡ string_bytes text.old ++ cut_told time name.now cut.now) }
 {
     match cut {
-        Some(cut) => push_cut(text, name, cut.at.ticks(), cut.until.ticks()),
+        Some(cut) => push_cut(text, time, name, cut.at.ticks(), cut.until.ticks()),
         None => Ok(()),
     }
 }
@@ -111,13 +130,13 @@ fn open_sentence(text: &mut String, name: &str, words: &str) -> Result<(), Alloc
 
 /// Ends a sentence by a time.
 #[tactic(auto, unfolding(crate::specs::Troubles::time_words))]
-fn push_time(text: &mut String, from: u64, until: u64) -> Result<(), AllocError>
-    ensures { OnOk result (string_bytes text.new ≡ string_bytes text.old ++ time_words from until) }
+fn push_time(text: &mut String, time: Option<Tick>, from: u64, until: u64) -> Result<(), AllocError>
+    ensures { OnOk result (string_bytes text.new ≡ string_bytes text.old ++ time_words time from until) }
 {
     text.push_str(" from ")?;
-    push_grouped(text, from)?;
+    push_timed(text, time, from)?;
     text.push_str(" until ")?;
-    push_grouped(text, until)?;
+    push_timed(text, time, until)?;
     text.push_str(".")
 }
 
@@ -125,36 +144,49 @@ fn push_time(text: &mut String, from: u64, until: u64) -> Result<(), AllocError>
 #[tactic(auto, unfolding(crate::specs::Troubles::slow_sentence))]
 fn push_slow(
     text: &mut String,
+    time: Option<Tick>,
     name: &str,
     extra: u64,
     from: u64,
     until: u64,
 ) -> Result<(), AllocError>
-    ensures { OnOk result (string_bytes text.new ≡ string_bytes text.old ++ slow_sentence name.now extra from until) }
+    ensures { OnOk result (string_bytes text.new ≡ string_bytes text.old ++ slow_sentence time name.now extra from until) }
 {
     open_sentence(text, name, " was slow by ")?;
-    push_grouped(text, extra)?;
-    push_time(text, from, until)?;
+    push_timed(text, time, extra)?;
+    push_time(text, time, from, until)?;
     Ok(())
 }
 
 /// Appends that a member was paused.
 #[tactic(auto, unfolding(crate::specs::Troubles::pause_sentence))]
-fn push_pause(text: &mut String, name: &str, from: u64, until: u64) -> Result<(), AllocError>
-    ensures { OnOk result (string_bytes text.new ≡ string_bytes text.old ++ pause_sentence name.now from until) }
+fn push_pause(
+    text: &mut String,
+    time: Option<Tick>,
+    name: &str,
+    from: u64,
+    until: u64,
+) -> Result<(), AllocError>
+    ensures { OnOk result (string_bytes text.new ≡ string_bytes text.old ++ pause_sentence time name.now from until) }
 {
     open_sentence(text, name, " was paused")?;
-    push_time(text, from, until)?;
+    push_time(text, time, from, until)?;
     Ok(())
 }
 
 /// Appends that a member was cut off.
 #[tactic(auto, unfolding(crate::specs::Troubles::cut_sentence))]
-fn push_cut(text: &mut String, name: &str, at: u64, until: u64) -> Result<(), AllocError>
-    ensures { OnOk result (string_bytes text.new ≡ string_bytes text.old ++ cut_sentence name.now at until) }
+fn push_cut(
+    text: &mut String,
+    time: Option<Tick>,
+    name: &str,
+    at: u64,
+    until: u64,
+) -> Result<(), AllocError>
+    ensures { OnOk result (string_bytes text.new ≡ string_bytes text.old ++ cut_sentence time name.now at until) }
 {
     open_sentence(text, name, " was cut off")?;
-    push_time(text, at, until)?;
+    push_time(text, time, at, until)?;
     Ok(())
 }
 

@@ -63,7 +63,7 @@ AppendsBoth old new table page_old page_new shown = Appends old new table × App
 
 -- the text is a page of the settings, which calls the scenario as the words say
 abbrev pub IsJoinPage : List ℕ → JoinWords → Sweep → List SettingSummary → List ℕ → Type 0
-IsJoinPage release join plan settings text = IsSweepPage (scenario_name join.name (name_at join.files.items join.table 0)).now release plan join.wants.items settings text
+IsJoinPage release join plan settings text = IsSweepPage join.tick (scenario_name join.name (name_at join.files.items join.table 0)).now release plan join.wants.items settings text
 
 -- the table and a page of the settings were stored
 abbrev pub StoresPaged : List ℕ → Text → Shelf → Shelf → Making → JoinWords → Sweep → List SettingSummary → List ℕ → Type 0
@@ -92,7 +92,7 @@ DoesJoin release words before after making lines = (join : JoinWords) × AsksFor
 
 -- the text is a page of the settings, which calls the scenario as the words say
 abbrev pub IsShardsPage : List ℕ → PageWords → Sweep → List SettingSummary → List ℕ → Type 0
-IsShardsPage release page plan settings text = IsSweepPage (scenario_name page.name (name_at page.files.items page.page 0)).now release plan [] settings text
+IsShardsPage release page plan settings text = IsSweepPage page.tick (scenario_name page.name (name_at page.files.items page.page 0)).now release plan [] settings text
 
 -- a page of the settings was stored
 abbrev pub StoresPage : List ℕ → Shelf → Shelf → Making → PageWords → Sweep → List SettingSummary → Type 0

@@ -142,6 +142,7 @@ fn store_paged<'a, F: Files>(
     let text = page_of(
         alloc,
         release,
+        words.tick,
         words.name,
         source,
         words.wants.as_slice(),

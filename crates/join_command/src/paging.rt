@@ -15,6 +15,7 @@ use shard_merge::Joined;
 use std::alloc::Global;
 use std::io;
 use sweep_output::{SweepShown, settings_page};
+use ticks::Tick;
 use trace::Put;
 
 /// Puts the shards in the files of the words together, and writes a page of the settings to a file, which is made once they are.
@@ -56,14 +57,16 @@ fn store_page<'a, F: Files>(
         joined.now.plan joined.now.settings.items) }
 {
     let source = name_at(words.files.as_slice(), words.page, 0);
-    let text = page_of(alloc, release, words.name, source, &[], joined)?;
+    let text = page_of(alloc, release, words.tick, words.name, source, &[], joined)?;
     store(source, words.page, text.as_bytes(), files)
 }
 
-/// The page of the settings, which calls the scenario by a name, or as its source where none is given, and answers what is wanted.
+/// The page of the settings, which calls the scenario by a name, or as its source where none is given, shows its times in units
+/// too where it is known how long a tick lasts, and answers what is wanted.
 pub(crate) fn page_of(
     alloc: Global,
     release: &Release<'_>,
+    tick: Option<Tick>,
     name: Option<&str>,
     source: &str,
     wants: &[Want<'_>],
@@ -73,12 +76,13 @@ pub(crate) fn page_of(
     requires few { All HasFewRuns joined.now.settings.items }
     requires all { length joined.now.settings.items ≡ setting_count joined.now.plan.swept_keys }
     ensures page { IfOk result
-        (λ text. IsSweepPage (scenario_name name.entry source.entry).now release.now.version.now joined.now.plan wants.now joined.now.settings.items (string_bytes text)) }
+        (λ text. IsSweepPage tick (scenario_name name.entry source.entry).now release.now.version.now joined.now.plan wants.now joined.now.settings.items (string_bytes text)) }
     ensures refused { IfErr result (λ failure. failure ≡ Failure.Memory) }
 {
     let shown = SweepShown {
         name: name.unwrap_or(source),
         release: release.version,
+        tick,
     };
     match settings_page(
         alloc,

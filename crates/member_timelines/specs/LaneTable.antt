@@ -1,10 +1,10 @@
 -- The figure of lanes, and the lanes as a table.
-use Rattle.std.specs.Prelude.{ℕ, Bool, ◌-◌, ◌*◌, ◌&&◌, ◌==◌, nat_le, nat_eq, not, if◌then◌else◌, List, [], ◌++◌, codes, decimal, length, flat_map, take, max, slice_index}
+use Rattle.std.specs.Prelude.{ℕ, Bool, ◌-◌, ◌*◌, ◌&&◌, ◌==◌, nat_le, nat_eq, not, if◌then◌else◌, List, [], ◌++◌, codes, decimal, length, flat_map, take, max, slice_index, Option}
 use Rattle.std.specs.List.{range_with_len}
 use Rattle.scenario.specs.Setup.{Setup, name_of}
 use Rattle.trace.specs.declared.row.Row.{Row}
 use Rattle.series.specs.Spans.{span_width, span_count}
-use Rattle.drawing.specs.Axes.{axis_across}
+use Rattle.drawing.specs.Axes.{time_across}
 use Rattle.drawing.specs.Escaped.{escaped}
 use Rattle.drawing.specs.Legends.{entry}
 use Rattle.drawing.specs.Shapes.{figure_opening, figure_end}
@@ -13,6 +13,8 @@ use Rattle.member_timelines.specs.Choice.{times_of}
 use Rattle.member_timelines.specs.Numbers.{by_number}
 use Rattle.member_timelines.specs.Heights.{before}
 use Rattle.member_timelines.specs.Lanes.{lane, held_heights}
+use Rattle.drawing.specs.Lengths.{lasting}
+use Rattle.ticks.specs.declared.tick.Tick.{Tick}
 
 -- an entry of the legend, where what it stands for is there
 abbrev pub entry_where : Bool → List ℕ → List ℕ → List ℕ
@@ -32,12 +34,12 @@ lane_words s =
     ++ codes "</ul><p class=\"soft\">Solid vertical line: the member crashes; dashed: it leaves or starts; dotted: others declare it alive again; dot: it refutes a claim.</p>"
 
 -- the axis of time
-abbrev pub time_axis : Setup → List ℕ
-time_axis s = axis_across (max s.end 1) (codes "moment, in ticks")
+abbrev pub time_axis : Option Tick → Setup → List ℕ
+time_axis time s = time_across time (max s.end 1) (codes "moment, in ticks")
 
 -- the same below the lanes
-unfoldable pub lane_axis : Setup → List ℕ
-lane_axis s = codes "<div class=\"lane\">" ++ time_axis s ++ codes "</div>"
+unfoldable pub lane_axis : Option Tick → Setup → List ℕ
+lane_axis time s = codes "<div class=\"lane\">" ++ time_axis time s ++ codes "</div>"
 
 -- how many more would have a lane, where 60 have one
 unfoldable pub more_words : ℕ → List ℕ
@@ -47,46 +49,46 @@ abbrev pub lane_rest : ℕ → List ℕ
 lane_rest all = if nat_le all 60 then [] else more_words (all - 60)
 
 -- one row of the table: how many suspect a member from a moment on, and how many have declared it dead
-unfoldable pub table_row : List ℕ → ℕ → ℕ → ℕ → List ℕ
-table_row name from suspected dead =
-    codes "<tr><td>" ++ escaped name ++ codes "<td>" ++ decimal from ++ codes "<td>" ++ decimal suspected ++ codes "<td>" ++ decimal dead
+unfoldable pub table_row : Option Tick → List ℕ → ℕ → ℕ → ℕ → List ℕ
+table_row time name from suspected dead =
+    codes "<tr><td>" ++ escaped name ++ codes "<td>" ++ decimal from ++ lasting time from ++ codes "<td>" ++ decimal suspected ++ codes "<td>" ++ decimal dead
 
 -- the height of a span is the one before it
 abbrev pub is_unchanged : List ℕ → ℕ → Bool
 is_unchanged heights span = slice_index heights span == before heights span
 
 -- the row of a span, where something changes in it
-abbrev pub span_row : List ℕ → ℕ → List ℕ → List ℕ → ℕ → List ℕ
-span_row name width suspected dead span =
-    if is_unchanged suspected span && is_unchanged dead span then [] else table_row name (span * width) (slice_index suspected span) (slice_index dead span)
+abbrev pub span_row : Option Tick → List ℕ → ℕ → List ℕ → List ℕ → ℕ → List ℕ
+span_row time name width suspected dead span =
+    if is_unchanged suspected span && is_unchanged dead span then [] else table_row time name (span * width) (slice_index suspected span) (slice_index dead span)
 
 -- the rows of so many spans
-abbrev pub span_rows : List ℕ → ℕ → ℕ → List ℕ → List ℕ → List ℕ
-span_rows name width spans suspected dead = flat_map (span_row name width suspected dead) (range_with_len 0 spans)
+abbrev pub span_rows : Option Tick → List ℕ → ℕ → ℕ → List ℕ → List ℕ → List ℕ
+span_rows time name width spans suspected dead = flat_map (span_row time name width suspected dead) (range_with_len 0 spans)
 
 -- a member's rows
-abbrev pub member_rows : Setup → List Row → ℕ → List ℕ
-member_rows s rows member =
-    span_rows (name_of s member) (span_width s) (span_count s) (held_heights s rows member 1) (held_heights s rows member 2)
+abbrev pub member_rows : Option Tick → Setup → List Row → ℕ → List ℕ
+member_rows time s rows member =
+    span_rows time (name_of s member) (span_width s) (span_count s) (held_heights s rows member 1) (held_heights s rows member 2)
 
 -- the lanes of these members as a table
-unfoldable pub lane_table : Setup → List Row → List Chosen → List ℕ
-lane_table s rows lanes =
+unfoldable pub lane_table : Option Tick → Setup → List Row → List Chosen → List ℕ
+lane_table time s rows lanes =
     codes "<details><summary>The lanes as a table</summary><div class=\"wide\"><table><tr><th>member<th>from moment<th>suspect it<th>have declared it dead</tr>\n"
-    ++ flat_map (λ chosen. member_rows s rows chosen.member) lanes ++ codes "</table></div></details>"
+    ++ flat_map (λ chosen. member_rows time s rows chosen.member) lanes ++ codes "</table></div></details>"
 
 -- one lane
-abbrev pub lane_at : Setup → List Row → Chosen → List ℕ
-lane_at s rows chosen = lane s rows chosen.member (times_of chosen)
+abbrev pub lane_at : Option Tick → Setup → List Row → Chosen → List ℕ
+lane_at time s rows chosen = lane time s rows chosen.member (times_of chosen)
 
 -- the lanes of the first 60 of these, and the rest of the figure
-unfoldable pub lanes_of : Setup → List Row → List Chosen → List ℕ
-lanes_of s rows all =
-    lane_words s ++ flat_map (lane_at s rows) (take 60 all) ++ lane_axis s ++ lane_rest (length all) ++ lane_table s rows (take 60 all)
+unfoldable pub lanes_of : Option Tick → Setup → List Row → List Chosen → List ℕ
+lanes_of time s rows all =
+    lane_words s ++ flat_map (lane_at time s rows) (take 60 all) ++ lane_axis time s ++ lane_rest (length all) ++ lane_table time s rows (take 60 all)
 
 -- the figure of all that get a lane, in their order
-unfoldable pub lanes_text : Setup → List Row → List Chosen → List ℕ
-lanes_text s rows all =
+unfoldable pub lanes_text : Option Tick → Setup → List Row → List Chosen → List ℕ
+lanes_text time s rows all =
     figure_opening (codes "lanes") (codes "Who was suspected, and who was declared dead")
-    ++ (if nat_eq (length all) 0 then codes "<p>No member was suspected, crashed, left, was slow or was paused.</p>" else lanes_of s rows all)
+    ++ (if nat_eq (length all) 0 then codes "<p>No member was suspected, crashed, left, was slow or was paused.</p>" else lanes_of time s rows all)
     ++ figure_end

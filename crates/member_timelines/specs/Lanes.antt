@@ -16,6 +16,7 @@ use Rattle.drawing.specs.Shapes.{plot_opening, plot_end, area, band, rule, dot}
 use Rattle.drawing.specs.Escaped.{escaped}
 use Rattle.member_timelines.specs.Told.{story_words}
 use Rattle.member_timelines.specs.Heights.{heights, stacked, flat}
+use Rattle.ticks.specs.declared.tick.Tick.{Tick}
 
 -- how many others each member has, or 1 where it is alone: so high is a lane
 abbrev pub others : Setup → ℕ
@@ -106,7 +107,7 @@ unfoldable pub lane_plot : Setup → List Row → ℕ → List ℕ
 lane_plot s rows member = lane_opening s (name_of s member) ++ bands s member ++ areas s rows member ++ marks s rows member ++ plot_end
 
 -- the lane of a member with so many false deaths
-unfoldable pub lane : Setup → List Row → ℕ → ℕ → List ℕ
-lane s rows member wrongly =
+unfoldable pub lane : Option Tick → Setup → List Row → ℕ → ℕ → List ℕ
+lane time s rows member wrongly =
     lane_plot s rows member
-    ++ codes "<div class=\"told\">" ++ story_words s rows member wrongly ++ codes "</div></div>\n"
+    ++ codes "<div class=\"told\">" ++ story_words time s rows member wrongly ++ codes "</div></div>\n"

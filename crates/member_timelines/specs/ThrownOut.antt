@@ -14,16 +14,18 @@ use Rattle.member_timelines.specs.declared.chosen.Chosen.{Chosen}
 use Rattle.member_timelines.specs.Choice.{times_of}
 use Rattle.member_timelines.specs.Lanes.{is_cut_of}
 use Rattle.member_timelines.specs.Told.{first_confirm, last_refute, times_back}
+use Rattle.drawing.specs.Lengths.{time_text}
+use Rattle.ticks.specs.declared.tick.Tick.{Tick}
 
 -- when a claim was made, by whom, and on which line it stands
-unfoldable pub claim_cells : Setup → Option Line → List ℕ
-claim_cells s None = codes "<td>-<td>-<td>-"
-claim_cells s (Some line) = codes "<td>" ++ grouped line.at ++ codes "<td>" ++ escaped (name_of s line.member) ++ codes "<td>" ++ decimal line.number
+unfoldable pub claim_cells : Option Tick → Setup → Option Line → List ℕ
+claim_cells time s None = codes "<td>-<td>-<td>-"
+claim_cells time s (Some line) = codes "<td>" ++ time_text time line.at ++ codes "<td>" ++ escaped (name_of s line.member) ++ codes "<td>" ++ decimal line.number
 
 -- when the member last refuted what was said of it, and on which line that stands
-unfoldable pub refute_cells : Option Line → List ℕ
-refute_cells None = codes "<td>never<td>"
-refute_cells (Some line) = codes "<td>" ++ grouped line.at ++ codes "<td>" ++ decimal line.number
+unfoldable pub refute_cells : Option Tick → Option Line → List ℕ
+refute_cells time None = codes "<td>never<td>"
+refute_cells time (Some line) = codes "<td>" ++ time_text time line.at ++ codes "<td>" ++ decimal line.number
 
 -- the cut is one of the group's and holds at the moment
 abbrev pub is_cut_then : ℕ → ℕ → Cut → Bool
@@ -46,37 +48,37 @@ abbrev pub cell : ℕ → List ℕ
 cell number = codes "<td>" ++ grouped number
 
 -- the first cells of a row: of whom it is, and who first declared it dead
-unfoldable pub first_cells : Setup → ℕ → Option Line → List ℕ
-first_cells s member first = codes "<tr><td>" ++ escaped (name_of s member) ++ claim_cells s first
+unfoldable pub first_cells : Option Tick → Setup → ℕ → Option Line → List ℕ
+first_cells time s member first = codes "<tr><td>" ++ escaped (name_of s member) ++ claim_cells time s first
 
 -- the cell of what the member was then
 abbrev pub condition_cell : Setup → ℕ → Option Line → List ℕ
 condition_cell s member first = codes "<td>" ++ condition_of s member first
 
 -- the row of a member with so many false deaths
-unfoldable pub row : Setup → List Row → ℕ → ℕ → List ℕ
-row s rows member times =
-    first_cells s member (first_confirm rows member) ++ cell times ++ cell (times_back s rows member)
+unfoldable pub row : Option Tick → Setup → List Row → ℕ → ℕ → List ℕ
+row time s rows member times =
+    first_cells time s member (first_confirm rows member) ++ cell times ++ cell (times_back s rows member)
     ++ condition_cell s member (first_confirm rows member) ++ cell (count_by (tells_of what.Fail member) rows)
-    ++ refute_cells (last_refute rows member) ++ codes "\n"
+    ++ refute_cells time (last_refute rows member) ++ codes "\n"
 
 -- the same for a member with a lane
-abbrev pub row_of : Setup → List Row → Chosen → List ℕ
-row_of s rows chosen = row s rows chosen.member (times_of chosen)
+abbrev pub row_of : Option Tick → Setup → List Row → Chosen → List ℕ
+row_of time s rows chosen = row time s rows chosen.member (times_of chosen)
 
 -- what the columns are
 unfoldable pub columns : List ℕ
 columns = codes "<div class=\"wide\"><table><tr><th>member<th>first declared dead<th>by<th>line of the trace<th>false deaths<th>declared alive again<th>its state then<th>failed probes of it<th>last refutation<th>line of the trace</tr>\n"
 
 -- the table of these
-unfoldable pub thrown_out_figure : Setup → List Row → List Chosen → List ℕ
-thrown_out_figure s rows lanes =
-    figure_opening (codes "false-deaths") (codes "False deaths") ++ columns ++ flat_map (row_of s rows) lanes ++ codes "</table></div>" ++ figure_end
+unfoldable pub thrown_out_figure : Option Tick → Setup → List Row → List Chosen → List ℕ
+thrown_out_figure time s rows lanes =
+    figure_opening (codes "false-deaths") (codes "False deaths") ++ columns ++ flat_map (row_of time s rows) lanes ++ codes "</table></div>" ++ figure_end
 
 -- a member with a lane has a false death
 abbrev pub is_out : Chosen → Bool
 is_out chosen = nat_lt 0 (times_of chosen)
 
 -- the table of those of all with a lane that have a false death, which come first: 200 of them at most, and nothing where there are none
-abbrev pub thrown_out_text : Setup → List Row → List Chosen → List ℕ
-thrown_out_text s rows all = if nat_eq (count_by is_out all) 0 then [] else thrown_out_figure s rows (take (min (count_by is_out all) 200) all)
+abbrev pub thrown_out_text : Option Tick → Setup → List Row → List Chosen → List ℕ
+thrown_out_text time s rows all = if nat_eq (count_by is_out all) 0 then [] else thrown_out_figure time s rows (take (min (count_by is_out all) 200) all)

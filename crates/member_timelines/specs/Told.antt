@@ -13,10 +13,12 @@ use Rattle.series.specs.Stories.{revives_in}
 use Rattle.series.specs.Watched.{at_by, crash_by_end}
 use Rattle.drawing.specs.Numbers.{grouped}
 use Rattle.member_timelines.specs.Numbers.{by_number}
+use Rattle.drawing.specs.Lengths.{time_text}
+use Rattle.ticks.specs.declared.tick.Tick.{Tick}
 
 -- when the member was first declared dead, after some words
-abbrev pub from_first : List ℕ → Option Line → List ℕ
-from_first words first = option_map_or (λ line. words ++ grouped line.at) first []
+abbrev pub from_first : Option Tick → List ℕ → Option Line → List ℕ
+from_first time words first = option_map_or (λ line. words ++ time_text time line.at) first []
 
 -- how often others declared the member alive again, as far as 64 bits hold it
 abbrev pub times_back : Setup → List Row → ℕ → ℕ
@@ -35,21 +37,21 @@ unfoldable pub death_words : ℕ → List ℕ
 death_words times = codes "<b>" ++ grouped times ++ by_number times (codes " false death</b>") (codes " false deaths</b>")
 
 -- the same, when they first did, and how often they declared it alive again
-unfoldable pub wrongly_words : ℕ → ℕ → Option Line → List ℕ
-wrongly_words times back first = death_words times ++ from_first (codes ", first at ") first ++ back_words back
+unfoldable pub wrongly_words : Option Tick → ℕ → ℕ → Option Line → List ℕ
+wrongly_words time times back first = death_words times ++ from_first time (codes ", first at ") first ++ back_words back
 
 -- how and when it departed, after other words or alone
-unfoldable pub departure_words : Bool → List ℕ → ℕ → List ℕ
-departure_words more words at = (if more then codes "; " else []) ++ words ++ grouped at
+unfoldable pub departure_words : Option Tick → Bool → List ℕ → ℕ → List ℕ
+departure_words time more words at = (if more then codes "; " else []) ++ words ++ time_text time at
 
 -- when others first declared it dead
-unfoldable pub found_at : ℕ → List ℕ
-found_at at = codes ", first declared dead at " ++ grouped at
+unfoldable pub found_at : Option Tick → ℕ → List ℕ
+found_at time at = codes ", first declared dead at " ++ time_text time at
 
 -- the same, where they did
-abbrev pub found_words : Option Line → List ℕ
-found_words (Some line) = found_at line.at
-found_words None = codes ", never declared dead"
+abbrev pub found_words : Option Tick → Option Line → List ℕ
+found_words time (Some line) = found_at time line.at
+found_words time None = codes ", never declared dead"
 
 -- what became of a member that neither departed nor has a false death
 unfoldable pub unharmed_words : Option Line → List ℕ
@@ -57,15 +59,15 @@ unharmed_words (Some line) = codes "suspected, and refuted it"
 unharmed_words None = codes "never declared dead"
 
 -- its false deaths, where it has some
-abbrev pub out_words : ℕ → ℕ → Option Line → List ℕ
-out_words times back first = if nat_lt 0 times then wrongly_words times back first else []
+abbrev pub out_words : Option Tick → ℕ → ℕ → Option Line → List ℕ
+out_words time times back first = if nat_lt 0 times then wrongly_words time times back first else []
 
 -- how it departed and when others declared it dead, after other words or alone; what became of it where it did neither crash nor leave
-unfoldable pub departed_words : Bool → Option Line → Option Line → Option ℕ → Option ℕ → List ℕ
-departed_words out first last (Some at) leave = departure_words out (codes "crashed at ") at ++ found_words first
-departed_words out first last None (Some at) = departure_words out (codes "left at ") at ++ found_words first
-departed_words true first last None None = []
-departed_words false first last None None = unharmed_words last
+unfoldable pub departed_words : Option Tick → Bool → Option Line → Option Line → Option ℕ → Option ℕ → List ℕ
+departed_words time out first last (Some at) leave = departure_words time out (codes "crashed at ") at ++ found_words time first
+departed_words time out first last None (Some at) = departure_words time out (codes "left at ") at ++ found_words time first
+departed_words time true first last None None = []
+departed_words time false first last None None = unharmed_words last
 
 -- the first row that confirms that the member failed, and the last by which it refuted what was said of it
 abbrev pub first_confirm : List Row → ℕ → Option Line
@@ -75,7 +77,7 @@ abbrev pub last_refute : List Row → ℕ → Option Line
 last_refute rows member = last_or None (lines_of (tells_of what.Refute member) rows)
 
 -- what happened by the end to a member with so many false deaths
-unfoldable pub story_words : Setup → List Row → ℕ → ℕ → List ℕ
-story_words s rows member wrongly =
-    out_words wrongly (times_back s rows member) (first_confirm rows member)
-    ++ departed_words (nat_lt 0 wrongly) (first_confirm rows member) (last_refute rows member) (crash_by_end s member) (at_by s.end (leave_of s member))
+unfoldable pub story_words : Option Tick → Setup → List Row → ℕ → ℕ → List ℕ
+story_words time s rows member wrongly =
+    out_words time wrongly (times_back s rows member) (first_confirm rows member)
+    ++ departed_words time (nat_lt 0 wrongly) (first_confirm rows member) (last_refute rows member) (crash_by_end s member) (at_by s.end (leave_of s member))

@@ -27,7 +27,7 @@ pub(crate) fn push_lane(
 ) -> Result<(), Memory>
     requires told { IsTold run.now }
     requires within { member < member_count run.now.scenario.now }
-    ensures { OnOk result (string_bytes text.new ≡ string_bytes text.old ++ lane run.now.scenario.now run.now.tallies.now member wrongly) }
+    ensures { OnOk result (string_bytes text.new ≡ string_bytes text.old ++ lane run.now.tick run.now.scenario.now run.now.tallies.now member wrongly) }
 {
     push_plot(alloc, text, run, member)?;
     text.push_str("<div class=\"told\">")?;

@@ -11,8 +11,11 @@ use crate::lane::push_lane;
 use crate::numbers::by_number;
 use crate::run::Run;
 use base::{MemberId, Memory};
-use drawing::{close_figure, open_figure, push_across, push_entry, push_escaped};
+use drawing::{
+    close_figure, open_figure, push_entry, push_escaped, push_lasting, push_time_across,
+};
 use std::alloc::{AllocError, Global};
+use ticks::Tick;
 
 /// The most lanes.
 const LANES: usize = 60;
@@ -22,7 +25,7 @@ const LANES: usize = 60;
 pub fn push_lanes(alloc: Global, text: &mut String, run: &Run, all: &[Chosen]) -> Result<(), Memory>
     requires told { IsTold run.now }
     requires within { All (λ lane. lane.member < member_count run.now.scenario.now) all.now }
-    ensures { OnOk result (string_bytes text.new ≡ string_bytes text.old ++ lanes_text run.now.scenario.now run.now.tallies.now all.now) }
+    ensures { OnOk result (string_bytes text.new ≡ string_bytes text.old ++ lanes_text run.now.tick run.now.scenario.now run.now.tallies.now all.now) }
 {
     open_figure(
         text,
@@ -39,7 +42,7 @@ fn push_body(alloc: Global, text: &mut String, run: &Run, all: &[Chosen]) -> Res
     requires told { IsTold run.now }
     requires within { All (λ lane. lane.member < member_count run.now.scenario.now) all.now }
     ensures { OnOk result (string_bytes text.new ≡ string_bytes text.old
-        ++ (if nat_eq (length all.now) 0 then codes "<p>No member was suspected, crashed, left, was slow or was paused.</p>" else lanes_of run.now.scenario.now run.now.tallies.now all.now)) }
+        ++ (if nat_eq (length all.now) 0 then codes "<p>No member was suspected, crashed, left, was slow or was paused.</p>" else lanes_of run.now.tick run.now.scenario.now run.now.tallies.now all.now)) }
 {
     if all.is_empty() {
         text.push_str("<p>No member was suspected, crashed, left, was slow or was paused.</p>")?;
@@ -53,7 +56,7 @@ fn push_body(alloc: Global, text: &mut String, run: &Run, all: &[Chosen]) -> Res
 fn push_all(alloc: Global, text: &mut String, run: &Run, all: &[Chosen]) -> Result<(), Memory>
     requires told { IsTold run.now }
     requires within { All (λ lane. lane.member < member_count run.now.scenario.now) all.now }
-    ensures { OnOk result (string_bytes text.new ≡ string_bytes text.old ++ lanes_of run.now.scenario.now run.now.tallies.now all.now) }
+    ensures { OnOk result (string_bytes text.new ≡ string_bytes text.old ++ lanes_of run.now.tick run.now.scenario.now run.now.tallies.now all.now) }
 {
     push_words(text, run)?;
     push_each(alloc, text, run, first_lanes(all, LANES))?;
@@ -66,7 +69,7 @@ fn push_all(alloc: Global, text: &mut String, run: &Run, all: &[Chosen]) -> Resu
 fn push_each(alloc: Global, text: &mut String, run: &Run, lanes: &[Chosen]) -> Result<(), Memory>
     requires told { IsTold run.now }
     requires within { All (λ lane. lane.member < member_count run.now.scenario.now) lanes.now }
-    ensures { OnOk result (string_bytes text.new ≡ string_bytes text.old ++ flat_map (lane_at run.now.scenario.now run.now.tallies.now) lanes.now) }
+    ensures { OnOk result (string_bytes text.new ≡ string_bytes text.old ++ flat_map (lane_at run.now.tick run.now.scenario.now run.now.tallies.now) lanes.now) }
 {
     for lane in lanes {
         push_lane(alloc, text, run, MemberId(lane.member), lane.wrongly())?;
@@ -159,7 +162,7 @@ fn push_more(text: &mut String, more: u64) -> Result<(), AllocError>
 /// Appends the axis below the lanes.
 #[tactic(auto, unfolding(crate::specs::LaneTable::lane_axis))]
 fn push_axis(text: &mut String, run: &Run) -> Result<(), AllocError>
-    ensures { OnOk result (string_bytes text.new ≡ string_bytes text.old ++ lane_axis run.now.scenario.now) }
+    ensures { OnOk result (string_bytes text.new ≡ string_bytes text.old ++ lane_axis run.now.tick run.now.scenario.now) }
 {
     text.push_str("<div class=\"lane\">")?;
     push_time_axis(text, run)?;
@@ -169,9 +172,9 @@ fn push_axis(text: &mut String, run: &Run) -> Result<(), AllocError>
 
 /// Appends the axis of time.
 pub fn push_time_axis(text: &mut String, run: &Run) -> Result<(), AllocError>
-    ensures { OnOk result (string_bytes text.new ≡ string_bytes text.old ++ time_axis run.now.scenario.now) }
+    ensures { OnOk result (string_bytes text.new ≡ string_bytes text.old ++ time_axis run.now.tick run.now.scenario.now) }
 {
-    push_across(text, run.end().max(1), "moment, in ticks")
+    push_time_across(text, run.end().max(1), "moment, in ticks", run.tick)
 }
 
 /// Appends the lanes as a table: for each the spans in which something changes.
@@ -179,7 +182,7 @@ pub fn push_time_axis(text: &mut String, run: &Run) -> Result<(), AllocError>
 fn push_table(alloc: Global, text: &mut String, run: &Run, lanes: &[Chosen]) -> Result<(), Memory>
     requires told { IsTold run.now }
     requires within { All (λ lane. lane.member < member_count run.now.scenario.now) lanes.now }
-    ensures { OnOk result (string_bytes text.new ≡ string_bytes text.old ++ lane_table run.now.scenario.now run.now.tallies.now lanes.now) }
+    ensures { OnOk result (string_bytes text.new ≡ string_bytes text.old ++ lane_table run.now.tick run.now.scenario.now run.now.tallies.now lanes.now) }
 {
     text.push_str(
         "<details><summary>The lanes as a table</summary><div class=\"wide\"><table><tr><th>member<th>from moment<th>suspect it<th>have declared it dead</tr>\n",
@@ -199,7 +202,7 @@ fn push_each_rows(
     requires told { IsTold run.now }
     requires within { All (λ lane. lane.member < member_count run.now.scenario.now) lanes.now }
     ensures { OnOk result (string_bytes text.new ≡ string_bytes text.old
-        ++ flat_map (λ lane. member_rows run.now.scenario.now run.now.tallies.now lane.member) lanes.now) }
+        ++ flat_map (λ lane. member_rows run.now.tick run.now.scenario.now run.now.tallies.now lane.member) lanes.now) }
 {
     for lane in lanes {
         push_member(alloc, text, run, MemberId(lane.member))?;
@@ -211,12 +214,13 @@ fn push_each_rows(
 fn push_member(alloc: Global, text: &mut String, run: &Run, member: MemberId) -> Result<(), Memory>
     requires told { IsTold run.now }
     requires within { member < member_count run.now.scenario.now }
-    ensures { OnOk result (string_bytes text.new ≡ string_bytes text.old ++ member_rows run.now.scenario.now run.now.tallies.now member) }
+    ensures { OnOk result (string_bytes text.new ≡ string_bytes text.old ++ member_rows run.now.tick run.now.scenario.now run.now.tallies.now member) }
 {
     let suspected = run.held(alloc, member, 1)?;
     let dead = run.held(alloc, member, 2)?;
     push_spans(
         text,
+        run.tick,
         run.scenario.name(member),
         run.width(),
         run.spans(),
@@ -229,6 +233,7 @@ fn push_member(alloc: Global, text: &mut String, run: &Run, member: MemberId) ->
 /// Appends the rows of so many spans.
 fn push_spans(
     text: &mut String,
+    time: Option<Tick>,
     name: &str,
     width: u64,
     spans: usize,
@@ -239,10 +244,10 @@ fn push_spans(
     requires dead { spans ≤ length dead.now }
     requires small { width ≤ 2 ^ 40 }
     requires few { spans ≤ 120 }
-    ensures { OnOk result (string_bytes text.new ≡ string_bytes text.old ++ span_rows name.now width spans suspected.now dead.now) }
+    ensures { OnOk result (string_bytes text.new ≡ string_bytes text.old ++ span_rows time name.now width spans suspected.now dead.now) }
 {
     for span in 0..spans {
-        push_span(text, name, width, suspected, dead, span)?;
+        push_span(text, time, name, width, suspected, dead, span)?;
     }
     Ok(())
 }
@@ -250,6 +255,7 @@ fn push_spans(
 /// Appends the row of a span, where something changes in it.
 fn push_span(
     text: &mut String,
+    time: Option<Tick>,
     name: &str,
     width: u64,
     suspected: &[u64],
@@ -260,26 +266,37 @@ fn push_span(
     requires dead { span < length dead.now }
     requires small { width ≤ 2 ^ 40 }
     requires few { span < 120 }
-    ensures { OnOk result (string_bytes text.new ≡ string_bytes text.old ++ span_row name.now width suspected.now dead.now span) }
+    ensures { OnOk result (string_bytes text.new ≡ string_bytes text.old ++ span_row time name.now width suspected.now dead.now span) }
 {
     if suspected[span] == before(suspected, span) && dead[span] == before(dead, span) {
         return Ok(());
     }
-    push_row(text, name, span as u64 * width, suspected[span], dead[span])
+    push_row(
+        text,
+        time,
+        name,
+        span as u64 * width,
+        suspected[span],
+        dead[span],
+    )
 }
 
 /// Appends one row: how many suspect a member from a moment on, and how many have declared it dead.
 #[tactic(auto, unfolding(crate::specs::LaneTable::table_row))]
 fn push_row(
     text: &mut String,
+    time: Option<Tick>,
     name: &str,
     from: u64,
     suspected: u64,
     dead: u64,
 ) -> Result<(), AllocError>
-    ensures { OnOk result (string_bytes text.new ≡ string_bytes text.old ++ table_row name.now from suspected dead) }
+    ensures { OnOk result (string_bytes text.new ≡ string_bytes text.old ++ table_row time name.now from suspected dead) }
 {
     text.push_str("<tr><td>")?;
     push_escaped(text, name)?;
-    write!(text, "<td>{from}<td>{suspected}<td>{dead}")
+    write!(text, "<td>{from}")?;
+    push_lasting(text, time, from)?;
+    write!(text, "<td>{suspected}<td>{dead}")?;
+    Ok(())
 }

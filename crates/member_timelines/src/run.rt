@@ -13,6 +13,7 @@ use reports::Tallies;
 use scenario::Scenario;
 use series::{Line, Series, Story};
 use std::alloc::Global;
+use ticks::Tick;
 
 /// A run, as its page tells of it.
 #[derive(Clone, Copy)]
@@ -26,6 +27,8 @@ pub struct Run<'a> {
     pub series: &'a Series,
     /// What was tallied of them.
     pub tallies: &'a Tallies,
+    /// How long a tick lasts, where that is known.
+    pub tick: Option<Tick>,
 }
 
 impl<'a> Run<'a> {

@@ -10,10 +10,11 @@ use crate::lane::is_cut_of;
 use crate::run::Run;
 use crate::told::times_back;
 use base::{MemberId, Moment};
-use drawing::{close_figure, open_figure, push_escaped, push_grouped};
+use drawing::{close_figure, open_figure, push_escaped, push_grouped, push_timed};
 use scenario::Cut;
 use series::Line;
 use std::alloc::AllocError;
+use ticks::Tick;
 
 /// The most rows of the table.
 const ROWS: usize = 200;
@@ -22,7 +23,7 @@ const ROWS: usize = 200;
 pub fn push_thrown_out(text: &mut String, run: &Run, all: &[Chosen]) -> Result<(), AllocError>
     requires told { IsTold run.now }
     requires within { All (λ lane. lane.member < member_count run.now.scenario.now) all.now }
-    ensures { OnOk result (string_bytes text.new ≡ string_bytes text.old ++ thrown_out_text run.now.scenario.now run.now.tallies.now all.now) }
+    ensures { OnOk result (string_bytes text.new ≡ string_bytes text.old ++ thrown_out_text run.now.tick run.now.scenario.now run.now.tallies.now all.now) }
 {
     let out = count_out(all);
     if out == 0 {
@@ -43,7 +44,7 @@ fn count_out(all: &[Chosen]) -> usize
 fn push_figure(text: &mut String, run: &Run, lanes: &[Chosen]) -> Result<(), AllocError>
     requires told { IsTold run.now }
     requires within { All (λ lane. lane.member < member_count run.now.scenario.now) lanes.now }
-    ensures { OnOk result (string_bytes text.new ≡ string_bytes text.old ++ thrown_out_figure run.now.scenario.now run.now.tallies.now lanes.now) }
+    ensures { OnOk result (string_bytes text.new ≡ string_bytes text.old ++ thrown_out_figure run.now.tick run.now.scenario.now run.now.tallies.now lanes.now) }
 {
     open_figure(text, "false-deaths", "False deaths")?;
     push_head(text)?;
@@ -67,7 +68,7 @@ fn push_head(text: &mut String) -> Result<(), AllocError>
 fn push_rows(text: &mut String, run: &Run, lanes: &[Chosen]) -> Result<(), AllocError>
     requires told { IsTold run.now }
     requires within { All (λ lane. lane.member < member_count run.now.scenario.now) lanes.now }
-    ensures { OnOk result (string_bytes text.new ≡ string_bytes text.old ++ flat_map (row_of run.now.scenario.now run.now.tallies.now) lanes.now) }
+    ensures { OnOk result (string_bytes text.new ≡ string_bytes text.old ++ flat_map (row_of run.now.tick run.now.scenario.now run.now.tallies.now) lanes.now) }
 {
     for lane in lanes {
         push_row(text, run, MemberId(lane.member), lane.wrongly())?;
@@ -80,14 +81,14 @@ fn push_rows(text: &mut String, run: &Run, lanes: &[Chosen]) -> Result<(), Alloc
 fn push_row(text: &mut String, run: &Run, member: MemberId, times: u64) -> Result<(), AllocError>
     requires told { IsTold run.now }
     requires within { member < member_count run.now.scenario.now }
-    ensures { OnOk result (string_bytes text.new ≡ string_bytes text.old ++ row run.now.scenario.now run.now.tallies.now member times) }
+    ensures { OnOk result (string_bytes text.new ≡ string_bytes text.old ++ row run.now.tick run.now.scenario.now run.now.tallies.now member times) }
 {
     push_first_cells(text, run, member, run.first_confirm(member))?;
     push_cell(text, times)?;
     push_cell(text, times_back(run, member))?;
     push_condition(text, run, member, run.first_confirm(member))?;
     push_cell(text, run.story(member).fails())?;
-    push_refute(text, run.last_refute(member))?;
+    push_refute(text, run.tick, run.last_refute(member))?;
     text.push_str("\n")?;
     Ok(())
 }
@@ -102,7 +103,7 @@ fn push_first_cells(
 ) -> Result<(), AllocError>
     requires within { member < member_count run.now.scenario.now }
     requires named { IfSome first (λ line. line.member < member_count run.now.scenario.now) }
-    ensures { OnOk result (string_bytes text.new ≡ string_bytes text.old ++ first_cells run.now.scenario.now member first) }
+    ensures { OnOk result (string_bytes text.new ≡ string_bytes text.old ++ first_cells run.now.tick run.now.scenario.now member first) }
 {
     text.push_str("<tr><td>")?;
     push_escaped(text, run.scenario.name(member))?;
@@ -135,13 +136,13 @@ fn push_cell(text: &mut String, number: u64) -> Result<(), AllocError>
 #[tactic(auto, unfolding(crate::specs::ThrownOut::claim_cells))]
 fn push_claim(text: &mut String, run: &Run, claim: Option<Line>) -> Result<(), AllocError>
     requires { IfSome claim (λ line. line.member < member_count run.now.scenario.now) }
-    ensures { OnOk result (string_bytes text.new ≡ string_bytes text.old ++ claim_cells run.now.scenario.now claim) }
+    ensures { OnOk result (string_bytes text.new ≡ string_bytes text.old ++ claim_cells run.now.tick run.now.scenario.now claim) }
 {
     let Some(line) = claim else {
         return text.push_str("<td>-<td>-<td>-");
     };
     text.push_str("<td>")?;
-    push_grouped(text, line.at.ticks())?;
+    push_timed(text, run.tick, line.at.ticks())?;
     text.push_str("<td>")?;
     push_escaped(text, run.scenario.name(line.member))?;
     let number = line.number;
@@ -150,14 +151,14 @@ fn push_claim(text: &mut String, run: &Run, claim: Option<Line>) -> Result<(), A
 
 /// Appends when the member last refuted what was said of it.
 #[tactic(auto, unfolding(crate::specs::ThrownOut::refute_cells))]
-fn push_refute(text: &mut String, last: Option<Line>) -> Result<(), AllocError>
-    ensures { OnOk result (string_bytes text.new ≡ string_bytes text.old ++ refute_cells last) }
+fn push_refute(text: &mut String, time: Option<Tick>, last: Option<Line>) -> Result<(), AllocError>
+    ensures { OnOk result (string_bytes text.new ≡ string_bytes text.old ++ refute_cells time last) }
 {
     let Some(line) = last else {
         return text.push_str("<td>never<td>");
     };
     text.push_str("<td>")?;
-    push_grouped(text, line.at.ticks())?;
+    push_timed(text, time, line.at.ticks())?;
     let number = line.number;
     write!(text, "<td>{number}")
 }

@@ -13,9 +13,10 @@ ghost use Rattle.member_timelines.specs.Told.{story_words, times_back, out_words
 use crate::numbers::by_number;
 use crate::run::Run;
 use base::{MemberId, Moment};
-use drawing::push_grouped;
+use drawing::{push_grouped, push_timed};
 use series::Line;
 use std::alloc::AllocError;
+use ticks::Tick;
 
 /// Appends what happened to the member, which has so many false deaths.
 #[tactic(auto, unfolding(crate::specs::Told::story_words))]
@@ -27,12 +28,13 @@ pub(crate) fn push_told(
 ) -> Result<(), AllocError>
     requires told { IsTold run.now }
     requires within { member < member_count run.now.scenario.now }
-    ensures { OnOk result (string_bytes text.new ≡ string_bytes text.old ++ story_words run.now.scenario.now run.now.tallies.now member wrongly) }
+    ensures { OnOk result (string_bytes text.new ≡ string_bytes text.old ++ story_words run.now.tick run.now.scenario.now run.now.tallies.now member wrongly) }
 {
     let back = times_back(run, member);
-    push_out(text, wrongly, back, run.first_confirm(member))?;
+    push_out(text, run.tick, wrongly, back, run.first_confirm(member))?;
     push_departed(
         text,
+        run.tick,
         wrongly > 0,
         run.first_confirm(member),
         run.last_refute(member),
@@ -65,11 +67,17 @@ fn revived_in(run: &Run, member: MemberId, span: usize) -> u64
 }
 
 /// Appends the false deaths of a member, where it has some.
-fn push_out(text: &mut String, times: u64, back: u64, first: Option<Line>) -> Result<(), AllocError>
-    ensures { OnOk result (string_bytes text.new ≡ string_bytes text.old ++ out_words times back first) }
+fn push_out(
+    text: &mut String,
+    time: Option<Tick>,
+    times: u64,
+    back: u64,
+    first: Option<Line>,
+) -> Result<(), AllocError>
+    ensures { OnOk result (string_bytes text.new ≡ string_bytes text.old ++ out_words time times back first) }
 {
     if times > 0 {
-        return push_wrongly(text, times, back, first);
+        return push_wrongly(text, time, times, back, first);
     }
     Ok(())
 }
@@ -79,21 +87,22 @@ fn push_out(text: &mut String, times: u64, back: u64, first: Option<Line>) -> Re
 #[tactic(auto, unfolding(crate::specs::Told::departed_words))]
 fn push_departed(
     text: &mut String,
+    time: Option<Tick>,
     is_out: bool,
     first: Option<Line>,
     last: Option<Line>,
     crash: Option<Moment>,
     leave: Option<Moment>,
 ) -> Result<(), AllocError>
-    ensures { OnOk result (string_bytes text.new ≡ string_bytes text.old ++ departed_words is_out first last crash leave) }
+    ensures { OnOk result (string_bytes text.new ≡ string_bytes text.old ++ departed_words time is_out first last crash leave) }
 {
     if let Some(at) = crash {
-        push_departure(text, is_out, "crashed at ", at)?;
-        return push_found(text, first);
+        push_departure(text, time, is_out, "crashed at ", at)?;
+        return push_found(text, time, first);
     }
     if let Some(at) = leave {
-        push_departure(text, is_out, "left at ", at)?;
-        return push_found(text, first);
+        push_departure(text, time, is_out, "left at ", at)?;
+        return push_found(text, time, first);
     }
     if is_out {
         return Ok(());
@@ -106,14 +115,15 @@ fn push_departed(
 #[tactic(auto, unfolding(crate::specs::Told::wrongly_words))]
 fn push_wrongly(
     text: &mut String,
+    time: Option<Tick>,
     times: u64,
     back: u64,
     first: Option<Line>,
 ) -> Result<(), AllocError>
-    ensures { OnOk result (string_bytes text.new ≡ string_bytes text.old ++ wrongly_words times back first) }
+    ensures { OnOk result (string_bytes text.new ≡ string_bytes text.old ++ wrongly_words time times back first) }
 {
     push_deaths(text, times)?;
-    push_first(text, first)?;
+    push_first(text, time, first)?;
     push_back(text, back)
 }
 
@@ -129,13 +139,13 @@ fn push_deaths(text: &mut String, times: u64) -> Result<(), AllocError>
 }
 
 /// Appends when the member was first declared dead, where it was.
-fn push_first(text: &mut String, first: Option<Line>) -> Result<(), AllocError>
-    ensures { OnOk result (string_bytes text.new ≡ string_bytes text.old ++ from_first (codes ", first at ") first) }
+fn push_first(text: &mut String, time: Option<Tick>, first: Option<Line>) -> Result<(), AllocError>
+    ensures { OnOk result (string_bytes text.new ≡ string_bytes text.old ++ from_first time (codes ", first at ") first) }
 {
     match first {
         Some(line) => {
             text.push_str(", first at ")?;
-            push_grouped(text, line.at.ticks())
+            push_timed(text, time, line.at.ticks())
         }
         None => Ok(()),
     }
@@ -166,36 +176,37 @@ fn push_times_back(text: &mut String, times: u64) -> Result<(), AllocError>
 #[tactic(auto, unfolding(crate::specs::Told::departure_words))]
 fn push_departure(
     text: &mut String,
+    time: Option<Tick>,
     is_more: bool,
     words: &str,
     at: Moment,
 ) -> Result<(), AllocError>
-    ensures { OnOk result (string_bytes text.new ≡ string_bytes text.old ++ departure_words is_more words.now at) }
+    ensures { OnOk result (string_bytes text.new ≡ string_bytes text.old ++ departure_words time is_more words.now at) }
 {
     if is_more {
         text.push_str("; ")?;
     }
     text.push_str(words)?;
-    push_grouped(text, at.ticks())
+    push_timed(text, time, at.ticks())
 }
 
 /// Appends when others first declared a member dead that crashed or left.
-fn push_found(text: &mut String, first: Option<Line>) -> Result<(), AllocError>
-    ensures { OnOk result (string_bytes text.new ≡ string_bytes text.old ++ found_words first) }
+fn push_found(text: &mut String, time: Option<Tick>, first: Option<Line>) -> Result<(), AllocError>
+    ensures { OnOk result (string_bytes text.new ≡ string_bytes text.old ++ found_words time first) }
 {
     match first {
-        Some(line) => push_found_at(text, line.at.ticks()),
+        Some(line) => push_found_at(text, time, line.at.ticks()),
         None => text.push_str(", never declared dead"),
     }
 }
 
 /// Appends that others first declared it dead then.
 #[tactic(auto, unfolding(crate::specs::Told::found_at))]
-fn push_found_at(text: &mut String, at: u64) -> Result<(), AllocError>
-    ensures { OnOk result (string_bytes text.new ≡ string_bytes text.old ++ found_at at) }
+fn push_found_at(text: &mut String, time: Option<Tick>, at: u64) -> Result<(), AllocError>
+    ensures { OnOk result (string_bytes text.new ≡ string_bytes text.old ++ found_at time at) }
 {
     text.push_str(", first declared dead at ")?;
-    push_grouped(text, at)?;
+    push_timed(text, time, at)?;
     Ok(())
 }
 

@@ -19,6 +19,7 @@ use Rattle.run_output.proofs.Runs.{writes_nothing}
 use Rattle.page_runs.specs.Pages.{BeginsPage, WritesPage}
 use Rattle.page_runs.specs.Promise.{KeepsPagePromise}
 use Rattle.page_runs.specs.Told.{TellsRun, rows_told}
+use Rattle.ticks.specs.declared.tick.Tick.{Tick}
 use Rattle.page_runs.specs.declared.told.RunTold.{RunTold}
 
 module _ {A B : Type 0} (held : A → Option (List ℕ)) (failed : A → ℕ) (held_report : B → Option (List ℕ)) (failed_report : B → ℕ) (s : Setup) where
@@ -29,11 +30,11 @@ module _ {A B : Type 0} (held : A → Option (List ℕ)) (failed : A → ℕ) (h
       (writes_nothing s (held trace) (held_report report) sound) (λ _. refl) (λ is. absurd (memory≢write is)) (λ _. refl)
 
 module _ {A B C : Type 0} (held : A → Option (List ℕ)) (failed : A → ℕ) (held_report : B → Option (List ℕ)) (failed_report : B → ℕ)
-    (held_page : C → Option (List ℕ)) (failed_page : C → ℕ) (name release : List ℕ) (s : Setup) (trace_old trace_new : A) (report_old report_new : B) where
+    (held_page : C → Option (List ℕ)) (failed_page : C → ℕ) (time : Option Tick) (name release : List ℕ) (s : Setup) (trace_old trace_new : A) (report_old report_new : B) where
   -- it broke off before its page
   pub unpaged : (page : C) (outcome : Result RunTold Fault) (fault : Fault) → outcome ≡ Err fault
       → KeepsPromise held failed held_report failed_report s trace_old trace_new report_old report_new (summed (rows_told outcome))
-      → KeepsPagePromise held failed held_report failed_report held_page failed_page name release s trace_old trace_new report_old report_new page page (Err fault)
+      → KeepsPagePromise held failed held_report failed_report held_page failed_page time name release s trace_old trace_new report_old report_new page page (Err fault)
   unpaged page outcome fault is promise = record {
     written = tt;
     beginning = record { rows = kept.beginning.rows; run = kept.beginning.run; written = begun kept.beginning.written };
@@ -65,7 +66,7 @@ module _ {A B C : Type 0} (held : A → Option (List ℕ)) (failed : A → ℕ) 
           ⊎ ((Appends (held trace_old) (held trace_new) (trace_text s rows) × AppendsBeginning (held_report report_old) (held_report report_new) (report_text s rows)
           × Keeps (held_page page) (held_page page))
           ⊎ (Appends (held trace_old) (held trace_new) (trace_text s rows) × Appends (held_report report_old) (held_report report_new) (report_text s rows)
-          × BeginsPage name release s rows (held_page page) (held_page page)))
+          × BeginsPage time name release s rows (held_page page) (held_page page)))
       begun (inl part) = inl (part.0, part.1, Keeps-same (held_page page))
       begun (inr part) = inr (inl (part.0, part.1, Keeps-same (held_page page)))
 
@@ -94,11 +95,11 @@ module _ {A B C : Type 0} (held : A → Option (List ℕ)) (failed : A → ℕ) 
     none_failed (inr less) = let whole = kept.whole_report in absurd (omega (arith, whole, less))
 
     pub paged : (result : Result Summary Fault) → IfOk result (λ summary. summary.rows ≡ length told.tallies)
-        → OnOk result (WritesPage name release s told.tallies (held_page page_old) (held_page page_new))
-        → OnErr result (BeginsPage name release s told.tallies (held_page page_old) (held_page page_new))
+        → OnOk result (WritesPage time name release s told.tallies (held_page page_old) (held_page page_new))
+        → OnErr result (BeginsPage time name release s told.tallies (held_page page_old) (held_page page_new))
         → OnOk result (failed_page page_new ≡ failed_page page_old) → (IsErrOf result Write → failed_page page_old < failed_page page_new)
         → IfErr result (λ cause. cause ≢ Write → failed_page page_new ≡ failed_page page_old)
-        → KeepsPagePromise held failed held_report failed_report held_page failed_page name release s trace_old trace_new report_old report_new page_old page_new result
+        → KeepsPagePromise held failed held_report failed_report held_page failed_page time name release s trace_old trace_new report_old report_new page_old page_new result
     paged (Ok summary) counted whole part unfailed write others = record {
       written = record { rows = told.tallies; run = tells.run; counted = counted; trace = traced; report = reported; page = whole };
       beginning = tt;

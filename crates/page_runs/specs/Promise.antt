@@ -5,16 +5,17 @@ use Rattle.base.specs.declared.fault.Fault.TheVariants as fault
 use Rattle.scenario.specs.Setup.{Setup}
 use Rattle.member_laws.specs.Runs.{CounterOverflows}
 use Rattle.run_output.specs.declared.summary.Summary.{Summary}
+use Rattle.ticks.specs.declared.tick.Tick.{Tick}
 use Rattle.page_runs.specs.Pages.{WritesRunAndPage, BeginsRunAndPage}
 
 -- What every run of the scenario keeps that writes a page of this name by this release. Its three sinks hold bytes, and count their failures.
 pub record KeepsPagePromise {A B C : Type 0} (held : A → Option (List ℕ)) (failed : A → ℕ) (held_report : B → Option (List ℕ)) (failed_report : B → ℕ)
-    (held_page : C → Option (List ℕ)) (failed_page : C → ℕ) (name release : List ℕ) (s : Setup)
+    (held_page : C → Option (List ℕ)) (failed_page : C → ℕ) (time : Option Tick) (name release : List ℕ) (s : Setup)
     (trace_old trace_new : A) (report_old report_new : B) (page_old page_new : C) (result : Result Summary Fault) : Type 0 where
   -- the sinks get exactly the trace of the scenario's run, the report on it and its page; after a fault a beginning of that
-  pub written : IfOk result (λ summary. WritesRunAndPage name release s (held trace_old) (held trace_new) (held_report report_old) (held_report report_new)
+  pub written : IfOk result (λ summary. WritesRunAndPage time name release s (held trace_old) (held trace_new) (held_report report_old) (held_report report_new)
       (held_page page_old) (held_page page_new) summary.rows)
-  pub beginning : OnErr result (BeginsRunAndPage name release s (held trace_old) (held trace_new) (held_report report_old) (held_report report_new)
+  pub beginning : OnErr result (BeginsRunAndPage time name release s (held trace_old) (held trace_new) (held_report report_old) (held_report report_new)
       (held_page page_old) (held_page page_new))
   -- where the trace's sink fails, at its flush too, the others are left as they were, and the page's where the report's does
   pub first : failed trace_old < failed trace_new → report_new ≡ report_old

@@ -46,7 +46,7 @@ pub fn run_with_page<A: Sink, B: Sink, C: Sink, W: Write, R: Threads + Wait + Sy
     requires countable_page { C.failed page.old < 2 ^ 63 }
 
     // The sinks get exactly the trace of the scenario's run, the report on it and its page; after a fault a beginning of that.
-    ensures promise { KeepsPagePromise A.held A.failed B.held B.failed C.held C.failed shown.now.name.now shown.now.release.now scenario.now
+    ensures promise { KeepsPagePromise A.held A.failed B.held B.failed C.held C.failed shown.now.tick shown.now.name.now shown.now.release.now scenario.now
         trace result.0 report.old report.new page.old page.new result.1 }
 
     // No count of its report passes 2^63, and no fault comes without its cause.

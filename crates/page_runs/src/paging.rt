@@ -11,6 +11,7 @@ use run_output::Summary;
 use run_page::{Run, page};
 use scenario::Scenario;
 use std::alloc::Global;
+use ticks::Tick;
 use trace::{Sink, Stopped, put_all};
 
 /// What the page of a run tells beside what happened.
@@ -20,6 +21,8 @@ pub struct RunShown<'a> {
     pub name: &'a str,
     /// The release of the program that runs it.
     pub release: &'a str,
+    /// How long a tick lasts, where that is known.
+    pub tick: Option<Tick>,
 }
 
 /// Writes the page of a run, flushes its sink, and sums the run up.
@@ -35,8 +38,8 @@ pub(crate) fn write_page<C: Sink>(
     requires told { TellsRun scenario.now told.now }
     requires countable { C.failed out.old < 2 ^ 63 }
     ensures rows { IfOk result (λ summary. summary.rows ≡ length told.now.tallies) }
-    ensures whole { OnOk result (WritesPage shown.now.name.now shown.now.release.now scenario.now told.now.tallies (C.held out.old) (C.held out.new)) }
-    ensures part { OnErr result (BeginsPage shown.now.name.now shown.now.release.now scenario.now told.now.tallies (C.held out.old) (C.held out.new)) }
+    ensures whole { OnOk result (WritesPage shown.now.tick shown.now.name.now shown.now.release.now scenario.now told.now.tallies (C.held out.old) (C.held out.new)) }
+    ensures part { OnErr result (BeginsPage shown.now.tick shown.now.name.now shown.now.release.now scenario.now told.now.tallies (C.held out.old) (C.held out.new)) }
     ensures unfailed { OnOk result (C.failed out.new ≡ C.failed out.old) }
     ensures write { IsErrOf result Fault.Write → C.failed out.old < C.failed out.new }
     ensures others { IfErr result (λ cause. cause ≢ Fault.Write → C.failed out.new ≡ C.failed out.old) }
@@ -70,7 +73,7 @@ fn page_of(
     told: &RunTold,
 ) -> Result<String, Memory>
     requires told { TellsRun scenario.now told.now }
-    ensures { IfOk result (λ text. IsPageOf shown.now.name.now scenario.now told.now.tallies shown.now.release.now (string_bytes text)) }
+    ensures { IfOk result (λ text. IsPageOf shown.now.tick shown.now.name.now scenario.now told.now.tallies shown.now.release.now (string_bytes text)) }
 {
     let run = Run {
         name: shown.name,
@@ -78,6 +81,7 @@ fn page_of(
         scenario,
         series: &told.gathered.series,
         tallies: &told.tallies,
+        tick: shown.tick,
     };
     page(alloc, &run)
 }

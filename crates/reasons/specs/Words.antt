@@ -20,9 +20,10 @@ option_of fault.Shard = codes "--shard"
 option_of fault.Seeds = codes "--seeds"
 option_of fault.SeedsOrder = codes "--seeds"
 option_of fault.SeedsMany = codes "--seeds"
-option_of fault.Setting = codes "--set"
+option_of fault.Swept = codes "--set"
 option_of fault.KeyTwice = codes "--set"
 option_of fault.Want = codes "--want"
+option_of fault.Tick = codes "--tick"
 
 -- what is wrong with it, and what to write
 abbrev pub advice_of : WordFault → List ℕ
@@ -35,15 +36,16 @@ advice_of fault.Shard = codes "write I/N, where N is at most 10000 and I is from
 advice_of fault.Seeds = codes "write A..B, two whole numbers with two dots between them"
 advice_of fault.SeedsOrder = codes "the first is after the last"
 advice_of fault.SeedsMany = codes "a sweep has at most 1000000 runs"
-advice_of fault.Setting = codes "write KEY=V1,V2,.. as swim.period=200,300"
+advice_of fault.Swept = codes "write KEY=V1,V2,.. as swim.period=200,300"
 advice_of fault.KeyTwice = codes "the key is set twice; write all its values behind one --set"
 advice_of fault.Want = codes "write 'STATISTIC<=N', as 'out<=0.01', with at most six digits behind the point"
+advice_of fault.Tick = codes "write a whole number and us, ms or s, from 1us to 1s, as 1ms"
 
 -- what is wrong with options that don't go together
 abbrev pub clash_text : Clash → List ℕ
 clash_text clash.PartsAndDivision = codes "--parts and --division exclude each other"
 clash_text clash.ResumeAlone = codes "--resume needs --shard I/N; 1/1 is the whole sweep"
-clash_text clash.PieceTelling = codes "--shard makes a piece, which has no --page and no --jsonl; join makes them of all pieces"
+clash_text clash.ShardTelling = codes "--shard makes one shard, which has no --page and no --jsonl; join makes them of all shards"
 clash_text clash.NameAlone = codes "--name needs --page P"
 
 -- an option and its word

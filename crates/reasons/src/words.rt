@@ -15,7 +15,7 @@ pub enum Clash {
     /// `--resume` without `--shard`.
     ResumeAlone,
     /// `--page` or `--jsonl` with `--shard`.
-    PieceTelling,
+    ShardTelling,
     /// `--name` without `--page`.
     NameAlone,
 }
@@ -33,7 +33,7 @@ pub enum WordFault {
     ListLength,
     /// The word of `--until` isn't 1 to 100.
     Until,
-    /// The word of `--shard` is no piece, as 3/8.
+    /// The word of `--shard` is no shard, as 3/8.
     Shard,
     /// The word of `--seeds` is no range, as 1..200.
     Seeds,
@@ -42,11 +42,13 @@ pub enum WordFault {
     /// The range of `--seeds` has more seeds than a sweep has runs.
     SeedsMany,
     /// A word of `--set` is no key with values, as swim.period=200,300.
-    Setting,
+    Swept,
     /// A word of `--set` sets a key that an earlier one sets.
     KeyTwice,
     /// A word of `--want` is no statistic with a bound, as out<=0.01.
     Want,
+    /// The word of `--tick` is no length from 1us to 1s, as 1ms.
+    Tick,
 }
 
 /// What is wrong with the words of a command line.
@@ -97,8 +99,9 @@ fn option_of(fault: WordFault) -> &'static str
         WordFault::Until => "--until",
         WordFault::Shard => "--shard",
         WordFault::Seeds | WordFault::SeedsOrder | WordFault::SeedsMany => "--seeds",
-        WordFault::Setting | WordFault::KeyTwice => "--set",
+        WordFault::Swept | WordFault::KeyTwice => "--set",
         WordFault::Want => "--want",
+        WordFault::Tick => "--tick",
     }
 }
 
@@ -115,10 +118,11 @@ fn advice_of(fault: WordFault) -> &'static str
         WordFault::Seeds => "write A..B, two whole numbers with two dots between them",
         WordFault::SeedsOrder => "the first is after the last",
         WordFault::SeedsMany => "a sweep has at most 1000000 runs",
-        WordFault::Setting => "write KEY=V1,V2,.. as swim.period=200,300",
+        WordFault::Swept => "write KEY=V1,V2,.. as swim.period=200,300",
         WordFault::KeyTwice => "the key is set twice; write all its values behind one --set",
         WordFault::Want =>
             "write 'STATISTIC<=N', as 'out<=0.01', with at most six digits behind the point",
+        WordFault::Tick => "write a whole number and us, ms or s, from 1us to 1s, as 1ms",
     }
 }
 
@@ -129,8 +133,8 @@ fn clash_text(clash: Clash) -> &'static str
     match clash {
         Clash::PartsAndDivision => "--parts and --division exclude each other",
         Clash::ResumeAlone => "--resume needs --shard I/N; 1/1 is the whole sweep",
-        Clash::PieceTelling =>
-            "--shard makes a piece, which has no --page and no --jsonl; join makes them of all pieces",
+        Clash::ShardTelling =>
+            "--shard makes one shard, which has no --page and no --jsonl; join makes them of all shards",
         Clash::NameAlone => "--name needs --page P",
     }
 }

@@ -17,7 +17,7 @@ use Rattle.command_line.specs.declared.failure.Failure.TheVariants.{Usage, Prese
 -- what follows from either way in which what the words ask for isn't stored, without a page and with one
 either_way : {P : Type 0} (EndsBy : Fault → Type 0) (s : Setup) (release : List ℕ) (before after : Shelf) (making : Making) (run : RunWords) (failure : Failure)
     (asked : Option (Bor Text)) → (StoreFails EndsBy s before after making run.file.now run.trace.now (word_given run.report) failure → P)
-    → ((page : Text) → PagedFails EndsBy s release before after making run.file.now run.trace.now (word_given run.report) page failure → P)
+    → ((page : Text) → PagedFails EndsBy s run.tick release before after making run.file.now run.trace.now (word_given run.report) page failure → P)
     → FailsAsked asked EndsBy s release before after making run failure → P
 either_way EndsBy s release before after making run failure None plain paged fails = plain fails
 either_way EndsBy s release before after making run failure (Some page) plain paged fails = paged page.now fails

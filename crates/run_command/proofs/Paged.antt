@@ -16,19 +16,20 @@ use Rattle.page_runs.specs.Pages.{BeginsPage, BeginsRunAndPage, IsPageOf, Writes
 use Rattle.scenario_files.specs.Shelves.{Shelf, HoldsBeginning}
 use Rattle.scenario_files.proofs.Held.{holds_text}
 use Rattle.scenario_files.proofs.Pairs.{apart_too, known_or}
+use Rattle.ticks.specs.declared.tick.Tick.{Tick}
 use Rattle.run_command.specs.Outcomes.{BeginsReport, BreaksOffPaged, HoldsReport, KeepsAllRest, StoresPaged}
 
 -- ---- what is stored, where each file holds what was appended whole to its writer
 
-module _ (s : Setup) (name release : List ℕ) (start end : Shelf) (trace : Text) (report : Option Text) (page : Text)
+module _ (s : Setup) (time : Option Tick) (name release : List ℕ) (start end : Shelf) (trace : Text) (report : Option Text) (page : Text)
     (old new report_old report_new page_old page_new : Option (List ℕ))
     (trace_holds : (text : List ℕ) → Appends old new text → HoldsNow (start trace) (end trace) text)
     (report_holds : (text : List ℕ) → Appends report_old report_new text → HoldsReport start end report text)
     (page_holds : (text : List ℕ) → Appends page_old page_new text → HoldsNow (start page) (end page) text)
     (others : KeepsAllRest start end trace report page) where
   -- the run was done
-  pub paged_stored : (count : ℕ) → WritesRunAndPage name release s old new report_old report_new page_old page_new count
-      → StoresPaged s name release start end trace report page count
+  pub paged_stored : (count : ℕ) → WritesRunAndPage time name release s old new report_old report_new page_old page_new count
+      → StoresPaged s time name release start end trace report page count
   paged_stored count writes = record {
     rows = writes.rows;
     run = writes.run;
@@ -63,8 +64,8 @@ module _ (s : Setup) (name release : List ℕ) (start end : Shelf) (trace : Text
       go (Some other) held = record { front = text; rest = []; whole = append-nil text; written = held }
 
   -- it broke off
-  pub paged_begun : (EndsBy : Fault → Type 0) (cause : Fault) → EndsBy cause → BeginsRunAndPage name release s old new report_old report_new page_old page_new
-      → (cause ≡ fault.CounterOverflow → CounterOverflows s ⊎ ReportOverflows s) → BreaksOffPaged EndsBy s name release start end trace report page cause
+  pub paged_begun : (EndsBy : Fault → Type 0) (cause : Fault) → EndsBy cause → BeginsRunAndPage time name release s old new report_old report_new page_old page_new
+      → (cause ≡ fault.CounterOverflow → CounterOverflows s ⊎ ReportOverflows s) → BreaksOffPaged EndsBy s time name release start end trace report page cause
   paged_begun EndsBy cause may begins overflow = record { rows = begins.rows; run = begins.run; written = by begins.written; others = others; may = may; overflow = overflow }
     where
       traced : List ℕ
@@ -77,18 +78,18 @@ module _ (s : Setup) (name release : List ℕ) (start end : Shelf) (trace : Text
       Stored = (HoldsBeginning (start trace) (end trace) traced × HoldsReport start end report [] × HoldsNow (start page) (end page) [])
           ⊎ ((HoldsNow (start trace) (end trace) traced × BeginsReport start end report reported × HoldsNow (start page) (end page) [])
           ⊎ (HoldsNow (start trace) (end trace) traced × HoldsReport start end report reported
-          × ((text : List ℕ) × IsPageOf name s begins.rows release text × HoldsBeginning (start page) (end page) text)))
+          × ((text : List ℕ) × IsPageOf time name s begins.rows release text × HoldsBeginning (start page) (end page) text)))
 
       page_empty : Keeps page_old page_new → HoldsNow (start page) (end page) []
       page_empty kept = page_holds [] (Appends-none page_old page_new kept)
 
-      in_page : Appends old new traced → Appends report_old report_new reported → BeginsPage name release s begins.rows page_old page_new → Stored
+      in_page : Appends old new traced → Appends report_old report_new reported → BeginsPage time name release s begins.rows page_old page_new → Stored
       in_page whole told (inl kept) = inr (inl (trace_holds traced whole, report_whole reported (report_holds reported told), page_empty kept))
       in_page whole told (inr begun) = inr (inr (trace_holds traced whole, report_holds reported told, (begun.0, begun.1, page_begins begun.0 begun.2)))
 
       by : (AppendsBeginning old new traced × Keeps report_old report_new × Keeps page_old page_new)
           ⊎ ((Appends old new traced × AppendsBeginning report_old report_new reported × Keeps page_old page_new)
-          ⊎ (Appends old new traced × Appends report_old report_new reported × BeginsPage name release s begins.rows page_old page_new)) → Stored
+          ⊎ (Appends old new traced × Appends report_old report_new reported × BeginsPage time name release s begins.rows page_old page_new)) → Stored
       by (inl part) = inl (trace_begins traced part.0, report_holds [] (Appends-none report_old report_new part.1), page_empty part.2)
       by (inr (inl part)) = inr (inl (trace_holds traced part.0, report_begins reported part.1, page_empty part.2))
       by (inr (inr part)) = in_page part.0 part.1 part.2

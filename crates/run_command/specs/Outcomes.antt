@@ -13,6 +13,7 @@ use Rattle.run_output.specs.Promise.{ReportOverflows}
 use Rattle.page_runs.specs.Pages.{IsPageOf}
 use Rattle.clap.specs.Words.{Text}
 use Rattle.files.specs.Files.{Making, HoldsNow, CannotMake, CannotMakeSecond, CannotMakeThird, AreThreeFiles, AreFourFiles}
+use Rattle.ticks.specs.declared.tick.Tick.{Tick}
 use Rattle.command_line.specs.Words.{AsksForRun}
 use Rattle.command_line.specs.declared.words.RunWords.{RunWords}
 use Rattle.command_line.specs.declared.failure.Failure.{Failure}
@@ -54,15 +55,15 @@ abbrev pub KeepsAllRest : Shelf → Shelf → Text → Option Text → Text → 
 KeepsAllRest before after trace report page = (other : Text) → other ≢ trace → report ≢ Some other → other ≢ page → after other ≡ before other
 
 -- the files hold the trace of the scenario's run, which has so many rows, the report on it where one is asked for, and its page under
--- this name by this release, all three of the same rows; no other file has changed
-pub record StoresPaged (s : Setup) (name release : List ℕ) (before after : Shelf) (trace : Text) (report : Option Text) (page : Text) (count : ℕ) : Type 0 where
+-- this name by this release, with its times told by how long a tick lasts where that is known, all three of the same rows; no other file has changed
+pub record StoresPaged (s : Setup) (time : Option Tick) (name release : List ℕ) (before after : Shelf) (trace : Text) (report : Option Text) (page : Text) (count : ℕ) : Type 0 where
   pub rows : List Row
   pub run : IsRunOf s rows
   pub counted : count ≡ length rows
   pub traced : HoldsNow (before trace) (after trace) (trace_text s rows)
   pub reported : HoldsReport before after report (report_text s rows)
   pub text : List ℕ
-  pub is : IsPageOf name s rows release text
+  pub is : IsPageOf time name s rows release text
   pub paged : HoldsNow (before page) (after page) text
   pub others : KeepsAllRest before after trace report page
 
@@ -74,7 +75,7 @@ DifferentPaged making file trace (Some report) page = AreFourFiles making file t
 -- what the words ask for was stored, with a page where one is asked for; that bears the name of the scenario's file
 abbrev pub StoresAsked : Option (Bor Text) → Setup → List ℕ → Shelf → Shelf → RunWords → ℕ → Type 0
 StoresAsked None s release before after run count = StoresRun s before after run.trace.now (word_given run.report) count
-StoresAsked (Some page) s release before after run count = StoresPaged s run.file.now release before after run.trace.now (word_given run.report) page.now count
+StoresAsked (Some page) s release before after run count = StoresPaged s run.tick run.file.now release before after run.trace.now (word_given run.report) page.now count
 
 -- the files that the words name are different ones
 abbrev pub AreApart : Option (Bor Text) → Making → RunWords → Type 0
@@ -131,14 +132,14 @@ StoreFails EndsBy s before after making file trace report _ = ⊥
 
 -- The scenario's run was ended by the fault, which is one by which it may end: in its trace, when the report and the page are still
 -- empty; in the report, when the trace is whole and the page empty; or in the page, when both are whole. No other file has changed.
-pub record BreaksOffPaged (EndsBy : Fault → Type 0) (s : Setup) (name release : List ℕ) (before after : Shelf) (trace : Text) (report : Option Text) (page : Text)
+pub record BreaksOffPaged (EndsBy : Fault → Type 0) (s : Setup) (time : Option Tick) (name release : List ℕ) (before after : Shelf) (trace : Text) (report : Option Text) (page : Text)
     (cause : Fault) : Type 0 where
   pub rows : List Row
   pub run : IsRunOf s rows
   pub written : (HoldsBeginning (before trace) (after trace) (trace_text s rows) × HoldsReport before after report [] × HoldsNow (before page) (after page) [])
       ⊎ ((HoldsNow (before trace) (after trace) (trace_text s rows) × BeginsReport before after report (report_text s rows) × HoldsNow (before page) (after page) [])
       ⊎ (HoldsNow (before trace) (after trace) (trace_text s rows) × HoldsReport before after report (report_text s rows)
-      × ((text : List ℕ) × IsPageOf name s rows release text × HoldsBeginning (before page) (after page) text)))
+      × ((text : List ℕ) × IsPageOf time name s rows release text × HoldsBeginning (before page) (after page) text)))
   pub others : KeepsAllRest before after trace report page
   pub may : EndsBy cause
   pub overflow : cause ≡ fault.CounterOverflow → CounterOverflows s ⊎ ReportOverflows s
@@ -149,20 +150,20 @@ CannotMakePage making file trace None page = CannotMakeSecond making file trace 
 CannotMakePage making file trace (Some report) page = CannotMakeThird making file trace report page
 
 -- The same as of a run without a page, where the file that can't be made may be the page's too.
-abbrev pub PagedFails : (Fault → Type 0) → Setup → List ℕ → Shelf → Shelf → Making → Text → Text → Option Text → Text → Failure → Type 0
-PagedFails EndsBy s release before after making file trace report page (File name) =
+abbrev pub PagedFails : (Fault → Type 0) → Setup → Option Tick → List ℕ → Shelf → Shelf → Making → Text → Text → Option Text → Text → Failure → Type 0
+PagedFails EndsBy s time release before after making file trace report page (File name) =
     (IsUnmade making file trace report name.now ⊎ ((name.now ≡ page) × CannotMakePage making file trace report page)) × (after ≡ before)
-PagedFails EndsBy s release before after making file trace report page Memory = after ≡ before
-PagedFails EndsBy s release before after making file trace report page (Run cause) =
-    DifferentPaged making file trace report page × BreaksOffPaged EndsBy s file release before after trace report page cause
-PagedFails EndsBy s release before after making file trace report page _ = ⊥
+PagedFails EndsBy s time release before after making file trace report page Memory = after ≡ before
+PagedFails EndsBy s time release before after making file trace report page (Run cause) =
+    DifferentPaged making file trace report page × BreaksOffPaged EndsBy s time file release before after trace report page cause
+PagedFails EndsBy s time release before after making file trace report page _ = ⊥
 
 -- what the words ask for was not stored, with a page where one is asked for
 abbrev pub FailsAsked : Option (Bor Text) → (Fault → Type 0) → Setup → List ℕ → Shelf → Shelf → Making → RunWords → Failure → Type 0
 FailsAsked None EndsBy s release before after making run failure =
     StoreFails EndsBy s before after making run.file.now run.trace.now (word_given run.report) failure
 FailsAsked (Some page) EndsBy s release before after making run failure =
-    PagedFails EndsBy s release before after making run.file.now run.trace.now (word_given run.report) page.now failure
+    PagedFails EndsBy s run.tick release before after making run.file.now run.trace.now (word_given run.report) page.now failure
 
 -- all checks passed, but what the words ask for was not stored whole
 pub record FailsToStore (EndsBy : Setup → ℕ → Fault → Type 0) (release : List ℕ) (before after : Shelf) (making : Making) (run : RunWords) (failure : Failure) : Type 0 where

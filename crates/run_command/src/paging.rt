@@ -29,18 +29,19 @@ pub(crate) fn store_paged<'a, M: Simulator, F: Files, P: Write>(
 ) -> Result<Summary, Failure<'a>>
     requires ready { M.ready }
     requires divided { length prepared.now.division.part_of ≡ member_count prepared.now.scenario }
-    ensures done { IfOk result (λ summary. StoresPaged prepared.now.scenario words.entry.file.now release.now.version.now (F.known files.old) (F.known files.new)
+    ensures done { IfOk result (λ summary. StoresPaged prepared.now.scenario words.entry.tick words.entry.file.now release.now.version.now (F.known files.old) (F.known files.new)
         words.entry.trace.now (word_given words.entry.report) page.entry.now summary.rows) }
     ensures apart { OnOk result (DifferentPaged (F.making files.old) words.entry.file.now words.entry.trace.now (word_given words.entry.report) page.entry.now) }
     ensures whole { OnOk result (F.refused files.new ≡ F.refused files.old) }
     ensures failed { IfErr result (PagedFails
         (EndsWithCause (F.refused files.old < F.refused files.new) (M.ends_by prepared.now.scenario prepared.now.workers))
-        prepared.now.scenario release.now.version.now
+        prepared.now.scenario words.entry.tick release.now.version.now
         (F.known files.old) (F.known files.new) (F.making files.old) words.entry.file.now words.entry.trace.now (word_given words.entry.report) page.entry.now) }
 {
     let shown = RunShown {
         name: words.file,
         release: release.version,
+        tick: words.tick,
     };
     match words.report {
         Some(report) => store_three(
@@ -66,13 +67,13 @@ fn store_two<'a, M: Simulator, F: Files, P: Write>(
     requires ready { M.ready }
     requires divided { length prepared.now.division.part_of ≡ member_count prepared.now.scenario }
     requires named { shown.now.name.now ≡ words.file.now }
-    ensures done { IfOk result (λ summary. StoresPaged prepared.now.scenario words.entry.file.now shown.now.release.now (F.known files.old) (F.known files.new)
+    ensures done { IfOk result (λ summary. StoresPaged prepared.now.scenario shown.now.tick words.entry.file.now shown.now.release.now (F.known files.old) (F.known files.new)
         words.entry.trace.now None page.entry.now summary.rows) }
     ensures apart { OnOk result (DifferentPaged (F.making files.old) words.entry.file.now words.entry.trace.now None page.entry.now) }
     ensures whole { OnOk result (F.refused files.new ≡ F.refused files.old) }
     ensures failed { IfErr result (PagedFails
         (EndsWithCause (F.refused files.old < F.refused files.new) (M.ends_by prepared.now.scenario prepared.now.workers))
-        prepared.now.scenario shown.now.release.now
+        prepared.now.scenario shown.now.tick shown.now.release.now
         (F.known files.old) (F.known files.new) (F.making files.old) words.entry.file.now words.entry.trace.now None page.entry.now) }
 {
     let (made_trace, made_page) = match files.make_both(words.file, words.trace, page) {
@@ -112,13 +113,13 @@ fn store_three<'a, M: Simulator, F: Files, P: Write>(
     requires ready { M.ready }
     requires divided { length prepared.now.division.part_of ≡ member_count prepared.now.scenario }
     requires named { shown.now.name.now ≡ words.file.now }
-    ensures done { IfOk result (λ summary. StoresPaged prepared.now.scenario words.entry.file.now shown.now.release.now (F.known files.old) (F.known files.new)
+    ensures done { IfOk result (λ summary. StoresPaged prepared.now.scenario shown.now.tick words.entry.file.now shown.now.release.now (F.known files.old) (F.known files.new)
         words.entry.trace.now (Some report.entry.now) page.entry.now summary.rows) }
     ensures apart { OnOk result (DifferentPaged (F.making files.old) words.entry.file.now words.entry.trace.now (Some report.entry.now) page.entry.now) }
     ensures whole { OnOk result (F.refused files.new ≡ F.refused files.old) }
     ensures failed { IfErr result (PagedFails
         (EndsWithCause (F.refused files.old < F.refused files.new) (M.ends_by prepared.now.scenario prepared.now.workers))
-        prepared.now.scenario shown.now.release.now
+        prepared.now.scenario shown.now.tick shown.now.release.now
         (F.known files.old) (F.known files.new) (F.making files.old) words.entry.file.now words.entry.trace.now (Some report.entry.now) page.entry.now) }
 {
     let (made_trace, made_report, made_page) = match files.make_three(

@@ -73,10 +73,10 @@ pub trait Simulator {
         requires ready { ready }
         requires divided { length division.now.part_of ≡ member_count scenario.now }
         requires countable { R.failed report < 2 ^ 63 }
-        ensures written { IfOk result.3 (λ summary. WritesRunAndPage shown.now.name.now shown.now.release.now scenario.now
+        ensures written { IfOk result.3 (λ summary. WritesRunAndPage shown.now.tick shown.now.name.now shown.now.release.now scenario.now
             (T.contents trace) (T.contents (writer_under result.0)) (R.held report) (R.held result.1)
             (P.contents page) (P.contents (writer_under result.2)) summary.rows) }
-        ensures beginning { OnErr result.3 (BeginsRunAndPage shown.now.name.now shown.now.release.now scenario.now
+        ensures beginning { OnErr result.3 (BeginsRunAndPage shown.now.tick shown.now.name.now shown.now.release.now scenario.now
             (T.contents trace) (T.contents (writer_under result.0)) (R.held report) (R.held result.1)
             (P.contents page) (P.contents (writer_under result.2))) }
 

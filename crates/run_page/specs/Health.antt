@@ -1,5 +1,5 @@
 -- The members' local health counters, over time.
-use Rattle.std.specs.Prelude.{ℕ, ◌-◌, ◌*◌, ◌^◌, ◌==◌, nat_eq, if◌then◌else◌, List, [], ◌++◌, codes, decimal, map, flat_map, slice_index}
+use Rattle.std.specs.Prelude.{ℕ, ◌-◌, ◌*◌, ◌^◌, ◌==◌, nat_eq, if◌then◌else◌, List, [], ◌++◌, codes, decimal, map, flat_map, slice_index, Option}
 use Rattle.std.specs.List.{range_with_len}
 use Rattle.scenario.specs.Setup.{Setup}
 use Rattle.trace.specs.declared.row.Row.{Row}
@@ -14,6 +14,8 @@ use Rattle.member_timelines.specs.Heights.{heights, flat, axis_height}
 use Rattle.member_timelines.specs.Lanes.{moments}
 use Rattle.member_timelines.specs.LaneTable.{time_axis, is_unchanged}
 use Rattle.run_page.specs.Stacks.{Layer, layers, tops, greatest}
+use Rattle.drawing.specs.Lengths.{lasting}
+use Rattle.ticks.specs.declared.tick.Tick.{Tick}
 
 -- the values that are drawn: a counter never passes 16
 unfoldable pub values : List ℕ
@@ -47,39 +49,39 @@ health_words =
     ++ codes "</ul>"
 
 -- the plot, as high as so many members
-unfoldable pub health_plot : Setup → List Row → ℕ → List ℕ
-health_plot s rows most =
+unfoldable pub health_plot : Option Tick → Setup → List Row → ℕ → List ℕ
+health_plot time s rows most =
     codes "<div class=\"chart low\">" ++ axis_up most
     ++ plot_opening (codes "") (moments s) most (codes "Health") (codes "How many members stand at each value of the health counter.")
-    ++ health_areas s rows most ++ plot_end ++ time_axis s ++ codes "</div>"
+    ++ health_areas s rows most ++ plot_end ++ time_axis time s ++ codes "</div>"
 
 -- a row of the table: how many members stand at a value from a moment on
-abbrev pub health_row : ℕ → ℕ → ℕ → List ℕ
-health_row value from count = codes "<tr><td>" ++ decimal value ++ codes "<td>" ++ decimal from ++ codes "<td>" ++ decimal count
+abbrev pub health_row : Option Tick → ℕ → ℕ → ℕ → List ℕ
+health_row time value from count = codes "<tr><td>" ++ decimal value ++ codes "<td>" ++ decimal from ++ lasting time from ++ codes "<td>" ++ decimal count
 
 -- the row of a span, where the number changes in it
-abbrev pub health_span : ℕ → ℕ → List ℕ → ℕ → List ℕ
-health_span value width counts span = if is_unchanged counts span then [] else health_row value (span * width) (slice_index counts span)
+abbrev pub health_span : Option Tick → ℕ → ℕ → List ℕ → ℕ → List ℕ
+health_span time value width counts span = if is_unchanged counts span then [] else health_row time value (span * width) (slice_index counts span)
 
 -- the rows of so many spans
-abbrev pub health_rows : ℕ → ℕ → ℕ → List ℕ → List ℕ
-health_rows value width spans counts = flat_map (health_span value width counts) (range_with_len 0 spans)
+abbrev pub health_rows : Option Tick → ℕ → ℕ → ℕ → List ℕ → List ℕ
+health_rows time value width spans counts = flat_map (health_span time value width counts) (range_with_len 0 spans)
 
 -- the rows of a value
-abbrev pub value_rows : Setup → List Row → ℕ → List ℕ
-value_rows s rows value = health_rows value (span_width s) (span_count s) (at_value s rows (2 ^ 64 - 1) value)
+abbrev pub value_rows : Option Tick → Setup → List Row → ℕ → List ℕ
+value_rows time s rows value = health_rows time value (span_width s) (span_count s) (at_value s rows (2 ^ 64 - 1) value)
 
 -- the health as a table
-unfoldable pub health_table : Setup → List Row → List ℕ
-health_table s rows =
+unfoldable pub health_table : Option Tick → Setup → List Row → List ℕ
+health_table time s rows =
     codes "<details><summary>Health as a table</summary><div class=\"wide\"><table><tr><th>value" ++ codes "<th>from moment<th>members</tr>\n"
-    ++ flat_map (value_rows s rows) values ++ codes "</table></div></details>"
+    ++ flat_map (value_rows time s rows) values ++ codes "</table></div></details>"
 
 -- the figure, its plot as high as so many members
-unfoldable pub health_figure : Setup → List Row → ℕ → List ℕ
-health_figure s rows most =
-    figure_opening (codes "health") (codes "Members in bad health") ++ health_words ++ health_plot s rows most ++ health_table s rows ++ figure_end
+unfoldable pub health_figure : Option Tick → Setup → List Row → ℕ → List ℕ
+health_figure time s rows most =
+    figure_opening (codes "health") (codes "Members in bad health") ++ health_words ++ health_plot time s rows most ++ health_table time s rows ++ figure_end
 
 -- the same, where somebody was in bad health
-abbrev pub health_text : Setup → List Row → List ℕ
-health_text s rows = if nat_eq (worst_health rows) 0 then [] else health_figure s rows (axis_height (greatest (unwell s rows)))
+abbrev pub health_text : Option Tick → Setup → List Row → List ℕ
+health_text time s rows = if nat_eq (worst_health rows) 0 then [] else health_figure time s rows (axis_height (greatest (unwell s rows)))

@@ -1,5 +1,5 @@
 -- The page of a run.
-use Rattle.std.specs.Prelude.{ℕ, List, ◌++◌, codes}
+use Rattle.std.specs.Prelude.{ℕ, List, ◌++◌, codes, Option}
 use Rattle.scenario.specs.Setup.{Setup}
 use Rattle.trace.specs.declared.row.Row.{Row}
 use Rattle.drawing.specs.Escaped.{escaped, markup}
@@ -14,19 +14,20 @@ use Rattle.run_spread.specs.Spread.{spread_text}
 use Rattle.run_page.specs.Styles.{layout_style}
 use Rattle.run_page.specs.Traffic.{traffic_text}
 use Rattle.run_page.specs.Health.{health_text}
+use Rattle.ticks.specs.declared.tick.Tick.{Tick}
 
 -- what stands before the figures
 unfoldable pub head_text : List ℕ → List ℕ
 head_text name = page_opening name (codes " - swimsim") layout_style ++ escaped name ++ markup (codes "</h1></header>\n")
 
 -- what happened, the lanes, the table of false deaths and how they came about, where these are all members with a lane in their order
-unfoldable pub page_front : Setup → List Row → List Chosen → List ℕ
-page_front s rows all = summary_text s rows ++ lanes_text s rows all ++ thrown_out_text s rows all ++ causes_text s rows
+unfoldable pub page_front : Option Tick → Setup → List Row → List Chosen → List ℕ
+page_front time s rows all = summary_text time s rows ++ lanes_text time s rows all ++ thrown_out_text time s rows all ++ causes_text time s rows
 
 -- how the news of crashes spread, the messages, the members' health and what was run, by a release of the program
-unfoldable pub page_back : Setup → List Row → List ℕ → List ℕ
-page_back s rows release = spread_text s rows ++ traffic_text s rows ++ health_text s rows ++ settings_text s release ++ codes "</main></body></html>\n"
+unfoldable pub page_back : Option Tick → Setup → List Row → List ℕ → List ℕ
+page_back time s rows release = spread_text time s rows ++ traffic_text time s rows ++ health_text time s rows ++ settings_text s release ++ codes "</main></body></html>\n"
 
 -- the page of the run of a name, where these are all members with a lane in their order
-unfoldable pub page_text : List ℕ → Setup → List Row → List Chosen → List ℕ → List ℕ
-page_text name s rows all release = head_text name ++ page_front s rows all ++ page_back s rows release
+unfoldable pub page_text : Option Tick → List ℕ → Setup → List Row → List Chosen → List ℕ → List ℕ
+page_text time name s rows all release = head_text name ++ page_front time s rows all ++ page_back time s rows release

@@ -1,5 +1,5 @@
 -- Messages by kind, over time.
-use Rattle.std.specs.Prelude.{ℕ, Bool, ◌-◌, ◌*◌, ◌/◌, ◌%◌, ◌^◌, nat_lt, nat_eq, if◌then◌else◌, List, [], ◌++◌, codes, decimal, map, flat_map, count_by, sum_by, min, max}
+use Rattle.std.specs.Prelude.{ℕ, Bool, ◌-◌, ◌*◌, ◌/◌, ◌%◌, ◌^◌, nat_lt, nat_eq, if◌then◌else◌, List, [], ◌++◌, codes, decimal, map, flat_map, count_by, sum_by, min, max, Option}
 use Rattle.std.specs.Option.{is_some}
 use Rattle.std.specs.List.{range_with_len}
 use Rattle.scenario.specs.Setup.{Setup, member_count}
@@ -19,6 +19,8 @@ use Rattle.member_timelines.specs.Heights.{flat, axis_height}
 use Rattle.member_timelines.specs.Lanes.{moments}
 use Rattle.member_timelines.specs.LaneTable.{time_axis}
 use Rattle.run_page.specs.Stacks.{Layer, layers, tops, greatest}
+use Rattle.drawing.specs.Lengths.{lasting}
+use Rattle.ticks.specs.declared.tick.Tick.{Tick}
 
 -- the class of a kind of message
 abbrev pub class_of : What → List ℕ
@@ -96,35 +98,35 @@ abbrev pub lost_tops : Setup → List Row → List ℕ
 lost_tops s rows = tops (2 ^ 64 - 1) (flat (span_count s)) (map (lost_layer s rows) (message_kinds s.version))
 
 -- how long a span is, behind some words
-unfoldable pub width_words : List ℕ → ℕ → List ℕ
-width_words words width = words ++ decimal width ++ codes " ticks.</p>"
+unfoldable pub width_words : Option Tick → List ℕ → ℕ → List ℕ
+width_words time words width = words ++ decimal width ++ codes " ticks" ++ lasting time width ++ codes ".</p>"
 
 -- an area for each kind, each on those before it
 abbrev pub sent_areas : Setup → List Row → ℕ → List ℕ
 sent_areas s rows most = layers s most (flat (span_count s)) (map (sent_layer s rows) (message_kinds s.version))
 
 -- the messages that were sent, in a plot of that height
-unfoldable pub sent_plot : Setup → List Row → ℕ → List ℕ
-sent_plot s rows most =
+unfoldable pub sent_plot : Option Tick → Setup → List Row → ℕ → List ℕ
+sent_plot time s rows most =
     codes "<div class=\"chart\">" ++ axis_up most
     ++ plot_opening (codes "") (moments s) most (codes "Messages sent") (codes "How many messages of each kind were sent in each span of time.")
-    ++ sent_areas s rows most ++ plot_end ++ time_axis s ++ width_words (codes "</div><p class=\"soft\">Sent in each span of ") (span_width s)
+    ++ sent_areas s rows most ++ plot_end ++ time_axis time s ++ width_words time (codes "</div><p class=\"soft\">Sent in each span of ") (span_width s)
 
 -- the area of so many in each span that were lost
 unfoldable pub lost_area : Setup → List ℕ → ℕ → List ℕ
 lost_area s counts most = area (codes "lost") (flat (span_count s)) counts (span_width s) (moments s) most
 
 -- the messages that were lost, so many in each span, in a plot of that height
-unfoldable pub lost_plot : Setup → List ℕ → ℕ → List ℕ
-lost_plot s counts most =
+unfoldable pub lost_plot : Option Tick → Setup → List ℕ → ℕ → List ℕ
+lost_plot time s counts most =
     codes "<div class=\"chart low\">" ++ axis_up most
     ++ plot_opening (codes "") (moments s) most (codes "Messages lost") (codes "How many messages were lost in each span of time.")
     ++ lost_area s counts most ++ plot_end
-    ++ time_axis s ++ width_words (codes "</div><p class=\"soft\">Lost in each span of ") (span_width s)
+    ++ time_axis time s ++ width_words time (codes "</div><p class=\"soft\">Lost in each span of ") (span_width s)
 
 -- the same, where some were lost
-abbrev pub lost_part : Setup → List ℕ → List ℕ
-lost_part s counts = if nat_eq (greatest counts) 0 then [] else lost_plot s counts (axis_height (greatest counts))
+abbrev pub lost_part : Option Tick → Setup → List ℕ → List ℕ
+lost_part time s counts = if nat_eq (greatest counts) 0 then [] else lost_plot time s counts (axis_height (greatest counts))
 
 -- the heads of a kind's columns
 abbrev pub column : What → List ℕ
@@ -135,30 +137,30 @@ unfoldable pub columns : List What → List ℕ
 columns kinds = codes "<table><tr><th>from moment" ++ flat_map column kinds ++ codes "</tr>\n"
 
 -- the first cell of the row of a span
-abbrev pub from_cell : Setup → ℕ → List ℕ
-from_cell s span = codes "<tr><td>" ++ decimal (span * span_width s)
+abbrev pub from_cell : Option Tick → Setup → ℕ → List ℕ
+from_cell time s span = codes "<tr><td>" ++ decimal (span * span_width s) ++ lasting time (span * span_width s)
 
 -- the cells of a kind in a span
 abbrev pub cells : Setup → List Row → ℕ → What → List ℕ
 cells s rows span kind = codes "<td>" ++ decimal (count_by (sends_in s kind span) rows) ++ codes "<td>" ++ decimal (count_by (loses_in s kind span) rows)
 
 -- the row of a span
-unfoldable pub span_cells : Setup → List Row → ℕ → List ℕ
-span_cells s rows span = from_cell s span ++ flat_map (cells s rows span) (message_kinds s.version)
+unfoldable pub span_cells : Option Tick → Setup → List Row → ℕ → List ℕ
+span_cells time s rows span = from_cell time s span ++ flat_map (cells s rows span) (message_kinds s.version)
 
 -- the messages as a table
-unfoldable pub traffic_table : Setup → List Row → List ℕ
-traffic_table s rows =
+unfoldable pub traffic_table : Option Tick → Setup → List Row → List ℕ
+traffic_table time s rows =
     codes "<details><summary>The messages as a table</summary><div class=\"wide\">" ++ columns (message_kinds s.version)
-    ++ flat_map (span_cells s rows) (range_with_len 0 (span_count s)) ++ codes "</table></div></details>"
+    ++ flat_map (span_cells time s rows) (range_with_len 0 (span_count s)) ++ codes "</table></div></details>"
 
 -- plots and table, where something was sent
-unfoldable pub traffic_body : Setup → List Row → ℕ → List ℕ
-traffic_body s rows most =
-    if nat_lt 0 most then sent_plot s rows (axis_height most) ++ lost_part s (lost_tops s rows) ++ traffic_table s rows else []
+unfoldable pub traffic_body : Option Tick → Setup → List Row → ℕ → List ℕ
+traffic_body time s rows most =
+    if nat_lt 0 most then sent_plot time s rows (axis_height most) ++ lost_part time s (lost_tops s rows) ++ traffic_table time s rows else []
 
 -- the figure
-unfoldable pub traffic_text : Setup → List Row → List ℕ
-traffic_text s rows =
+unfoldable pub traffic_text : Option Tick → Setup → List Row → List ℕ
+traffic_text time s rows =
     figure_opening (codes "traffic") (codes "Messages") ++ rate_words s (sent s rows) (lost s rows) ++ kinds_legend s rows (lost s rows)
-    ++ traffic_body s rows (greatest (sent_tops s rows)) ++ figure_end
+    ++ traffic_body time s rows (greatest (sent_tops s rows)) ++ figure_end

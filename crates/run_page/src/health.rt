@@ -9,9 +9,10 @@ ghost use Rattle.run_page.specs.Health.{values, class_of_value, at_value, unwell
 
 use crate::kinds::{open_time_plot, push_layer, reach};
 use base::Memory;
-use drawing::{close_figure, close_plot, open_figure, push_entry, push_up};
+use drawing::{close_figure, close_plot, open_figure, push_entry, push_lasting, push_up};
 use member_timelines::{Run, axis_height, before, flat, greatest, heights, push_time_axis};
 use std::alloc::{AllocError, Global};
+use ticks::Tick;
 
 /// The values from 1 on: a counter never passes 16.
 const VALUES: [usize; 16] = [1, 2, 3, 4, 5, 6, 7, 8, 9, 10, 11, 12, 13, 14, 15, 16];
@@ -19,7 +20,7 @@ const VALUES: [usize; 16] = [1, 2, 3, 4, 5, 6, 7, 8, 9, 10, 11, 12, 13, 14, 15, 
 /// Appends how many members stand at each health value, where somebody was in bad health.
 pub(crate) fn push_health(alloc: Global, text: &mut String, run: &Run) -> Result<(), Memory>
     requires { IsTold run.now }
-    ensures { OnOk result (string_bytes text.new ≡ string_bytes text.old ++ health_text run.now.scenario.now run.now.tallies.now) }
+    ensures { OnOk result (string_bytes text.new ≡ string_bytes text.old ++ health_text run.now.tick run.now.scenario.now run.now.tallies.now) }
 {
     if run.tallies.worst_health() == 0 {
         return Ok(());
@@ -33,7 +34,7 @@ pub(crate) fn push_health(alloc: Global, text: &mut String, run: &Run) -> Result
 fn push_figure(alloc: Global, text: &mut String, run: &Run, most: u64) -> Result<(), Memory>
     requires told { IsTold run.now }
     requires small { most < 2 ^ 63 }
-    ensures { OnOk result (string_bytes text.new ≡ string_bytes text.old ++ health_figure run.now.scenario.now run.now.tallies.now most) }
+    ensures { OnOk result (string_bytes text.new ≡ string_bytes text.old ++ health_figure run.now.tick run.now.scenario.now run.now.tallies.now most) }
 {
     open_figure(text, "health", "Members in bad health")?;
     push_words(text)?;
@@ -48,7 +49,7 @@ fn push_figure(alloc: Global, text: &mut String, run: &Run, most: u64) -> Result
 fn push_plot(alloc: Global, text: &mut String, run: &Run, most: u64) -> Result<(), Memory>
     requires told { IsTold run.now }
     requires small { most < 2 ^ 63 }
-    ensures { OnOk result (string_bytes text.new ≡ string_bytes text.old ++ health_plot run.now.scenario.now run.now.tallies.now most) }
+    ensures { OnOk result (string_bytes text.new ≡ string_bytes text.old ++ health_plot run.now.tick run.now.scenario.now run.now.tallies.now most) }
 {
     text.push_str("<div class=\"chart low\">")?;
     push_up(text, most)?;
@@ -158,7 +159,7 @@ fn unwell(alloc: Global, run: &Run) -> Result<Vec<u64>, Memory>
 #[tactic(auto, unfolding(crate::specs::Health::health_table))]
 fn push_table(alloc: Global, text: &mut String, run: &Run) -> Result<(), Memory>
     requires { IsTold run.now }
-    ensures { OnOk result (string_bytes text.new ≡ string_bytes text.old ++ health_table run.now.scenario.now run.now.tallies.now) }
+    ensures { OnOk result (string_bytes text.new ≡ string_bytes text.old ++ health_table run.now.tick run.now.scenario.now run.now.tallies.now) }
 {
     text.push_str(
         "<details><summary>Health as a table</summary><div class=\"wide\"><table><tr><th>value",
@@ -172,7 +173,7 @@ fn push_table(alloc: Global, text: &mut String, run: &Run) -> Result<(), Memory>
 /// Appends the rows of all values from 1 on.
 fn push_values(alloc: Global, text: &mut String, run: &Run) -> Result<(), Memory>
     requires { IsTold run.now }
-    ensures { OnOk result (string_bytes text.new ≡ string_bytes text.old ++ flat_map (value_rows run.now.scenario.now run.now.tallies.now) values) }
+    ensures { OnOk result (string_bytes text.new ≡ string_bytes text.old ++ flat_map (value_rows run.now.tick run.now.scenario.now run.now.tallies.now) values) }
 {
     let values = values();
     for value in values {
@@ -185,16 +186,24 @@ fn push_values(alloc: Global, text: &mut String, run: &Run) -> Result<(), Memory
 fn push_value(alloc: Global, text: &mut String, run: &Run, value: usize) -> Result<(), Memory>
     requires told { IsTold run.now }
     requires few { value ≤ 16 }
-    ensures { OnOk result (string_bytes text.new ≡ string_bytes text.old ++ value_rows run.now.scenario.now run.now.tallies.now value) }
+    ensures { OnOk result (string_bytes text.new ≡ string_bytes text.old ++ value_rows run.now.tick run.now.scenario.now run.now.tallies.now value) }
 {
     let counts = at_value(alloc, run, u64::MAX, value)?;
-    push_spans(text, value, run.width(), run.spans(), counts.as_slice())?;
+    push_spans(
+        text,
+        run.tick,
+        value,
+        run.width(),
+        run.spans(),
+        counts.as_slice(),
+    )?;
     Ok(())
 }
 
 /// Appends the rows of so many spans.
 fn push_spans(
     text: &mut String,
+    time: Option<Tick>,
     value: usize,
     width: u64,
     spans: usize,
@@ -203,10 +212,10 @@ fn push_spans(
     requires within { spans ≤ length counts.now }
     requires small { width ≤ 2 ^ 40 }
     requires few { spans ≤ 120 }
-    ensures { OnOk result (string_bytes text.new ≡ string_bytes text.old ++ health_rows value width spans counts.now) }
+    ensures { OnOk result (string_bytes text.new ≡ string_bytes text.old ++ health_rows time value width spans counts.now) }
 {
     for span in 0..spans {
-        push_span(text, value, width, counts, span)?;
+        push_span(text, time, value, width, counts, span)?;
     }
     Ok(())
 }
@@ -214,6 +223,7 @@ fn push_spans(
 /// Appends the row of a span, where the number changes in it.
 fn push_span(
     text: &mut String,
+    time: Option<Tick>,
     value: usize,
     width: u64,
     counts: &[u64],
@@ -222,17 +232,26 @@ fn push_span(
     requires within { span < length counts.now }
     requires small { width ≤ 2 ^ 40 }
     requires few { span < 120 }
-    ensures { OnOk result (string_bytes text.new ≡ string_bytes text.old ++ health_span value width counts.now span) }
+    ensures { OnOk result (string_bytes text.new ≡ string_bytes text.old ++ health_span time value width counts.now span) }
 {
     if counts[span] == before(counts, span) {
         return Ok(());
     }
-    push_row(text, value, span as u64 * width, counts[span])
+    push_row(text, time, value, span as u64 * width, counts[span])
 }
 
 /// Appends a row: how many members stand at a value from a moment on.
-fn push_row(text: &mut String, value: usize, from: u64, count: u64) -> Result<(), AllocError>
-    ensures { OnOk result (string_bytes text.new ≡ string_bytes text.old ++ health_row value from count) }
+fn push_row(
+    text: &mut String,
+    time: Option<Tick>,
+    value: usize,
+    from: u64,
+    count: u64,
+) -> Result<(), AllocError>
+    ensures { OnOk result (string_bytes text.new ≡ string_bytes text.old ++ health_row time value from count) }
 {
-    write!(text, "<tr><td>{value}<td>{from}<td>{count}")
+    write!(text, "<tr><td>{value}<td>{from}")?;
+    push_lasting(text, time, from)?;
+    write!(text, "<td>{count}")?;
+    Ok(())
 }

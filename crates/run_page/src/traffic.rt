@@ -13,17 +13,19 @@ use crate::kinds::{
 };
 use base::Memory;
 use drawing::{
-    close_figure, close_plot, open_figure, push_counted, push_entry, push_grouped, push_up,
+    close_figure, close_plot, open_figure, push_counted, push_entry, push_grouped, push_lasting,
+    push_up,
 };
 use member_timelines::{Run, axis_height, flat, greatest, push_time_axis};
 use std::alloc::{AllocError, Global};
+use ticks::Tick;
 use trace::What;
 
 /// Appends the messages.
 #[tactic(auto, unfolding(crate::specs::Traffic::traffic_text))]
 pub(crate) fn push_traffic(alloc: Global, text: &mut String, run: &Run) -> Result<(), Memory>
     requires { IsTold run.now }
-    ensures { OnOk result (string_bytes text.new ≡ string_bytes text.old ++ traffic_text run.now.scenario.now run.now.tallies.now) }
+    ensures { OnOk result (string_bytes text.new ≡ string_bytes text.old ++ traffic_text run.now.tick run.now.scenario.now run.now.tallies.now) }
 {
     let most = most_in_a_span(alloc, run)?;
     open_figure(text, "traffic", "Messages")?;
@@ -38,7 +40,7 @@ pub(crate) fn push_traffic(alloc: Global, text: &mut String, run: &Run) -> Resul
 #[tactic(auto, unfolding(crate::specs::Traffic::traffic_body))]
 fn push_body(alloc: Global, text: &mut String, run: &Run, most: u64) -> Result<(), Memory>
     requires { IsTold run.now }
-    ensures { OnOk result (string_bytes text.new ≡ string_bytes text.old ++ traffic_body run.now.scenario.now run.now.tallies.now most) }
+    ensures { OnOk result (string_bytes text.new ≡ string_bytes text.old ++ traffic_body run.now.tick run.now.scenario.now run.now.tallies.now most) }
 {
     if most > 0 {
         push_sent(alloc, text, run, axis_height(most))?;
@@ -171,7 +173,7 @@ fn push_kind(text: &mut String, run: &Run, kind: What) -> Result<(), AllocError>
 fn push_sent(alloc: Global, text: &mut String, run: &Run, most: u64) -> Result<(), Memory>
     requires told { IsTold run.now }
     requires small { most < 2 ^ 63 }
-    ensures { OnOk result (string_bytes text.new ≡ string_bytes text.old ++ sent_plot run.now.scenario.now run.now.tallies.now most) }
+    ensures { OnOk result (string_bytes text.new ≡ string_bytes text.old ++ sent_plot run.now.tick run.now.scenario.now run.now.tallies.now most) }
 {
     text.push_str("<div class=\"chart\">")?;
     push_up(text, most)?;
@@ -192,24 +194,32 @@ fn push_sent(alloc: Global, text: &mut String, run: &Run, most: u64) -> Result<(
 /// Appends how long a span is, behind some words.
 fn push_width(text: &mut String, run: &Run, words: &str) -> Result<(), AllocError>
     requires { IsTold run.now }
-    ensures { OnOk result (string_bytes text.new ≡ string_bytes text.old ++ width_words words.now (span_width run.now.scenario.now)) }
+    ensures { OnOk result (string_bytes text.new ≡ string_bytes text.old ++ width_words run.now.tick words.now (span_width run.now.scenario.now)) }
 {
-    push_words(text, words, run.width())
+    push_words(text, run.tick, words, run.width())
 }
 
 /// Appends a number of ticks, behind some words.
 #[tactic(auto, unfolding(crate::specs::Traffic::width_words))]
-fn push_words(text: &mut String, words: &str, width: u64) -> Result<(), AllocError>
-    ensures { OnOk result (string_bytes text.new ≡ string_bytes text.old ++ width_words words.now width) }
+fn push_words(
+    text: &mut String,
+    time: Option<Tick>,
+    words: &str,
+    width: u64,
+) -> Result<(), AllocError>
+    ensures { OnOk result (string_bytes text.new ≡ string_bytes text.old ++ width_words time words.now width) }
 {
     text.push_str(words)?;
-    write!(text, "{width} ticks.</p>")
+    write!(text, "{width} ticks")?;
+    push_lasting(text, time, width)?;
+    text.push_str(".</p>")?;
+    Ok(())
 }
 
 /// Appends the messages that were lost, where some were.
 fn push_lost(alloc: Global, text: &mut String, run: &Run) -> Result<(), Memory>
     requires { IsTold run.now }
-    ensures { OnOk result (string_bytes text.new ≡ string_bytes text.old ++ lost_part run.now.scenario.now (lost_tops run.now.scenario.now run.now.tallies.now)) }
+    ensures { OnOk result (string_bytes text.new ≡ string_bytes text.old ++ lost_part run.now.tick run.now.scenario.now (lost_tops run.now.scenario.now run.now.tallies.now)) }
 {
     let counts = all_lost_by_span(alloc, run)?;
     push_lost_part(alloc, text, run, counts.as_slice())
@@ -218,7 +228,7 @@ fn push_lost(alloc: Global, text: &mut String, run: &Run) -> Result<(), Memory>
 /// Appends so many lost messages in each span, where there are some.
 fn push_lost_part(alloc: Global, text: &mut String, run: &Run, counts: &[u64]) -> Result<(), Memory>
     requires { IsTold run.now }
-    ensures { OnOk result (string_bytes text.new ≡ string_bytes text.old ++ lost_part run.now.scenario.now counts.now) }
+    ensures { OnOk result (string_bytes text.new ≡ string_bytes text.old ++ lost_part run.now.tick run.now.scenario.now counts.now) }
 {
     let most = greatest(counts);
     if most == 0 {
@@ -238,7 +248,7 @@ fn push_lost_plot(
 ) -> Result<(), Memory>
     requires told { IsTold run.now }
     requires small { most < 2 ^ 63 }
-    ensures { OnOk result (string_bytes text.new ≡ string_bytes text.old ++ lost_plot run.now.scenario.now counts.now most) }
+    ensures { OnOk result (string_bytes text.new ≡ string_bytes text.old ++ lost_plot run.now.tick run.now.scenario.now counts.now most) }
 {
     text.push_str("<div class=\"chart low\">")?;
     push_up(text, most)?;
@@ -277,7 +287,7 @@ fn push_lost_area(
 #[tactic(auto, unfolding(crate::specs::Traffic::traffic_table))]
 fn push_table(text: &mut String, run: &Run) -> Result<(), AllocError>
     requires { IsTold run.now }
-    ensures { OnOk result (string_bytes text.new ≡ string_bytes text.old ++ traffic_table run.now.scenario.now run.now.tallies.now) }
+    ensures { OnOk result (string_bytes text.new ≡ string_bytes text.old ++ traffic_table run.now.tick run.now.scenario.now run.now.tallies.now) }
 {
     text.push_str("<details><summary>The messages as a table</summary><div class=\"wide\">")?;
     push_all_columns(text, run)?;
@@ -320,7 +330,7 @@ fn push_column(text: &mut String, kind: What) -> Result<(), AllocError>
 fn push_spans(text: &mut String, run: &Run) -> Result<(), AllocError>
     requires { IsTold run.now }
     ensures { OnOk result (string_bytes text.new ≡ string_bytes text.old
-        ++ flat_map (span_cells run.now.scenario.now run.now.tallies.now) (range_with_len 0 (span_count run.now.scenario.now))) }
+        ++ flat_map (span_cells run.now.tick run.now.scenario.now run.now.tallies.now) (range_with_len 0 (span_count run.now.scenario.now))) }
 {
     for span in 0..run.spans() {
         push_span(text, run, span)?;
@@ -333,7 +343,7 @@ fn push_spans(text: &mut String, run: &Run) -> Result<(), AllocError>
 fn push_span(text: &mut String, run: &Run, span: usize) -> Result<(), AllocError>
     requires told { IsTold run.now }
     requires few { span < 120 }
-    ensures { OnOk result (string_bytes text.new ≡ string_bytes text.old ++ span_cells run.now.scenario.now run.now.tallies.now span) }
+    ensures { OnOk result (string_bytes text.new ≡ string_bytes text.old ++ span_cells run.now.tick run.now.scenario.now run.now.tallies.now span) }
 {
     push_from(text, run, span)?;
     push_all_cells(text, run, span)?;
@@ -344,9 +354,11 @@ fn push_span(text: &mut String, run: &Run, span: usize) -> Result<(), AllocError
 fn push_from(text: &mut String, run: &Run, span: usize) -> Result<(), AllocError>
     requires told { IsTold run.now }
     requires few { span < 120 }
-    ensures { OnOk result (string_bytes text.new ≡ string_bytes text.old ++ from_cell run.now.scenario.now span) }
+    ensures { OnOk result (string_bytes text.new ≡ string_bytes text.old ++ from_cell run.now.tick run.now.scenario.now span) }
 {
-    push_number(text, "<tr><td>", span as u64 * run.width())
+    let from = span as u64 * run.width();
+    push_number(text, "<tr><td>", from)?;
+    push_lasting(text, run.tick, from)
 }
 
 /// Appends the cells of all kinds in a span.

@@ -26,7 +26,7 @@ pub fn page(alloc: Global, run: &Run) -> Result<String, Memory>
     requires { IsTold run.now }
     ensures { IfOk result (λ text. (all : List AChosen)
         × IsPermutation (choices run.now.scenario.now run.now.tallies.now) all × IsSorted ⟦<Chosen as Ord>⟧.cmp all
-        × (string_bytes text ≡ page_text run.now.name.now run.now.scenario.now run.now.tallies.now all run.now.release.now)) }
+        × (string_bytes text ≡ page_text run.now.tick run.now.name.now run.now.scenario.now run.now.tallies.now all run.now.release.now)) }
 {
     let all = all_chosen(alloc, run)?;
     whole(alloc, run, all.as_slice())
@@ -37,7 +37,7 @@ fn whole(alloc: Global, run: &Run, all: &[Chosen]) -> Result<String, Memory>
     requires told { IsTold run.now }
     requires within { All (λ lane. lane.member < member_count run.now.scenario.now) all.now }
     ensures { IfOk result (λ text. string_bytes text
-        ≡ page_text run.now.name.now run.now.scenario.now run.now.tallies.now all.now run.now.release.now) }
+        ≡ page_text run.now.tick run.now.name.now run.now.scenario.now run.now.tallies.now all.now run.now.release.now) }
 {
     let mut text = String::new(alloc);
     push_page(alloc, &mut text, run, all)?;
@@ -50,7 +50,7 @@ fn push_page(alloc: Global, text: &mut String, run: &Run, all: &[Chosen]) -> Res
     requires told { IsTold run.now }
     requires within { All (λ lane. lane.member < member_count run.now.scenario.now) all.now }
     ensures { OnOk result (string_bytes text.new ≡ string_bytes text.old
-        ++ page_text run.now.name.now run.now.scenario.now run.now.tallies.now all.now run.now.release.now) }
+        ++ page_text run.now.tick run.now.name.now run.now.scenario.now run.now.tallies.now all.now run.now.release.now) }
 {
     push_head(text, run.name)?;
     push_front(alloc, text, run, all)?;
@@ -63,7 +63,7 @@ fn push_page(alloc: Global, text: &mut String, run: &Run, all: &[Chosen]) -> Res
 fn push_front(alloc: Global, text: &mut String, run: &Run, all: &[Chosen]) -> Result<(), Memory>
     requires told { IsTold run.now }
     requires within { All (λ lane. lane.member < member_count run.now.scenario.now) all.now }
-    ensures { OnOk result (string_bytes text.new ≡ string_bytes text.old ++ page_front run.now.scenario.now run.now.tallies.now all.now) }
+    ensures { OnOk result (string_bytes text.new ≡ string_bytes text.old ++ page_front run.now.tick run.now.scenario.now run.now.tallies.now all.now) }
 {
     push_summary(alloc, text, run)?;
     push_lanes(alloc, text, run, all)?;
@@ -76,7 +76,7 @@ fn push_front(alloc: Global, text: &mut String, run: &Run, all: &[Chosen]) -> Re
 #[tactic(auto, unfolding(crate::specs::Page::page_back))]
 fn push_back(alloc: Global, text: &mut String, run: &Run) -> Result<(), Memory>
     requires { IsTold run.now }
-    ensures { OnOk result (string_bytes text.new ≡ string_bytes text.old ++ page_back run.now.scenario.now run.now.tallies.now run.now.release.now) }
+    ensures { OnOk result (string_bytes text.new ≡ string_bytes text.old ++ page_back run.now.tick run.now.scenario.now run.now.tallies.now run.now.release.now) }
 {
     push_spread(alloc, text, run)?;
     push_traffic(alloc, text, run)?;

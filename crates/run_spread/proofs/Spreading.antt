@@ -13,6 +13,7 @@ use Rattle.series.specs.declared.spread.Spread.{Spread}
 use Rattle.series.specs.Watched.{watched, places}
 use Rattle.series.specs.Stories.{IsSpreadOf}
 use Rattle.drawing.proofs.Ranges.{range_more}
+use Rattle.ticks.specs.declared.tick.Tick.{Tick}
 use Rattle.run_spread.specs.declared.news.ShareTimes.{ShareTimes}
 use Rattle.run_spread.specs.Spread.{told_after, learned, stays, staying, time_of_one, times, last_learned, last_told, last_of, shares, reached, crash_part, crash_text, watched_crash}
 use mir.Val.{bool_byte}
@@ -90,20 +91,20 @@ module _ (s : Setup) (rows : List Row) (subject from : ℕ) (spread : Spread) (i
       ∙ sym (ap (λ o. option_map_or (last_told s rows subject) o 0) since)
 
   -- what is shown of it
-  pub crash_is : (step : ℕ) (name : List ℕ) → name ≡ name_of s subject
-      → crash_text s name step (learned spread.suspected.items from) (learned spread.confirmed.items from) ≡ watched_crash s rows step subject
-  crash_is step name named = both ∙ sym (ap (λ o. option_map_or (λ at. crash_text s (name_of s subject) step (told_after rows what.Suspect subject at) (told_after rows what.Confirm subject at)) o []) since)
+  pub crash_is : (time : Option Tick) (step : ℕ) (name : List ℕ) → name ≡ name_of s subject
+      → crash_text time s name step (learned spread.suspected.items from) (learned spread.confirmed.items from) ≡ watched_crash time s rows step subject
+  crash_is time step name named = both ∙ sym (ap (λ o. option_map_or (λ at. crash_text time s (name_of s subject) step (told_after rows what.Suspect subject at) (told_after rows what.Confirm subject at)) o []) since)
     where
-      both : crash_text s name step (learned spread.suspected.items from) (learned spread.confirmed.items from)
-          ≡ crash_text s (name_of s subject) step (told_after rows what.Suspect subject from) (told_after rows what.Confirm subject from)
+      both : crash_text time s name step (learned spread.suspected.items from) (learned spread.confirmed.items from)
+          ≡ crash_text time s (name_of s subject) step (told_after rows what.Suspect subject from) (told_after rows what.Confirm subject from)
       both = λ i.
           let suspected = times_same s (learned spread.suspected.items from) (told_after rows what.Suspect subject from) suspected_same i in
           let dead = times_same s (learned spread.confirmed.items from) (told_after rows what.Confirm subject from) confirmed_same i in
-          crash_part (named i) (staying s) step (reached suspected step) (shares (staying s) suspected) (reached dead step) (shares (staying s) dead)
+          crash_part time (named i) (staying s) step (reached suspected step) (shares (staying s) suspected) (reached dead step) (shares (staying s) dead)
 
 -- what is shown of a crash, by its parts
-pub part_same : (name : List ℕ) (step : ℕ) (m n : ℕ) (a b c d : List ℕ) (p q r t : ShareTimes) → m ≡ n → a ≡ b → p ≡ q → c ≡ d → r ≡ t → crash_part name m step a p c r ≡ crash_part name n step b q d t
-part_same name step m n a b c d p q r t up first one second other = λ i. crash_part name (up i) step (first i) (one i) (second i) (other i)
+pub part_same : (time : Option Tick) (name : List ℕ) (step : ℕ) (m n : ℕ) (a b c d : List ℕ) (p q r t : ShareTimes) → m ≡ n → a ≡ b → p ≡ q → c ≡ d → r ≡ t → crash_part time name m step a p c r ≡ crash_part time name n step b q d t
+part_same time name step m n a b c d p q r t up first one second other = λ i. crash_part time name (up i) step (first i) (one i) (second i) (other i)
 
 -- ---- shares
 

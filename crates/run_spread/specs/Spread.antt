@@ -10,13 +10,14 @@ use Rattle.trace.specs.declared.row.Row.{Row}
 use Rattle.figures.specs.Cases.{rank, at_rank}
 use Rattle.series.specs.Watched.{at_by, crashes, crashed, watched}
 use Rattle.series.specs.Stories.{heard}
-use Rattle.drawing.specs.Axes.{axis_up, axis_across}
+use Rattle.drawing.specs.Axes.{axis_up, time_across}
 use Rattle.drawing.specs.Escaped.{escaped}
 use Rattle.drawing.specs.Legends.{entry}
-use Rattle.drawing.specs.Numbers.{grouped}
 use Rattle.drawing.specs.Shapes.{figure_opening, figure_end, plot_opening, plot_end, line, step_start}
 use Rattle.member_timelines.specs.Heights.{axis_height}
 use Rattle.run_spread.specs.declared.news.ShareTimes.{ShareTimes}
+use Rattle.drawing.specs.Lengths.{time_text}
+use Rattle.ticks.specs.declared.tick.Tick.{Tick}
 
 -- ---- when members learned of a crash
 
@@ -91,47 +92,47 @@ chart_opening name width most =
     ++ plot_opening (codes "") width most name (codes "How many members had suspected it, and how many had declared it dead, by the time since its crash.")
 
 -- how many had suspected the member, and how many declared it dead, by the end of each step, in such a plot
-unfoldable pub spread_chart : List ℕ → ℕ → ℕ → ℕ → List ℕ → List ℕ → List ℕ
-spread_chart name width most step suspected dead =
+unfoldable pub spread_chart : Option Tick → List ℕ → ℕ → ℕ → ℕ → List ℕ → List ℕ → List ℕ
+spread_chart time name width most step suspected dead =
     chart_opening name width most ++ line (codes "suspect") suspected step most ++ line (codes "dead") dead step most
-    ++ plot_end ++ axis_across width (codes "ticks since the crash") ++ codes "</div>"
+    ++ plot_end ++ time_across time width (codes "ticks since the crash") ++ codes "</div>"
 
 -- a time, a dash where there is none
-abbrev pub time_cell : Option ℕ → List ℕ
-time_cell (Some time) = codes "<td>" ++ grouped time
-time_cell None = codes "<td>" ++ codes "-"
+abbrev pub time_cell : Option Tick → Option ℕ → List ℕ
+time_cell time (Some after) = codes "<td>" ++ time_text time after
+time_cell time None = codes "<td>" ++ codes "-"
 
 -- the times of shares, behind some words
-unfoldable pub share_cells : ShareTimes → List ℕ
-share_cells shares = time_cell shares.first ++ time_cell shares.half ++ time_cell shares.nine_tenths ++ time_cell shares.nearly_all ++ time_cell shares.all
+unfoldable pub share_cells : Option Tick → ShareTimes → List ℕ
+share_cells time shares = time_cell time shares.first ++ time_cell time shares.half ++ time_cell time shares.nine_tenths ++ time_cell time shares.nearly_all ++ time_cell time shares.all
 
-unfoldable pub share_row : List ℕ → ShareTimes → List ℕ
-share_row words shares = codes "<tr><td>" ++ words ++ share_cells shares
+unfoldable pub share_row : Option Tick → List ℕ → ShareTimes → List ℕ
+share_row time words shares = codes "<tr><td>" ++ words ++ share_cells time shares
 
 -- after which times shares of those who stay had suspected the member, and declared it dead
-unfoldable pub share_table : ShareTimes → ShareTimes → List ℕ
-share_table suspected dead =
+unfoldable pub share_table : Option Tick → ShareTimes → ShareTimes → List ℕ
+share_table time suspected dead =
     codes "<div class=\"wide\"><table><tr><th>of those up<th>first" ++ codes "<th>50 %<th>90 %<th>99 %<th>all</tr>"
-    ++ share_row (codes "suspected it after") suspected ++ share_row (codes "declared it dead after") dead ++ codes "</table></div>"
+    ++ share_row time (codes "suspected it after") suspected ++ share_row time (codes "declared it dead after") dead ++ codes "</table></div>"
 
 -- what is shown of the crash of a member of that name, where so many stay
-unfoldable pub crash_part : List ℕ → ℕ → ℕ → List ℕ → ShareTimes → List ℕ → ShareTimes → List ℕ
-crash_part name staying step suspected suspecting dead confirming =
+unfoldable pub crash_part : Option Tick → List ℕ → ℕ → ℕ → List ℕ → ShareTimes → List ℕ → ShareTimes → List ℕ
+crash_part time name staying step suspected suspecting dead confirming =
     codes "<div><h3>" ++ escaped name ++ codes "</h3>"
-    ++ spread_chart name (axis_height (step_start step 120)) (axis_height staying) step suspected dead
-    ++ share_table suspecting confirming ++ codes "</div>\n"
+    ++ spread_chart time name (axis_height (step_start step 120)) (axis_height staying) step suspected dead
+    ++ share_table time suspecting confirming ++ codes "</div>\n"
 
 -- the same by when members suspected it and when they declared it dead
-abbrev pub crash_text : Setup → List ℕ → ℕ → (ℕ → Option ℕ) → (ℕ → Option ℕ) → List ℕ
-crash_text s name step suspected dead =
-    crash_part name (staying s) step (reached (times s suspected) step) (shares (staying s) (times s suspected)) (reached (times s dead) step) (shares (staying s) (times s dead))
+abbrev pub crash_text : Option Tick → Setup → List ℕ → ℕ → (ℕ → Option ℕ) → (ℕ → Option ℕ) → List ℕ
+crash_text time s name step suspected dead =
+    crash_part time name (staying s) step (reached (times s suspected) step) (shares (staying s) (times s suspected)) (reached (times s dead) step) (shares (staying s) (times s dead))
 
 -- what is shown of a member that crashes at a moment, and of any member: nothing where its crash isn't watched
-abbrev pub told_crash : Setup → List Row → ℕ → ℕ → ℕ → List ℕ
-told_crash s rows step member from = crash_text s (name_of s member) step (told_after rows what.Suspect member from) (told_after rows what.Confirm member from)
+abbrev pub told_crash : Option Tick → Setup → List Row → ℕ → ℕ → ℕ → List ℕ
+told_crash time s rows step member from = crash_text time s (name_of s member) step (told_after rows what.Suspect member from) (told_after rows what.Confirm member from)
 
-abbrev pub watched_crash : Setup → List Row → ℕ → ℕ → List ℕ
-watched_crash s rows step member = option_map_or (told_crash s rows step member) (watched s member) []
+abbrev pub watched_crash : Option Tick → Setup → List Row → ℕ → ℕ → List ℕ
+watched_crash time s rows step member = option_map_or (told_crash time s rows step member) (watched s member) []
 
 -- what the colours stand for, and what is counted
 unfoldable pub spread_legend : List ℕ
@@ -144,11 +145,11 @@ unfoldable pub unwatched_words : ℕ → List ℕ
 unwatched_words crashed = if nat_le crashed 12 then [] else codes "<p class=\"soft\">" ++ decimal (crashed - 12) ++ codes " more crashed; these are the first 12 by number.</p>"
 
 -- the figure, in steps so long
-unfoldable pub spread_figure : Setup → List Row → ℕ → List ℕ
-spread_figure s rows step =
+unfoldable pub spread_figure : Option Tick → Setup → List Row → ℕ → List ℕ
+spread_figure time s rows step =
     figure_opening (codes "spread") (codes "How the news of a crash spread") ++ spread_legend ++ unwatched_words (crashed s (member_count s))
-    ++ codes "<div class=\"many\">" ++ flat_map (watched_crash s rows step) (range_with_len 0 (member_count s)) ++ codes "</div>" ++ figure_end
+    ++ codes "<div class=\"many\">" ++ flat_map (watched_crash time s rows step) (range_with_len 0 (member_count s)) ++ codes "</div>" ++ figure_end
 
 -- the same, where somebody crashes: 120 steps hold the longest time
-abbrev pub spread_text : Setup → List Row → List ℕ
-spread_text s rows = if nat_eq (crashed s (member_count s)) 0 then [] else spread_figure s rows (longest s rows / 120 + 1)
+abbrev pub spread_text : Option Tick → Setup → List Row → List ℕ
+spread_text time s rows = if nat_eq (crashed s (member_count s)) 0 then [] else spread_figure time s rows (longest s rows / 120 + 1)

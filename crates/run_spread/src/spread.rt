@@ -12,12 +12,13 @@ ghost use Rattle.run_spread.specs.Spread.{learned, staying, chart_opening, sprea
 use crate::news::{Heard, STEPS, ShareTimes, crashed, longest, news, staying};
 use base::{MemberId, Memory, Moment};
 use drawing::{
-    close_figure, close_plot, open_figure, open_plot, push_across, push_entry, push_escaped,
-    push_grouped, push_line, push_up,
+    close_figure, close_plot, open_figure, open_plot, push_entry, push_escaped, push_line,
+    push_time_across, push_timed, push_up,
 };
 use member_timelines::{Run, axis_height};
 use series::Spread;
 use std::alloc::{AllocError, Global};
+use ticks::Tick;
 
 /// The most crashes that are watched.
 const WATCHED: u64 = 12;
@@ -25,7 +26,7 @@ const WATCHED: u64 = 12;
 /// Appends how the news of each crash spread that is watched, where somebody crashes.
 pub fn push_spread(alloc: Global, text: &mut String, run: &Run) -> Result<(), Memory>
     requires { IsTold run.now }
-    ensures { OnOk result (string_bytes text.new ≡ string_bytes text.old ++ spread_text run.now.scenario.now run.now.tallies.now) }
+    ensures { OnOk result (string_bytes text.new ≡ string_bytes text.old ++ spread_text run.now.tick run.now.scenario.now run.now.tallies.now) }
 {
     if crashed(run) == 0 {
         return Ok(());
@@ -37,7 +38,7 @@ pub fn push_spread(alloc: Global, text: &mut String, run: &Run) -> Result<(), Me
 #[tactic(auto, unfolding(crate::specs::Spread::spread_figure))]
 fn push_figure(alloc: Global, text: &mut String, run: &Run, step: u64) -> Result<(), Memory>
     requires { IsTold run.now }
-    ensures { OnOk result (string_bytes text.new ≡ string_bytes text.old ++ spread_figure run.now.scenario.now run.now.tallies.now step) }
+    ensures { OnOk result (string_bytes text.new ≡ string_bytes text.old ++ spread_figure run.now.tick run.now.scenario.now run.now.tallies.now step) }
 {
     open_figure(text, "spread", "How the news of a crash spread")?;
     push_legend(text)?;
@@ -90,7 +91,7 @@ fn push_unwatched_of(text: &mut String, crashed: u64) -> Result<(), AllocError>
 fn push_crashes(alloc: Global, text: &mut String, run: &Run, step: u64) -> Result<(), Memory>
     requires { IsTold run.now }
     ensures { OnOk result (string_bytes text.new ≡ string_bytes text.old
-        ++ flat_map (watched_crash run.now.scenario.now run.now.tallies.now step) (range_with_len 0 (member_count run.now.scenario.now))) }
+        ++ flat_map (watched_crash run.now.tick run.now.scenario.now run.now.tallies.now step) (range_with_len 0 (member_count run.now.scenario.now))) }
 {
     for number in 0..run.members() {
         push_watched(alloc, text, run, MemberId(number as u16), step)?;
@@ -108,7 +109,7 @@ fn push_watched(
 ) -> Result<(), Memory>
     requires told { IsTold run.now }
     requires within { member < member_count run.now.scenario.now }
-    ensures { OnOk result (string_bytes text.new ≡ string_bytes text.old ++ watched_crash run.now.scenario.now run.now.tallies.now step member) }
+    ensures { OnOk result (string_bytes text.new ≡ string_bytes text.old ++ watched_crash run.now.tick run.now.scenario.now run.now.tallies.now step member) }
 {
     let spread = run.story(member).spread();
     match spread.since() {
@@ -137,12 +138,12 @@ fn push_crash(
 ) -> Result<(), Memory>
     requires { IsTold run.now }
     ensures { OnOk result (string_bytes text.new ≡ string_bytes text.old
-        ++ crash_text run.now.scenario.now name.now step (learned spread.now.suspected.items from) (learned spread.now.confirmed.items from)) }
+        ++ crash_text run.now.tick run.now.scenario.now name.now step (learned spread.now.suspected.items from) (learned spread.now.confirmed.items from)) }
 {
     let staying = staying(run);
     let suspected = news(alloc, run, spread.suspected(), from, staying, step)?;
     let dead = news(alloc, run, spread.confirmed(), from, staying, step)?;
-    push_part(text, name, staying, step, &suspected, &dead)?;
+    push_part(text, run.tick, name, staying, step, &suspected, &dead)?;
     Ok(())
 }
 
@@ -150,6 +151,7 @@ fn push_crash(
 #[tactic(auto, unfolding(crate::specs::Spread::crash_part))]
 fn push_part(
     text: &mut String,
+    time: Option<Tick>,
     name: &str,
     staying: u64,
     step: u64,
@@ -157,13 +159,13 @@ fn push_part(
     dead: &Heard,
 ) -> Result<(), AllocError>
     ensures { OnOk result (string_bytes text.new ≡ string_bytes text.old
-        ++ crash_part name.now staying step suspected.now.reached.items suspected.now.shares dead.now.reached.items dead.now.shares) }
+        ++ crash_part time name.now staying step suspected.now.reached.items suspected.now.shares dead.now.reached.items dead.now.shares) }
 {
     text.push_str("<div><h3>")?;
     push_escaped(text, name)?;
     text.push_str("</h3>")?;
-    push_scaled(text, name, staying, step, suspected, dead)?;
-    push_shares(text, suspected.shares, dead.shares)?;
+    push_scaled(text, time, name, staying, step, suspected, dead)?;
+    push_shares(text, time, suspected.shares, dead.shares)?;
     text.push_str("</div>\n")?;
     Ok(())
 }
@@ -171,6 +173,7 @@ fn push_part(
 /// Appends its plot, as wide as all steps and as high as those who stay.
 fn push_scaled(
     text: &mut String,
+    time: Option<Tick>,
     name: &str,
     staying: u64,
     step: u64,
@@ -178,11 +181,12 @@ fn push_scaled(
     dead: &Heard,
 ) -> Result<(), AllocError>
     ensures { OnOk result (string_bytes text.new ≡ string_bytes text.old
-        ++ spread_chart name.now (axis_height (step_start step 120)) (axis_height staying) step suspected.now.reached.items dead.now.reached.items) }
+        ++ spread_chart time name.now (axis_height (step_start step 120)) (axis_height staying) step suspected.now.reached.items dead.now.reached.items) }
 {
     let width = axis_height(STEPS.saturating_mul(step));
     push_chart(
         text,
+        time,
         name,
         width,
         axis_height(staying),
@@ -196,6 +200,7 @@ fn push_scaled(
 #[tactic(auto, unfolding(crate::specs::Spread::spread_chart))]
 fn push_chart(
     text: &mut String,
+    time: Option<Tick>,
     name: &str,
     width: u64,
     most: u64,
@@ -206,13 +211,13 @@ fn push_chart(
     requires width { width < 2 ^ 63 }
     requires most { most < 2 ^ 63 }
     ensures { OnOk result (string_bytes text.new ≡ string_bytes text.old
-        ++ spread_chart name.now width most step suspected.now.reached.items dead.now.reached.items) }
+        ++ spread_chart time name.now width most step suspected.now.reached.items dead.now.reached.items) }
 {
     open_chart(text, name, width, most)?;
     push_reached(text, "suspect", suspected, step, most)?;
     push_reached(text, "dead", dead, step, most)?;
     close_plot(text)?;
-    push_across(text, width, "ticks since the crash")?;
+    push_time_across(text, width, "ticks since the crash", time)?;
     text.push_str("</div>")?;
     Ok(())
 }
@@ -259,48 +264,58 @@ fn push_reached(
 
 /// Appends after which times shares of those who stay had suspected the member and declared it dead.
 #[tactic(auto, unfolding(crate::specs::Spread::share_table))]
-fn push_shares(text: &mut String, suspected: ShareTimes, dead: ShareTimes) -> Result<(), AllocError>
-    ensures { OnOk result (string_bytes text.new ≡ string_bytes text.old ++ share_table suspected dead) }
+fn push_shares(
+    text: &mut String,
+    time: Option<Tick>,
+    suspected: ShareTimes,
+    dead: ShareTimes,
+) -> Result<(), AllocError>
+    ensures { OnOk result (string_bytes text.new ≡ string_bytes text.old ++ share_table time suspected dead) }
 {
     text.push_str("<div class=\"wide\"><table><tr><th>of those up<th>first")?;
     text.push_str("<th>50 %<th>90 %<th>99 %<th>all</tr>")?;
-    push_row(text, "suspected it after", suspected)?;
-    push_row(text, "declared it dead after", dead)?;
+    push_row(text, time, "suspected it after", suspected)?;
+    push_row(text, time, "declared it dead after", dead)?;
     text.push_str("</table></div>")?;
     Ok(())
 }
 
 /// Appends the times of shares, behind some words.
 #[tactic(auto, unfolding(crate::specs::Spread::share_row))]
-fn push_row(text: &mut String, words: &str, shares: ShareTimes) -> Result<(), AllocError>
-    ensures { OnOk result (string_bytes text.new ≡ string_bytes text.old ++ share_row words.now shares) }
+fn push_row(
+    text: &mut String,
+    time: Option<Tick>,
+    words: &str,
+    shares: ShareTimes,
+) -> Result<(), AllocError>
+    ensures { OnOk result (string_bytes text.new ≡ string_bytes text.old ++ share_row time words.now shares) }
 {
     text.push_str("<tr><td>")?;
     text.push_str(words)?;
-    push_times(text, shares)?;
+    push_times(text, time, shares)?;
     Ok(())
 }
 
 /// Appends the times of shares.
 #[tactic(auto, unfolding(crate::specs::Spread::share_cells))]
-fn push_times(text: &mut String, shares: ShareTimes) -> Result<(), AllocError>
-    ensures { OnOk result (string_bytes text.new ≡ string_bytes text.old ++ share_cells shares) }
+fn push_times(text: &mut String, time: Option<Tick>, shares: ShareTimes) -> Result<(), AllocError>
+    ensures { OnOk result (string_bytes text.new ≡ string_bytes text.old ++ share_cells time shares) }
 {
-    push_time(text, shares.first)?;
-    push_time(text, shares.half)?;
-    push_time(text, shares.nine_tenths)?;
-    push_time(text, shares.nearly_all)?;
-    push_time(text, shares.all)?;
+    push_time(text, time, shares.first)?;
+    push_time(text, time, shares.half)?;
+    push_time(text, time, shares.nine_tenths)?;
+    push_time(text, time, shares.nearly_all)?;
+    push_time(text, time, shares.all)?;
     Ok(())
 }
 
 /// Appends a time, a dash where there is none.
-fn push_time(text: &mut String, time: Option<u64>) -> Result<(), AllocError>
-    ensures { OnOk result (string_bytes text.new ≡ string_bytes text.old ++ time_cell time) }
+fn push_time(text: &mut String, time: Option<Tick>, after: Option<u64>) -> Result<(), AllocError>
+    ensures { OnOk result (string_bytes text.new ≡ string_bytes text.old ++ time_cell time after) }
 {
     text.push_str("<td>")?;
-    match time {
-        Some(time) => push_grouped(text, time),
+    match after {
+        Some(after) => push_timed(text, time, after),
         None => text.push_str("-"),
     }
 }

@@ -15,11 +15,14 @@ use Rattle.reports.specs.FalsePositives.{ways_to_depart, false_positives}
 use Rattle.drawing.specs.Numbers.{grouped}
 use Rattle.member_timelines.specs.Numbers.{by_number}
 use Rattle.member_timelines.specs.Wrongly.{count_out}
+use Rattle.drawing.specs.Lengths.{lasting}
+use Rattle.drawing.specs.Lengths.{time_text}
+use Rattle.ticks.specs.declared.tick.Tick.{Tick}
 
 -- how large the cluster is and how long it ran
-unfoldable pub size_words : Setup → List ℕ
-size_words s =
-    grouped (member_count s) ++ by_number (member_count s) (codes " member, ") (codes " members, ") ++ grouped s.end ++ by_number s.end (codes " tick. ") (codes " ticks. ")
+unfoldable pub size_words : Option Tick → Setup → List ℕ
+size_words time s =
+    grouped (member_count s) ++ by_number (member_count s) (codes " member, ") (codes " members, ") ++ grouped s.end ++ by_number s.end (codes " tick") (codes " ticks") ++ lasting time s.end ++ codes ". "
 
 -- how many crashed
 unfoldable pub crashed_words : ℕ → List ℕ
@@ -36,28 +39,28 @@ found_words count found =
     else if nat_lt found count then some_found found else []
 
 -- the greatest time, where it is another than the least
-abbrev pub greatest_words : ℕ → ℕ → List ℕ
-greatest_words least greatest = if nat_lt least greatest then codes " to " ++ grouped greatest else []
+abbrev pub greatest_words : Option Tick → ℕ → ℕ → List ℕ
+greatest_words time least greatest = if nat_lt least greatest then codes " to " ++ time_text time greatest else []
 
 -- how soon: between these times
-unfoldable pub between_words : ℕ → ℕ → List ℕ
-between_words least greatest = codes ": first declared dead after " ++ grouped least ++ greatest_words least greatest ++ codes " ticks. "
+unfoldable pub between_words : Option Tick → ℕ → ℕ → List ℕ
+between_words time least greatest = codes ": first declared dead after " ++ time_text time least ++ greatest_words time least greatest ++ codes " ticks. "
 
 -- the same, where some were detected
-unfoldable pub latency_words : Option ℕ → Option ℕ → List ℕ
-latency_words (Some least) (Some greatest) = between_words least greatest
-latency_words _ _ = []
+unfoldable pub latency_words : Option Tick → Option ℕ → Option ℕ → List ℕ
+latency_words time (Some least) (Some greatest) = between_words time least greatest
+latency_words time _ _ = []
 
 -- somebody confirmed that the member had failed
 abbrev pub is_found : Departure → Bool
 is_found crash = is_some crash.detection.confirm
 
 -- how many crashed, and how soon they were detected
-unfoldable pub crash_words : List Departure → List ℕ
-crash_words crashes =
+unfoldable pub crash_words : Option Tick → List Departure → List ℕ
+crash_words time crashes =
     if nat_eq (length crashes) 0 then codes "Nobody crashed. "
     else crashed_words (length crashes) ++ found_words (length crashes) (count_by is_found crashes)
-    ++ latency_words (reduce min (latencies_of crashes)) (reduce max (latencies_of crashes))
+    ++ latency_words time (reduce min (latencies_of crashes)) (reduce max (latencies_of crashes))
 
 -- how many members have a false death
 unfoldable pub out_words : ℕ → List ℕ
@@ -111,11 +114,11 @@ unfoldable pub figures : Version → ℕ → List Row → List ℕ
 figures version out rows = first_figures_of out rows ++ back_figure version rows ++ last_figures_of rows
 
 -- what happened, where so many members have a false death
-unfoldable pub summary_of : Setup → ℕ → List Row → List ℕ
-summary_of s out rows =
-    codes "<p class=\"lead\">" ++ size_words s ++ crash_words (crashes_of rows) ++ out_words out
+unfoldable pub summary_of : Option Tick → Setup → ℕ → List Row → List ℕ
+summary_of time s out rows =
+    codes "<p class=\"lead\">" ++ size_words time s ++ crash_words time (crashes_of rows) ++ out_words out
     ++ codes "</p><ul class=\"figures\">" ++ figures s.version out rows ++ codes "</ul>\n"
 
 -- what happened
-abbrev pub summary_text : Setup → List Row → List ℕ
-summary_text s rows = summary_of s (count_out (member_count s) rows) rows
+abbrev pub summary_text : Option Tick → Setup → List Row → List ℕ
+summary_text time s rows = summary_of time s (count_out (member_count s) rows) rows

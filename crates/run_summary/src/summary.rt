@@ -4,6 +4,7 @@ ghost use Rattle.std.specs.String.{string_bytes};
 ghost use Rattle.std.specs.List.{reduce};
 ghost use Rattle.scenario.specs.Setup.{member_count};
 ghost use Rattle.reports.specs.Departures.{crashes_of, latencies_of};
+ghost use Rattle.drawing.specs.Lengths.{time_text};
 ghost use Rattle.drawing.specs.Numbers.{grouped};
 ghost use Rattle.member_timelines.specs.Numbers.{by_number};
 ghost use Rattle.member_timelines.specs.Run.{IsTold};
@@ -11,17 +12,18 @@ ghost use Rattle.member_timelines.specs.Wrongly.{count_out};
 ghost use Rattle.run_summary.specs.Summary.{size_words, crashed_words, some_found, found_words, greatest_words, between_words, latency_words, is_found, crash_words, out_words, figure_start, figure, out_class, back_figure, first_figures, first_figures_of, last_figures, last_figures_of, figures, summary_of, summary_text};
 
 use base::Memory;
-use drawing::push_grouped;
+use drawing::{push_grouped, push_lasting, push_timed};
 use member_timelines::{Run, by_number, claims_by_member};
 use reports::{Departure, Tallies, false_positive_count};
 use scenario::Version;
 use std::alloc::{AllocError, Global};
+use ticks::Tick;
 use trace::What;
 
 /// Appends what happened.
 pub fn push_summary(alloc: Global, text: &mut String, run: &Run) -> Result<(), Memory>
     requires { IsTold run.now }
-    ensures { OnOk result (string_bytes text.new ≡ string_bytes text.old ++ summary_text run.now.scenario.now run.now.tallies.now) }
+    ensures { OnOk result (string_bytes text.new ≡ string_bytes text.old ++ summary_text run.now.tick run.now.scenario.now run.now.tallies.now) }
 {
     let out = members_out(alloc, run)?;
     push_all(text, run, out)?;
@@ -49,11 +51,11 @@ fn count_some(numbers: &[u64]) -> u64
 #[tactic(auto, unfolding(crate::specs::Summary::summary_of))]
 fn push_all(text: &mut String, run: &Run, out: u64) -> Result<(), AllocError>
     requires { IsTold run.now }
-    ensures { OnOk result (string_bytes text.new ≡ string_bytes text.old ++ summary_of run.now.scenario.now out run.now.tallies.now) }
+    ensures { OnOk result (string_bytes text.new ≡ string_bytes text.old ++ summary_of run.now.tick run.now.scenario.now out run.now.tallies.now) }
 {
     text.push_str("<p class=\"lead\">")?;
     push_size(text, run)?;
-    push_crashes(text, run.tallies.crashes())?;
+    push_crashes(text, run.tick, run.tallies.crashes())?;
     push_out(text, out)?;
     text.push_str("</p><ul class=\"figures\">")?;
     push_figures(text, run.scenario.version(), run.tallies, out)?;
@@ -65,10 +67,12 @@ fn push_all(text: &mut String, run: &Run, out: u64) -> Result<(), AllocError>
 #[tactic(auto, unfolding(crate::specs::Summary::size_words))]
 fn push_size(text: &mut String, run: &Run) -> Result<(), AllocError>
     requires { IsTold run.now }
-    ensures { OnOk result (string_bytes text.new ≡ string_bytes text.old ++ size_words run.now.scenario.now) }
+    ensures { OnOk result (string_bytes text.new ≡ string_bytes text.old ++ size_words run.now.tick run.now.scenario.now) }
 {
     push_with(text, run.members() as u64, " member, ", " members, ")?;
-    push_with(text, run.end(), " tick. ", " ticks. ")?;
+    push_with(text, run.end(), " tick", " ticks")?;
+    push_lasting(text, run.tick, run.end())?;
+    text.push_str(". ")?;
     Ok(())
 }
 
@@ -82,8 +86,12 @@ fn push_with(text: &mut String, number: u64, one: &str, several: &str) -> Result
 
 /// Appends how many crashed, and how soon they were detected.
 #[tactic(auto, unfolding(crate::specs::Summary::crash_words))]
-fn push_crashes(text: &mut String, crashes: &[Departure]) -> Result<(), AllocError>
-    ensures { OnOk result (string_bytes text.new ≡ string_bytes text.old ++ crash_words crashes.now) }
+fn push_crashes(
+    text: &mut String,
+    time: Option<Tick>,
+    crashes: &[Departure],
+) -> Result<(), AllocError>
+    ensures { OnOk result (string_bytes text.new ≡ string_bytes text.old ++ crash_words time crashes.now) }
 {
     if crashes.is_empty() {
         return text.push_str("Nobody crashed. ");
@@ -91,7 +99,12 @@ fn push_crashes(text: &mut String, crashes: &[Departure]) -> Result<(), AllocErr
     let count = crashes.len();
     push_crashed(text, count)?;
     push_found(text, count, count_found(crashes))?;
-    push_latencies(text, least_latency(crashes), greatest_latency(crashes))
+    push_latencies(
+        text,
+        time,
+        least_latency(crashes),
+        greatest_latency(crashes),
+    )
 }
 
 /// Appends how many crashed.
@@ -160,10 +173,11 @@ fn greatest_latency(crashes: &[Departure]) -> Option<u64>
 #[tactic(auto, unfolding(crate::specs::Summary::latency_words))]
 fn push_latencies(
     text: &mut String,
+    time: Option<Tick>,
     least: Option<u64>,
     greatest: Option<u64>,
 ) -> Result<(), AllocError>
-    ensures { OnOk result (string_bytes text.new ≡ string_bytes text.old ++ latency_words least greatest) }
+    ensures { OnOk result (string_bytes text.new ≡ string_bytes text.old ++ latency_words time least greatest) }
 {
     let Some(least) = least else {
         return Ok(());
@@ -171,37 +185,47 @@ fn push_latencies(
     let Some(greatest) = greatest else {
         return Ok(());
     };
-    push_between(text, least, greatest)
+    push_between(text, time, least, greatest)
 }
 
 /// Appends between which times crashes were detected.
 #[tactic(auto, unfolding(crate::specs::Summary::between_words))]
-fn push_between(text: &mut String, least: u64, greatest: u64) -> Result<(), AllocError>
-    ensures { OnOk result (string_bytes text.new ≡ string_bytes text.old ++ between_words least greatest) }
+fn push_between(
+    text: &mut String,
+    time: Option<Tick>,
+    least: u64,
+    greatest: u64,
+) -> Result<(), AllocError>
+    ensures { OnOk result (string_bytes text.new ≡ string_bytes text.old ++ between_words time least greatest) }
 {
     text.push_str(": first declared dead after ")?;
-    push_grouped(text, least)?;
-    push_greatest(text, least, greatest)?;
+    push_timed(text, time, least)?;
+    push_greatest(text, time, least, greatest)?;
     text.push_str(" ticks. ")?;
     Ok(())
 }
 
 /// Appends the greatest time, where it is another than the least.
-fn push_greatest(text: &mut String, least: u64, greatest: u64) -> Result<(), AllocError>
-    ensures { OnOk result (string_bytes text.new ≡ string_bytes text.old ++ greatest_words least greatest) }
+fn push_greatest(
+    text: &mut String,
+    time: Option<Tick>,
+    least: u64,
+    greatest: u64,
+) -> Result<(), AllocError>
+    ensures { OnOk result (string_bytes text.new ≡ string_bytes text.old ++ greatest_words time least greatest) }
 {
     if greatest > least {
-        return push_to(text, greatest);
+        return push_to(text, time, greatest);
     }
     Ok(())
 }
 
 /// Appends up to which time.
-fn push_to(text: &mut String, greatest: u64) -> Result<(), AllocError>
-    ensures { OnOk result (string_bytes text.new ≡ string_bytes text.old ++ (codes " to " ++ grouped greatest)) }
+fn push_to(text: &mut String, time: Option<Tick>, greatest: u64) -> Result<(), AllocError>
+    ensures { OnOk result (string_bytes text.new ≡ string_bytes text.old ++ (codes " to " ++ time_text time greatest)) }
 {
     text.push_str(" to ")?;
-    push_grouped(text, greatest)?;
+    push_timed(text, time, greatest)?;
     Ok(())
 }
 

@@ -5,12 +5,14 @@ use Rattle.sweep_plan.specs.Settings.{settings_of, choices_text}
 use Rattle.sweep_plan.specs.Sweep.{KeyValues}
 use Rattle.sweep_plan.specs.declared.choice.Choice.{Choice}
 use Rattle.drawing.specs.Escaped.{escaped, markup}
+use Rattle.drawing.specs.Lengths.{time_text}
 use Rattle.drawing.specs.Numbers.{grouped}
 use Rattle.figures.specs.declared.summary.SettingSummary.{SettingSummary}
+use Rattle.ticks.specs.declared.tick.Tick.{Tick}
 
--- a time in ticks, or a dash where there is none
-unfoldable pub time_words : Option ℕ → List ℕ
-time_words time = option_map_or grouped time (codes "-")
+-- a time in ticks, and how long it lasts where that is known, or a dash where there is none
+unfoldable pub time_words : Option Tick → Option ℕ → List ℕ
+time_words time ticks = option_map_or (time_text time) ticks (codes "-")
 
 -- a whole number of percent
 unfoldable pub whole_percent : ℕ → List ℕ

@@ -6,18 +6,24 @@ ghost use Rattle.sweep_cells.specs.Cells.{cell, time_cell};
 ghost use Rattle.sweep_cells.specs.Words.{time_words, whole_percent, tenth_percent, percent_words, hundredths_words, rate_words, runs_words, deaths_words, count_words, noun_words, interval_words, number_words, swept_keys_words, swept_keys_at, thousandths, share_of};
 
 use base::Memory;
-use drawing::{push_escaped, push_grouped, push_markup};
+use drawing::{push_escaped, push_grouped, push_markup, push_timed};
 use figures::SettingSummary;
 use std::alloc::{AllocError, Global};
 use sweep_plan::{Choice, Plan, choices_text};
+use ticks::Tick;
 
-/// Appends a time in ticks, or a dash where there is none.
+/// Appends a time in ticks, and how long it lasts where it is known how long a tick does; a dash where there is
+/// none.
 #[tactic(auto, unfolding(crate::specs::Words::time_words))]
-pub fn push_time(text: &mut String, time: Option<u64>) -> Result<(), AllocError>
-    ensures { OnOk result (string_bytes text.new ≡ string_bytes text.old ++ time_words time) }
+pub fn push_time(
+    text: &mut String,
+    time: Option<Tick>,
+    ticks: Option<u64>,
+) -> Result<(), AllocError>
+    ensures { OnOk result (string_bytes text.new ≡ string_bytes text.old ++ time_words time ticks) }
 {
-    match time {
-        Some(ticks) => push_grouped(text, ticks),
+    match ticks {
+        Some(ticks) => push_timed(text, time, ticks),
         None => text.push_str("-"),
     }
 }
@@ -206,12 +212,17 @@ pub fn push_cell(text: &mut String, words: &str) -> Result<(), AllocError>
     push_markup(text, "</td>")
 }
 
-/// Appends a cell with a time in ticks, or a dash where there is none.
+/// Appends a cell with a time in ticks, and how long it lasts where it is known how long a tick does; a dash
+/// where there is none.
 #[tactic(auto, unfolding(crate::specs::Cells::time_cell))]
-pub fn push_time_cell(text: &mut String, time: Option<u64>) -> Result<(), AllocError>
-    ensures { OnOk result (string_bytes text.new ≡ string_bytes text.old ++ time_cell time) }
+pub fn push_time_cell(
+    text: &mut String,
+    time: Option<Tick>,
+    ticks: Option<u64>,
+) -> Result<(), AllocError>
+    ensures { OnOk result (string_bytes text.new ≡ string_bytes text.old ++ time_cell time ticks) }
 {
     push_markup(text, "<td>")?;
-    push_time(text, time)?;
+    push_time(text, time, ticks)?;
     push_markup(text, "</td>")
 }

@@ -89,16 +89,16 @@ pub record StoresPaged (tree : Data) (mark : List ℕ) (sweep : SweepWords) (rel
   pub told : AreSummedUp sweep.plan.until sweep.plan made settings
   pub text : TellsSettings sweep.jsonl (counts_revived tree) sweep.plan sweep.wants.items settings lines
   pub shown : List ℕ
-  pub is : IsSweepPage sweep.file.now release sweep.plan sweep.wants.items settings shown
+  pub is : IsSweepPage sweep.tick sweep.file.now release sweep.plan sweep.wants.items settings shown
   pub paged : HoldsNow (before page) (after page) shown
   pub others : KeepsAllOthers before after sweep.table.now page
 
 -- a page of the settings was appended; or a beginning of one, or nothing
 abbrev pub WritesPage : SweepWords → List ℕ → List SettingSummary → Option (List ℕ) → Option (List ℕ) → Type 0
-WritesPage sweep release settings old new = (text : List ℕ) × IsSweepPage sweep.file.now release sweep.plan sweep.wants.items settings text × Appends old new text
+WritesPage sweep release settings old new = (text : List ℕ) × IsSweepPage sweep.tick sweep.file.now release sweep.plan sweep.wants.items settings text × Appends old new text
 
 abbrev pub BeginsPage : SweepWords → List ℕ → List SettingSummary → Option (List ℕ) → Option (List ℕ) → Type 0
-BeginsPage sweep release settings old new = Keeps old new ⊎ ((text : List ℕ) × IsSweepPage sweep.file.now release sweep.plan sweep.wants.items settings text × AppendsBeginning old new text)
+BeginsPage sweep release settings old new = Keeps old new ⊎ ((text : List ℕ) × IsSweepPage sweep.tick sweep.file.now release sweep.plan sweep.wants.items settings text × AppendsBeginning old new text)
 
 -- the same of what was appended to what was held
 pub record MakesPaged (tree : Data) (mark : List ℕ) (sweep : SweepWords) (release : List ℕ) (old new page_old page_new : Option (List ℕ)) (lines : List ℕ) : Type 0 where
@@ -109,7 +109,7 @@ pub record MakesPaged (tree : Data) (mark : List ℕ) (sweep : SweepWords) (rele
 
 -- a text is a page of the settings of these runs
 abbrev pub IsPageOfRuns : (sweep : SweepWords) → RunsBy sweep.plan.until → List ℕ → Type 0
-IsPageOfRuns sweep made text = (release : List ℕ) × (settings : List SettingSummary) × AreSummedUp sweep.plan.until sweep.plan made settings × IsSweepPage sweep.file.now release sweep.plan sweep.wants.items settings text
+IsPageOfRuns sweep made text = (release : List ℕ) × (settings : List SettingSummary) × AreSummedUp sweep.plan.until sweep.plan made settings × IsSweepPage sweep.tick sweep.file.now release sweep.plan sweep.wants.items settings text
 
 -- a beginning was appended: of the table, and nothing of a page; or the whole table, and a beginning of a page
 pub record BeginsPaged (tree : Data) (mark : List ℕ) (sweep : SweepWords) (old new page_old page_new : Option (List ℕ)) : Type 0 where

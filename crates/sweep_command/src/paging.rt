@@ -177,6 +177,7 @@ fn write_page<U: Sink>(
     let shown = SweepShown {
         name: words.file,
         release: release.version,
+        tick: words.tick,
     };
     let text = settings_page(alloc, &shown, &words.plan, &words.wants, settings)?;
     match put_text(text.as_bytes(), out) {

@@ -7,7 +7,7 @@ use Rattle.sweep_plan.specs.Asked.{names_text, values_text}
 use Rattle.sweep_plan.specs.Axes.{axes_of, place_count}
 use Rattle.sweep_plan.specs.Sweep.{KeyValues, setting_count}
 use Rattle.sweep_plan.specs.declared.choice.Choice.{Choice}
-use Rattle.drawing.specs.Axes.{axis_up}
+use Rattle.drawing.specs.Axes.{time_up}
 use Rattle.drawing.specs.Escaped.{escaped, markup}
 use Rattle.drawing.specs.Numbers.{place as place_on}
 use Rattle.drawing.specs.Shapes.{figure_opening, figure_end, plot_opening, plot_end}
@@ -19,6 +19,7 @@ use Rattle.sweep_cells.specs.Words.{count_words, swept_keys_words}
 use Rattle.sweep_keys.specs.declared.lines.KeyLines.{KeyLines}
 use Rattle.sweep_keys.specs.declared.statistic.Statistic.{Statistic}
 use Rattle.sweep_keys.specs.declared.statistic.Statistic.TheVariants.{Suspected, Confirmed, Last}
+use Rattle.ticks.specs.declared.tick.Tick.{Tick}
 
 -- the choices of a setting but those for so many keys from a place on
 abbrev pub without : ℕ → ℕ → List Choice → List Choice
@@ -163,40 +164,40 @@ lines_plane settings k s most =
     markup (codes "<div class=\"plane\">") ++ lines_opening k most s ++ flat_map (line_over settings k s most) (range_with_len 0 k.lines) ++ plot_end ++ markup (codes "</div>")
 
 -- a chart of a statistic over the values
-unfoldable pub key_chart : List SettingSummary → KeyLines → List KeyValues → Statistic → List ℕ
-key_chart settings k axis s =
-    chart_opening s ++ axis_up (plot_height settings k s) ++ lines_plane settings k s (plot_height settings k s) ++ values_under k axis ++ markup (codes "</div></div>")
+unfoldable pub key_chart : Option Tick → List SettingSummary → KeyLines → List KeyValues → Statistic → List ℕ
+key_chart time settings k axis s =
+    chart_opening s ++ time_up time (plot_height settings k s) ++ lines_plane settings k s (plot_height settings k s) ++ values_under k axis ++ markup (codes "</div></div>")
 
 -- what is drawn of a setting, in cells
-unfoldable pub drawn_times : Statistic → SettingSummary → List ℕ
-drawn_times s setting = time_cell (early s setting) ++ time_cell (median s setting) ++ time_cell (late s setting)
+unfoldable pub drawn_times : Option Tick → Statistic → SettingSummary → List ℕ
+drawn_times time s setting = time_cell time (early s setting) ++ time_cell time (median s setting) ++ time_cell time (late s setting)
 
 -- the times of a setting, in cells
-unfoldable pub times_of : SettingSummary → List ℕ
-times_of setting = drawn_times Suspected setting ++ drawn_times Confirmed setting ++ time_cell setting.confirm_p99 ++ drawn_times Last setting ++ time_cell setting.last_greatest
+unfoldable pub times_of : Option Tick → SettingSummary → List ℕ
+times_of time setting = drawn_times time Suspected setting ++ drawn_times time Confirmed setting ++ time_cell time setting.confirm_p99 ++ drawn_times time Last setting ++ time_cell time setting.last_greatest
 
 -- those of a line's setting with the value at a place
-unfoldable pub times_over : List SettingSummary → KeyLines → ℕ → ℕ → List ℕ
-times_over settings k line place = option_map_or times_of (setting_over settings k line place) []
+unfoldable pub times_over : Option Tick → List SettingSummary → KeyLines → ℕ → ℕ → List ℕ
+times_over time settings k line place = option_map_or (times_of time) (setting_over settings k line place) []
 
 -- the row of a line's setting with the values at a place: these, the other keys' values, and the times
-unfoldable pub key_row : List KeyValues → List SettingSummary → KeyLines → ℕ → List KeyValues → ℕ → ℕ → List ℕ
-key_row swept_keys settings k key axis line place =
+unfoldable pub key_row : Option Tick → List KeyValues → List SettingSummary → KeyLines → ℕ → List KeyValues → ℕ → ℕ → List ℕ
+key_row time swept_keys settings k key axis line place =
     markup (codes "<tr>") ++ cell (values_text axis place) ++ markup (codes "<td>") ++ others_at swept_keys key k.keys (setting_place k line place) ++ markup (codes "</td>")
-    ++ times_over settings k line place ++ markup (codes "</tr>")
+    ++ times_over time settings k line place ++ markup (codes "</tr>")
 
 -- what the columns are
 unfoldable pub key_heads : List ℕ
 key_heads = codes "<details><summary>These figures in numbers</summary><div class=\"wide\"><table><caption>What is drawn, in ticks</caption><thead><tr><th scope=\"col\">value</th><th scope=\"col\">other keys</th><th scope=\"col\">suspected, 5th percentile</th><th scope=\"col\">suspected, median</th><th scope=\"col\">suspected, 95th percentile</th><th scope=\"col\">confirmed, 5th percentile</th><th scope=\"col\">confirmed, median</th><th scope=\"col\">confirmed, 95th percentile</th><th scope=\"col\">confirmed, 99th percentile</th><th scope=\"col\">last confirmed, 5th percentile</th><th scope=\"col\">last confirmed, median</th><th scope=\"col\">last confirmed, 95th percentile</th><th scope=\"col\">last confirmed, greatest</th></tr></thead><tbody>"
 
 -- the rows of a line
-unfoldable pub line_rows : List KeyValues → List SettingSummary → KeyLines → ℕ → List KeyValues → ℕ → List ℕ
-line_rows swept_keys settings k key axis line = flat_map (key_row swept_keys settings k key axis line) (range_with_len 0 (place_count axis))
+unfoldable pub line_rows : Option Tick → List KeyValues → List SettingSummary → KeyLines → ℕ → List KeyValues → ℕ → List ℕ
+line_rows time swept_keys settings k key axis line = flat_map (key_row time swept_keys settings k key axis line) (range_with_len 0 (place_count axis))
 
 -- the figures of an axis in numbers, folded
-unfoldable pub key_table : List KeyValues → List SettingSummary → KeyLines → ℕ → List KeyValues → List ℕ
-key_table swept_keys settings k key axis =
-    key_heads ++ flat_map (line_rows swept_keys settings k key axis) (range_with_len 0 k.lines) ++ markup (codes "</tbody></table></div></details>")
+unfoldable pub key_table : Option Tick → List KeyValues → List SettingSummary → KeyLines → ℕ → List KeyValues → List ℕ
+key_table time swept_keys settings k key axis =
+    key_heads ++ flat_map (line_rows time swept_keys settings k key axis) (range_with_len 0 k.lines) ++ markup (codes "</tbody></table></div></details>")
 
 -- by which name a key's figure is found
 abbrev pub key_id : ℕ → List ℕ
@@ -215,14 +216,14 @@ unfoldable pub key_opening : ℕ → List KeyValues → List ℕ
 key_opening key axis = figure_opening (key_id key) (key_heading axis) ++ marks_words
 
 -- its charts
-unfoldable pub key_charts : List SettingSummary → KeyLines → List KeyValues → List ℕ
-key_charts settings k axis =
-    markup (codes "<div class=\"many\">") ++ key_chart settings k axis Suspected ++ key_chart settings k axis Confirmed ++ key_chart settings k axis Last ++ markup (codes "</div>")
+unfoldable pub key_charts : Option Tick → List SettingSummary → KeyLines → List KeyValues → List ℕ
+key_charts time settings k axis =
+    markup (codes "<div class=\"many\">") ++ key_chart time settings k axis Suspected ++ key_chart time settings k axis Confirmed ++ key_chart time settings k axis Last ++ markup (codes "</div>")
 
 -- the figure of an axis with these lines, whose first key stands at a place: what the lines are, the charts, and the same in numbers
-unfoldable pub key_figure : List KeyValues → List SettingSummary → KeyLines → ℕ → List KeyValues → List ℕ
-key_figure swept_keys settings k key axis =
-    key_opening key axis ++ legend swept_keys k key ++ key_charts settings k axis ++ key_table swept_keys settings k key axis ++ figure_end
+unfoldable pub key_figure : Option Tick → List KeyValues → List SettingSummary → KeyLines → ℕ → List KeyValues → List ℕ
+key_figure time swept_keys settings k key axis =
+    key_opening key axis ++ legend swept_keys k key ++ key_charts time settings k axis ++ key_table time swept_keys settings k key axis ++ figure_end
 
 -- the lines over it: what stands for each value of the keys before is shared out among its own
 abbrev pub lines_of : List KeyValues → List SettingSummary → ℕ → List KeyValues → KeyLines
@@ -230,14 +231,14 @@ lines_of swept_keys settings key axis =
     key_lines (length axis) (place_count axis) (shared_out (length settings) (take key swept_keys) / max (place_count axis) 1) (length settings)
 
 -- a figure, where the axis has more values than one
-unfoldable pub key_figure_of : List KeyValues → List SettingSummary → ℕ → List KeyValues → List ℕ
-key_figure_of swept_keys settings key axis = if nat_le 2 (place_count axis) then key_figure swept_keys settings (lines_of swept_keys settings key axis) key axis else []
+unfoldable pub key_figure_of : Option Tick → List KeyValues → List SettingSummary → ℕ → List KeyValues → List ℕ
+key_figure_of time swept_keys settings key axis = if nat_le 2 (place_count axis) then key_figure time swept_keys settings (lines_of swept_keys settings key axis) key axis else []
 
 -- those of axes, the first of which begins at the key at a place
-abbrev pub figures_from : List KeyValues → List SettingSummary → ℕ → List (List KeyValues) → List ℕ
-figures_from swept_keys settings key [] = []
-figures_from swept_keys settings key (axis ∷ axes) = key_figure_of swept_keys settings key axis ++ figures_from swept_keys settings (key + length axis) axes
+abbrev pub figures_from : Option Tick → List KeyValues → List SettingSummary → ℕ → List (List KeyValues) → List ℕ
+figures_from time swept_keys settings key [] = []
+figures_from time swept_keys settings key (axis ∷ axes) = key_figure_of time swept_keys settings key axis ++ figures_from time swept_keys settings (key + length axis) axes
 
 -- the figures of all axes
-unfoldable pub key_figures : List KeyValues → List SettingSummary → List ℕ
-key_figures swept_keys settings = figures_from swept_keys settings 0 (axes_of swept_keys)
+unfoldable pub key_figures : Option Tick → List KeyValues → List SettingSummary → List ℕ
+key_figures time swept_keys settings = figures_from time swept_keys settings 0 (axes_of swept_keys)

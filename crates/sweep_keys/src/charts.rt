@@ -9,10 +9,11 @@ use crate::line::{Plot, push_line, setting_over};
 use crate::lines::{KeyLines, middle};
 use crate::statistic::Statistic;
 use base::Memory;
-use drawing::{close_plot, open_plot, push_escaped, push_markup, push_place, push_up};
+use drawing::{close_plot, open_plot, push_escaped, push_markup, push_place, push_time_up};
 use figures::SettingSummary;
 use std::alloc::{AllocError, Global};
 use sweep_plan::{Swept, place_count, values_text};
+use ticks::Tick;
 
 /// The greatest time that a plot shows.
 const MOST: u64 = 1_000_000_000_000_000_000;
@@ -22,17 +23,18 @@ const MOST: u64 = 1_000_000_000_000_000_000;
 pub(crate) fn push_chart(
     alloc: Global,
     text: &mut String,
+    time: Option<Tick>,
     settings: &[SettingSummary],
     axis: &[Swept],
     lines: &KeyLines,
     statistic: Statistic,
 ) -> Result<(), Memory>
     ensures { OnOk result (string_bytes text.new ≡ string_bytes text.old
-        ++ key_chart settings.now lines.now axis.now statistic) }
+        ++ key_chart time settings.now lines.now axis.now statistic) }
 {
     let most = plot_height(settings, lines, statistic);
     push_chart_opening(text, statistic)?;
-    push_up(text, most)?;
+    push_time_up(text, most, time)?;
     let plot = Plot {
         settings,
         lines: *lines,

@@ -14,6 +14,7 @@ use drawing::{close_figure, open_figure, push_markup};
 use figures::SettingSummary;
 use std::alloc::{AllocError, Global};
 use sweep_plan::{Plan, Swept, axis_end, names_text, place_count};
+use ticks::Tick;
 
 /// Appends a figure for each key that has more values than one, and one for keys that go together. It takes the summary of each setting
 /// of the plan, in their order, and fails only where memory is refused.
@@ -21,28 +22,38 @@ use sweep_plan::{Plan, Swept, axis_end, names_text, place_count};
 pub fn push_keys(
     alloc: Global,
     text: &mut String,
+    time: Option<Tick>,
     plan: &Plan,
     settings: &[SettingSummary],
 ) -> Result<(), Memory>
-    ensures { OnOk result (string_bytes text.new ≡ string_bytes text.old ++ key_figures plan.now.swept_keys settings.now) }
+    ensures { OnOk result (string_bytes text.new ≡ string_bytes text.old ++ key_figures time plan.now.swept_keys settings.now) }
 {
-    push_axes(alloc, text, plan, settings, plan.swept_keys())
+    push_axes(alloc, text, time, plan, settings, plan.swept_keys())
 }
 
 /// Appends the figures of the axes of swept keys.
 fn push_axes(
     alloc: Global,
     text: &mut String,
+    time: Option<Tick>,
     plan: &Plan,
     settings: &[SettingSummary],
     swept_keys: &[Swept],
 ) -> Result<(), Memory>
-    ensures { OnOk result (string_bytes text.new ≡ string_bytes text.old ++ figures_from plan.now.swept_keys settings.now 0 (axes_of swept_keys.now)) }
+    ensures { OnOk result (string_bytes text.new ≡ string_bytes text.old ++ figures_from time plan.now.swept_keys settings.now 0 (axes_of swept_keys.now)) }
 {
     let mut from = 0;
     while from < swept_keys.len() {
         let end = axis_end(swept_keys, from);
-        push_key(alloc, text, plan, settings, from, &swept_keys[from..end])?;
+        push_key(
+            alloc,
+            text,
+            time,
+            plan,
+            settings,
+            from,
+            &swept_keys[from..end],
+        )?;
         from = end;
     }
     Ok(())
@@ -53,19 +64,20 @@ fn push_axes(
 fn push_key(
     alloc: Global,
     text: &mut String,
+    time: Option<Tick>,
     plan: &Plan,
     settings: &[SettingSummary],
     key: usize,
     axis: &[Swept],
 ) -> Result<(), Memory>
     ensures { OnOk result (string_bytes text.new ≡ string_bytes text.old
-        ++ key_figure_of plan.now.swept_keys settings.now key axis.now) }
+        ++ key_figure_of time plan.now.swept_keys settings.now key axis.now) }
 {
     if place_count(axis) < 2 {
         return Ok(());
     }
     let lines = lines_of(plan.swept_keys(), settings, key, axis);
-    push_figure(alloc, text, plan, settings, key, axis, &lines)
+    push_figure(alloc, text, time, plan, settings, key, axis, &lines)
 }
 
 /// The lines over an axis.
@@ -88,6 +100,7 @@ fn lines_of(
 fn push_figure(
     alloc: Global,
     text: &mut String,
+    time: Option<Tick>,
     plan: &Plan,
     settings: &[SettingSummary],
     key: usize,
@@ -95,12 +108,12 @@ fn push_figure(
     lines: &KeyLines,
 ) -> Result<(), Memory>
     ensures { OnOk result (string_bytes text.new ≡ string_bytes text.old
-        ++ key_figure plan.now.swept_keys settings.now lines.now key axis.now) }
+        ++ key_figure time plan.now.swept_keys settings.now lines.now key axis.now) }
 {
     push_opening(alloc, text, key, axis)?;
     push_legend(alloc, text, plan, key, lines)?;
-    push_charts(alloc, text, settings, axis, lines)?;
-    push_rows(alloc, text, plan, settings, key, axis, lines)?;
+    push_charts(alloc, text, time, settings, axis, lines)?;
+    push_rows(alloc, text, time, plan, settings, key, axis, lines)?;
     close_figure(text)?;
     Ok(())
 }
@@ -150,16 +163,33 @@ fn key_heading(alloc: Global, axis: &[Swept]) -> Result<String, Memory>
 fn push_charts(
     alloc: Global,
     text: &mut String,
+    time: Option<Tick>,
     settings: &[SettingSummary],
     axis: &[Swept],
     lines: &KeyLines,
 ) -> Result<(), Memory>
-    ensures { OnOk result (string_bytes text.new ≡ string_bytes text.old ++ key_charts settings.now lines.now axis.now) }
+    ensures { OnOk result (string_bytes text.new ≡ string_bytes text.old ++ key_charts time settings.now lines.now axis.now) }
 {
     push_markup(text, "<div class=\"many\">")?;
-    push_chart(alloc, text, settings, axis, lines, Statistic::Suspected)?;
-    push_chart(alloc, text, settings, axis, lines, Statistic::Confirmed)?;
-    push_chart(alloc, text, settings, axis, lines, Statistic::Last)?;
+    push_chart(
+        alloc,
+        text,
+        time,
+        settings,
+        axis,
+        lines,
+        Statistic::Suspected,
+    )?;
+    push_chart(
+        alloc,
+        text,
+        time,
+        settings,
+        axis,
+        lines,
+        Statistic::Confirmed,
+    )?;
+    push_chart(alloc, text, time, settings, axis, lines, Statistic::Last)?;
     push_markup(text, "</div>")?;
     Ok(())
 }

@@ -14,10 +14,13 @@ use figures::SettingSummary;
 use std::alloc::{AllocError, Global};
 use sweep_cells::{push_cell, push_time_cell};
 use sweep_plan::{Plan, Swept, place_count, values_text};
+use ticks::Tick;
 
 /// What the rows of a key are of.
 #[derive(Clone, Copy)]
 struct Table<'a> {
+    /// How long a tick lasts, where that is known.
+    time: Option<Tick>,
     /// The sweep.
     plan: &'a Plan,
     /// All its settings, in their order.
@@ -35,6 +38,7 @@ struct Table<'a> {
 pub(crate) fn push_rows(
     alloc: Global,
     text: &mut String,
+    time: Option<Tick>,
     plan: &Plan,
     settings: &[SettingSummary],
     key: usize,
@@ -42,9 +46,10 @@ pub(crate) fn push_rows(
     lines: &KeyLines,
 ) -> Result<(), Memory>
     ensures { OnOk result (string_bytes text.new ≡ string_bytes text.old
-        ++ key_table plan.now.swept_keys settings.now lines.now key axis.now) }
+        ++ key_table time plan.now.swept_keys settings.now lines.now key axis.now) }
 {
     let table = Table {
+        time,
         plan,
         settings,
         key,
@@ -85,7 +90,7 @@ fn push_heads(text: &mut String) -> Result<(), AllocError>
 /// Appends the rows of each line.
 fn push_lines(alloc: Global, text: &mut String, table: &Table<'_>) -> Result<(), Memory>
     ensures { OnOk result (string_bytes text.new ≡ string_bytes text.old
-        ++ flat_map (line_rows table.now.plan.now.swept_keys table.now.settings.now table.now.lines table.now.key table.now.axis.now)
+        ++ flat_map (line_rows table.now.time table.now.plan.now.swept_keys table.now.settings.now table.now.lines table.now.key table.now.axis.now)
         (range_with_len 0 table.now.lines.lines)) }
 {
     for line in 0..table.lines.lines {
@@ -103,7 +108,7 @@ fn push_line_rows(
     line: usize,
 ) -> Result<(), Memory>
     ensures { OnOk result (string_bytes text.new ≡ string_bytes text.old
-        ++ line_rows table.now.plan.now.swept_keys table.now.settings.now table.now.lines table.now.key table.now.axis.now line) }
+        ++ line_rows table.now.time table.now.plan.now.swept_keys table.now.settings.now table.now.lines table.now.key table.now.axis.now line) }
 {
     for place in 0..place_count(table.axis) {
         push_row(alloc, text, table, line, place)?;
@@ -121,7 +126,7 @@ fn push_row(
     place: usize,
 ) -> Result<(), Memory>
     ensures { OnOk result (string_bytes text.new ≡ string_bytes text.old
-        ++ key_row table.now.plan.now.swept_keys table.now.settings.now table.now.lines table.now.key table.now.axis.now line place) }
+        ++ key_row table.now.time table.now.plan.now.swept_keys table.now.settings.now table.now.lines table.now.key table.now.axis.now line place) }
 {
     let words = values_text(alloc, table.axis, place)?;
     push_markup(text, "<tr>")?;
@@ -150,36 +155,41 @@ fn push_times_over(
     place: usize,
 ) -> Result<(), AllocError>
     ensures { OnOk result (string_bytes text.new ≡ string_bytes text.old
-        ++ times_over table.now.settings.now table.now.lines line place) }
+        ++ times_over table.now.time table.now.settings.now table.now.lines line place) }
 {
     match setting_over(table.settings, &table.lines, line, place) {
-        Some(setting) => push_times(text, &setting),
+        Some(setting) => push_times(text, table.time, &setting),
         None => Ok(()),
     }
 }
 
 /// Appends the times of a setting.
 #[tactic(auto, unfolding(crate::specs::Keys::times_of))]
-fn push_times(text: &mut String, setting: &SettingSummary) -> Result<(), AllocError>
-    ensures { OnOk result (string_bytes text.new ≡ string_bytes text.old ++ times_of setting.now) }
+fn push_times(
+    text: &mut String,
+    time: Option<Tick>,
+    setting: &SettingSummary,
+) -> Result<(), AllocError>
+    ensures { OnOk result (string_bytes text.new ≡ string_bytes text.old ++ times_of time setting.now) }
 {
-    push_drawn_times(text, Statistic::Suspected, setting)?;
-    push_drawn_times(text, Statistic::Confirmed, setting)?;
-    push_time_cell(text, setting.confirm_p99)?;
-    push_drawn_times(text, Statistic::Last, setting)?;
-    push_time_cell(text, setting.last_greatest)
+    push_drawn_times(text, time, Statistic::Suspected, setting)?;
+    push_drawn_times(text, time, Statistic::Confirmed, setting)?;
+    push_time_cell(text, time, setting.confirm_p99)?;
+    push_drawn_times(text, time, Statistic::Last, setting)?;
+    push_time_cell(text, time, setting.last_greatest)
 }
 
 /// Appends what is drawn of a setting.
 #[tactic(auto, unfolding(crate::specs::Keys::drawn_times))]
 fn push_drawn_times(
     text: &mut String,
+    time: Option<Tick>,
     statistic: Statistic,
     setting: &SettingSummary,
 ) -> Result<(), AllocError>
-    ensures { OnOk result (string_bytes text.new ≡ string_bytes text.old ++ drawn_times statistic setting.now) }
+    ensures { OnOk result (string_bytes text.new ≡ string_bytes text.old ++ drawn_times time statistic setting.now) }
 {
-    push_time_cell(text, statistic.early(setting))?;
-    push_time_cell(text, statistic.median(setting))?;
-    push_time_cell(text, statistic.late(setting))
+    push_time_cell(text, time, statistic.early(setting))?;
+    push_time_cell(text, time, statistic.median(setting))?;
+    push_time_cell(text, time, statistic.late(setting))
 }

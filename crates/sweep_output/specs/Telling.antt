@@ -9,6 +9,7 @@ use Rattle.sweep_output.specs.Objects.{TellsObjects}
 use Rattle.figures.specs.declared.summary.SettingSummary.{SettingSummary}
 use Rattle.sweep.specs.Texts.{settings_text}
 use Rattle.sweep_page.specs.Page.{page_text}
+use Rattle.ticks.specs.declared.tick.Tick.{Tick}
 
 -- how settings are told: as JSON, an object a line, or in aligned columns, with what they answer; and whether members that were taken for alive again are told of
 abbrev pub TellsSettings : Bool → Bool → Sweep → List Want → List SettingSummary → List ℕ → Type 0
@@ -20,8 +21,8 @@ abbrev pub front_of : List SettingSummary → List Bool
 front_of settings = map (λ setting. is_on_front setting settings) settings
 
 -- The text is the page of these settings of a sweep of the scenario with this name, made by a release, where this is wanted: it answers by the same best setting as
--- the lines and the objects.
-pub record IsSweepPage (name release : List ℕ) (plan : Sweep) (wants : List Want) (settings : List SettingSummary) (text : List ℕ) : Type 0 where
+-- the lines and the objects. Where it is known how long a tick lasts, it shows its times in units, too.
+pub record IsSweepPage (time : Option Tick) (name release : List ℕ) (plan : Sweep) (wants : List Want) (settings : List SettingSummary) (text : List ℕ) : Type 0 where
   pub best : Option ℕ
   pub chosen : IsBestOf wants settings best
-  pub shown : text ≡ page_text name release plan wants best settings (front_of settings)
+  pub shown : text ≡ page_text time name release plan wants best settings (front_of settings)

@@ -14,8 +14,8 @@ use sweep_page::{Question, SweepShown, page};
 use sweep_plan::Plan;
 use trace::{Sink, Stopped, put_all};
 
-/// The page of the settings of a sweep, which tells of the scenario and the release what `shown` says, and answers what is wanted
-/// as the lines do. There must be a summary for each setting, in their order.
+/// The page of the settings of a sweep, which says of the scenario, of the release and of how long a tick lasts what `shown` says,
+/// and answers what is wanted as the lines do. There must be a summary for each setting, in their order.
 pub fn settings_page(
     alloc: Global,
     shown: &SweepShown<'_>,
@@ -26,7 +26,7 @@ pub fn settings_page(
     requires wants { All IsBounded wants.now }
     requires few { All HasFewRuns settings.now }
     requires all { length settings.now ≡ setting_count plan.now.swept_keys }
-    ensures { IfOk result (λ text. IsSweepPage shown.now.name.now shown.now.release.now plan.now wants.now settings.now (string_bytes text)) }
+    ensures { IfOk result (λ text. IsSweepPage shown.now.tick shown.now.name.now shown.now.release.now plan.now wants.now settings.now (string_bytes text)) }
 {
     let best = best_of(wants, settings);
     let front = front_of(alloc, settings)?;

@@ -1,9 +1,9 @@
 -- The figure of all settings, each by how fast and how safe it is.
-use Rattle.std.specs.Prelude.{ℕ, Bool, true, false, fold, ◌+◌, ◌-◌, ◌/◌, ◌^◌, ◌==◌, if◌then◌else◌, min, max, not, List, [], ◌++◌, Option, codes, decimal, length, slice_get, unwrap_or}
+use Rattle.std.specs.Prelude.{ℕ, Bool, true, false, fold, ◌+◌, ◌-◌, ◌/◌, ◌^◌, ◌==◌, if◌then◌else◌, min, max, not, List, [], ◌++◌, Option, None, codes, decimal, length, slice_get, unwrap_or}
 use Rattle.std.specs.List.{flat_map, range_with_len}
 use Rattle.std.specs.Option.{option_map_or}
 use Rattle.sweep_plan.specs.Sweep.{KeyValues}
-use Rattle.drawing.specs.Axes.{at_ticks, axis_across}
+use Rattle.drawing.specs.Axes.{at_ticks, time_across}
 use Rattle.drawing.specs.Escaped.{markup}
 use Rattle.drawing.specs.Numbers.{place as place_on}
 use Rattle.drawing.specs.Rounds.{round_step}
@@ -16,6 +16,7 @@ use Rattle.sweep_cells.specs.Cells.{time_cell}
 use Rattle.sweep_page.specs.Table.{share_cells}
 use Rattle.sweep_page.specs.declared.front.Reach.{Reach}
 use Rattle.sweep_page.specs.declared.front_points.FrontPoint.{FrontPoint}
+use Rattle.ticks.specs.declared.tick.Tick.{Tick}
 
 -- the setting that is farthest across; 1 at least
 abbrev pub farthest : Bool → List SettingSummary → ℕ
@@ -129,22 +130,22 @@ plane reach settings front points =
     ++ flat_map (number_mark reach) points ++ markup (codes "</div>")
 
 -- the row of a setting on the front
-unfoldable pub front_row : List KeyValues → ℕ → SettingSummary → List ℕ
-front_row swept_keys place setting =
-    markup (codes "<tr><th scope=\"row\">") ++ number_words place ++ markup (codes "</th><td>") ++ swept_keys_at swept_keys place ++ markup (codes "</td>") ++ time_cell setting.confirm_p50
+unfoldable pub front_row : Option Tick → List KeyValues → ℕ → SettingSummary → List ℕ
+front_row time swept_keys place setting =
+    markup (codes "<tr><th scope=\"row\">") ++ number_words place ++ markup (codes "</th><td>") ++ swept_keys_at swept_keys place ++ markup (codes "</td>") ++ time_cell time setting.confirm_p50
     ++ share_cells setting ++ markup (codes "<td>") ++ rate_words setting.messages ++ markup (codes "</td></tr>")
 
 -- that of a setting by its place
-unfoldable pub front_row_of : List KeyValues → List SettingSummary → FrontPoint → List ℕ
-front_row_of swept_keys settings p = option_map_or (front_row swept_keys p.place) (slice_get settings p.place) []
+unfoldable pub front_row_of : Option Tick → List KeyValues → List SettingSummary → FrontPoint → List ℕ
+front_row_of time swept_keys settings p = option_map_or (front_row time swept_keys p.place) (slice_get settings p.place) []
 
 -- what its columns are
 unfoldable pub front_heads : List ℕ
 front_heads = codes "<details><summary>The front in numbers</summary><div class=\"wide\"><table><caption>The settings on the front</caption><thead><tr><th scope=\"col\">number</th><th scope=\"col\">setting</th><th scope=\"col\">confirmed, median</th><th scope=\"col\">runs with a false death</th><th scope=\"col\">their share</th><th scope=\"col\">95&nbsp;% interval</th><th scope=\"col\">false deaths per run</th><th scope=\"col\">messages per member per 1,000 ticks</th></tr></thead><tbody>"
 
 -- the figures of the front, folded
-unfoldable pub front_table : List KeyValues → List SettingSummary → List FrontPoint → List ℕ
-front_table swept_keys settings points = front_heads ++ flat_map (front_row_of swept_keys settings) points ++ markup (codes "</tbody></table></div></details>")
+unfoldable pub front_table : Option Tick → List KeyValues → List SettingSummary → List FrontPoint → List ℕ
+front_table time swept_keys settings points = front_heads ++ flat_map (front_row_of time swept_keys settings) points ++ markup (codes "</tbody></table></div></details>")
 
 -- what the plot shows, where runs have crashes, and where none has
 unfoldable pub speed_words : List ℕ
@@ -156,16 +157,24 @@ messages_words = codes "<p class=\"soft\">Each dot is a setting: the further lef
 unfoldable pub front_words : Bool → List ℕ
 front_words crashed = if crashed then speed_words else messages_words
 
+-- how long a tick lasts is of use where time is across, that is where runs have crashes
+abbrev pub time_where : Option Tick → Bool → Option Tick
+time_where time crashed = if crashed then time else None
+
+-- what is across
+unfoldable pub axis_of : Option Tick → Reach → List ℕ
+axis_of time reach = time_across (time_where time reach.crashed) reach.across (unit_words reach.crashed)
+
 -- the plot with its axes
-unfoldable pub front_chart : Reach → List SettingSummary → List Bool → List FrontPoint → List ℕ
-front_chart reach settings front points =
-    markup (codes "<div class=\"chart\">") ++ shares_up reach.up ++ plane reach settings front points ++ axis_across reach.across (unit_words reach.crashed) ++ markup (codes "</div>")
+unfoldable pub front_chart : Option Tick → Reach → List SettingSummary → List Bool → List FrontPoint → List ℕ
+front_chart time reach settings front points =
+    markup (codes "<div class=\"chart\">") ++ shares_up reach.up ++ plane reach settings front points ++ axis_of time reach ++ markup (codes "</div>")
 
 -- what the figure is called
 unfoldable pub front_heading : Bool → List ℕ
 front_heading crashed = if crashed then codes "Fast or safe: every setting" else codes "Few messages or safe: every setting"
 
 -- the whole figure
-unfoldable pub front_figure : Bool → List KeyValues → List SettingSummary → List Bool → List FrontPoint → List ℕ
-front_figure crashed swept_keys settings front points =
-    figure_opening (codes "front") (front_heading crashed) ++ front_words crashed ++ front_chart (reach_of crashed settings) settings front points ++ front_table swept_keys settings points ++ figure_end
+unfoldable pub front_figure : Option Tick → Bool → List KeyValues → List SettingSummary → List Bool → List FrontPoint → List ℕ
+front_figure time crashed swept_keys settings front points =
+    figure_opening (codes "front") (front_heading crashed) ++ front_words crashed ++ front_chart time (reach_of crashed settings) settings front points ++ front_table time swept_keys settings points ++ figure_end

@@ -1,10 +1,11 @@
 -- A setting in a list: its number and its values, how fast it is, how safe, and what it costs.
-use Rattle.std.specs.Prelude.{ℕ, Bool, nat_le, nat_lt, if◌then◌else◌, List, [], ◌++◌, codes, slice_get}
+use Rattle.std.specs.Prelude.{ℕ, Bool, nat_le, nat_lt, if◌then◌else◌, List, [], ◌++◌, codes, slice_get, Option}
 use Rattle.std.specs.Option.{option_map_or}
 use Rattle.sweep_plan.specs.Sweep.{KeyValues}
 use Rattle.drawing.specs.Escaped.{markup}
 use Rattle.figures.specs.declared.summary.SettingSummary.{SettingSummary}
 use Rattle.sweep_cells.specs.Words.{deaths_words, interval_words, number_words, rate_words, runs_words, swept_keys_at, thousandths, time_words}
+use Rattle.ticks.specs.declared.tick.Tick.{Tick}
 
 -- which of three a setting is, by the 95 % interval of its share of runs with a false death, as its ends are told: safe where the whole interval is at most 5 %,
 -- unsafe where all of it is above, and unknown else
@@ -30,15 +31,15 @@ unfoldable pub item_opening : List ℕ → ℕ → List ℕ
 item_opening class place = markup (codes "<li class=\"") ++ markup class ++ markup (codes "\"><span class=\"number\">") ++ number_words place ++ markup (codes "</span><code>")
 
 -- how fast it is
-unfoldable pub confirm_span : SettingSummary → List ℕ
-confirm_span setting = markup (codes "<span>first confirmed after <b>") ++ time_words setting.confirm_p50 ++ markup (codes "</b> ticks, median</span>")
+unfoldable pub confirm_span : Option Tick → SettingSummary → List ℕ
+confirm_span time setting = markup (codes "<span>first confirmed after <b>") ++ time_words time setting.confirm_p50 ++ markup (codes "</b> ticks, median</span>")
 
 -- where no run has a crash: how many false deaths it has
 unfoldable pub deaths_span : SettingSummary → List ℕ
 deaths_span setting = markup (codes "<span><b>") ++ deaths_words setting ++ markup (codes "</b> false deaths per run</span>")
 
-unfoldable pub speed_span : Bool → SettingSummary → List ℕ
-speed_span crashed setting = if crashed then confirm_span setting else deaths_span setting
+unfoldable pub speed_span : Option Tick → Bool → SettingSummary → List ℕ
+speed_span time crashed setting = if crashed then confirm_span time setting else deaths_span setting
 
 -- how safe it is
 unfoldable pub share_span : SettingSummary → List ℕ
@@ -54,10 +55,10 @@ unfoldable pub item_end : List ℕ → List ℕ
 item_end class = markup (codes "<b class=\"safety\">") ++ markup class ++ markup (codes "</b></li>")
 
 -- the setting at a place
-unfoldable pub item : Bool → List KeyValues → ℕ → SettingSummary → List ℕ
-item crashed swept_keys place setting =
-    item_opening (safety setting) place ++ swept_keys_at swept_keys place ++ markup (codes "</code>") ++ speed_span crashed setting ++ share_span setting ++ cost_span setting ++ item_end (safety setting)
+unfoldable pub item : Option Tick → Bool → List KeyValues → ℕ → SettingSummary → List ℕ
+item time crashed swept_keys place setting =
+    item_opening (safety setting) place ++ swept_keys_at swept_keys place ++ markup (codes "</code>") ++ speed_span time crashed setting ++ share_span setting ++ cost_span setting ++ item_end (safety setting)
 
 -- nothing where there is none
-unfoldable pub item_at : Bool → List KeyValues → List SettingSummary → ℕ → List ℕ
-item_at crashed swept_keys settings place = option_map_or (item crashed swept_keys place) (slice_get settings place) []
+unfoldable pub item_at : Option Tick → Bool → List KeyValues → List SettingSummary → ℕ → List ℕ
+item_at time crashed swept_keys settings place = option_map_or (item time crashed swept_keys place) (slice_get settings place) []

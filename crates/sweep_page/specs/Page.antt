@@ -15,6 +15,7 @@ use Rattle.sweep_page.specs.Summary.{summary}
 use Rattle.sweep_page.specs.Table.{table}
 use Rattle.sweep_page.specs.declared.front_points.FrontPoint.{FrontPoint}
 use Rattle.sweep_times.specs.Times.{times_figure}
+use Rattle.ticks.specs.declared.tick.Tick.{Tick}
 
 -- the page begins: its styles, and which scenario it is of
 unfoldable pub page_head : List ℕ → List ℕ
@@ -25,20 +26,20 @@ unfoldable pub page_end : List ℕ → List ℕ
 page_end release = markup (codes "<footer class=\"soft\">swimsim ") ++ escaped release ++ markup (codes "</footer></main></body></html>\n")
 
 -- how times spread, and what each key changes: nothing where no run has a crash
-unfoldable pub time_figures : Sweep → List SettingSummary → List FrontPoint → List ℕ
-time_figures sweep settings points = times_figure sweep.swept_keys settings (places_of points) ++ key_figures sweep.swept_keys settings
+unfoldable pub time_figures : Option Tick → Sweep → List SettingSummary → List FrontPoint → List ℕ
+time_figures time sweep settings points = times_figure time sweep.swept_keys settings (places_of points) ++ key_figures time sweep.swept_keys settings
 
-unfoldable pub times_where : Bool → Sweep → List SettingSummary → List FrontPoint → List ℕ
-times_where crashed sweep settings points = if crashed then time_figures sweep settings points else []
+unfoldable pub times_where : Option Tick → Bool → Sweep → List SettingSummary → List FrontPoint → List ℕ
+times_where time crashed sweep settings points = if crashed then time_figures time sweep settings points else []
 
 -- the page from its head to its end, with these settings on the front, in this order, and whether a run has a crash
-unfoldable pub page_over : List ℕ → List ℕ → Sweep → List Want → Option ℕ → List SettingSummary → List Bool → Bool → List FrontPoint → List ℕ
-page_over name release sweep wants best settings front crashed points =
-    page_head name ++ question crashed sweep.swept_keys wants settings best ++ summary crashed sweep settings points ++ front_figure crashed sweep.swept_keys settings front points
-    ++ times_where crashed sweep settings points ++ table sweep.swept_keys settings front ++ page_end release
+unfoldable pub page_over : Option Tick → List ℕ → List ℕ → Sweep → List Want → Option ℕ → List SettingSummary → List Bool → Bool → List FrontPoint → List ℕ
+page_over time name release sweep wants best settings front crashed points =
+    page_head name ++ question time crashed sweep.swept_keys wants settings best ++ summary time crashed sweep settings points ++ front_figure time crashed sweep.swept_keys settings front points
+    ++ times_where time crashed sweep settings points ++ table time sweep.swept_keys settings front ++ page_end release
 
 -- the page of a sweep of the scenario with this name, of the summaries of its settings, of which are on the front, and of what is wanted of them: of those that
 -- meet all, the best stands at this place
-abbrev pub page_text : List ℕ → List ℕ → Sweep → List Want → Option ℕ → List SettingSummary → List Bool → List ℕ
-page_text name release sweep wants best settings front =
-    page_over name release sweep wants best settings front (has_crash settings) (front_points (has_crash settings) settings front)
+abbrev pub page_text : Option Tick → List ℕ → List ℕ → Sweep → List Want → Option ℕ → List SettingSummary → List Bool → List ℕ
+page_text time name release sweep wants best settings front =
+    page_over time name release sweep wants best settings front (has_crash settings) (front_points (has_crash settings) settings front)

@@ -10,6 +10,7 @@ use Rattle.figures.specs.declared.summary.SettingSummary.{SettingSummary}
 use Rattle.sweep_cells.specs.Words.{count_words}
 use Rattle.sweep_page.specs.Items.{item_at}
 use Rattle.sweep_page.specs.declared.front_points.FrontPoint.{FrontPoint}
+use Rattle.ticks.specs.declared.tick.Tick.{Tick}
 
 -- a setting may have fewer seeds where its runs end once its interval is so narrow
 unfoldable pub at_most : Option ℕ → List ℕ
@@ -21,8 +22,8 @@ size_words sweep =
     markup (codes "<p class=\"soft\">Settings tried: ") ++ grouped (setting_count sweep.swept_keys) ++ markup (codes ". Seeds for each: ") ++ at_most sweep.until ++ grouped (seed_count sweep.seeds) ++ markup (codes ".</p>\n")
 
 -- the one at a place among those on the front
-unfoldable pub told_at : Bool → List KeyValues → List SettingSummary → List FrontPoint → ℕ → List ℕ
-told_at crashed swept_keys settings points place = option_map_or (λ (p : FrontPoint). item_at crashed swept_keys settings p.place) (slice_get points place) []
+unfoldable pub told_at : Option Tick → Bool → List KeyValues → List SettingSummary → List FrontPoint → ℕ → List ℕ
+told_at time crashed swept_keys settings points place = option_map_or (λ (p : FrontPoint). item_at time crashed swept_keys settings p.place) (slice_get points place) []
 
 -- what the list of them is, where runs have crashes, and where none has
 unfoldable pub speed_opening : List ℕ
@@ -48,9 +49,9 @@ unfoldable pub untold_words : ℕ → List ℕ
 untold_words more = if more == 0 then [] else more_words more
 
 -- the first twelve of them, and how many more there are
-unfoldable pub told_words : Bool → List KeyValues → List SettingSummary → List FrontPoint → List ℕ
-told_words crashed swept_keys settings points =
-    front_opening crashed ++ safety_words ++ flat_map (told_at crashed swept_keys settings points) (range_with_len 0 (min (length points) 12)) ++ markup (codes "</ol>\n") ++ untold_words (length points - 12)
+unfoldable pub told_words : Option Tick → Bool → List KeyValues → List SettingSummary → List FrontPoint → List ℕ
+told_words time crashed swept_keys settings points =
+    front_opening crashed ++ safety_words ++ flat_map (told_at time crashed swept_keys settings points) (range_with_len 0 (min (length points) 12)) ++ markup (codes "</ol>\n") ++ untold_words (length points - 12)
 
 -- where there are none: no setting confirms half of its crashes, or none has moments in which messages could be sent
 unfoldable pub unconfirmed_words : List ℕ
@@ -62,10 +63,10 @@ momentless_words = codes "<p class=\"lead\">Each run ends at moment 0, so there 
 unfoldable pub none_words : Bool → List ℕ
 none_words crashed = if crashed then unconfirmed_words else momentless_words
 
-unfoldable pub front_words_of : Bool → List KeyValues → List SettingSummary → List FrontPoint → List ℕ
-front_words_of crashed swept_keys settings points = if length points == 0 then none_words crashed else told_words crashed swept_keys settings points
+unfoldable pub front_words_of : Option Tick → Bool → List KeyValues → List SettingSummary → List FrontPoint → List ℕ
+front_words_of time crashed swept_keys settings points = if length points == 0 then none_words crashed else told_words time crashed swept_keys settings points
 
 -- the section
-unfoldable pub summary : Bool → Sweep → List SettingSummary → List FrontPoint → List ℕ
-summary crashed sweep settings points =
-    figure_opening (codes "trade-off") (codes "The trade-off") ++ size_words sweep ++ front_words_of crashed sweep.swept_keys settings points ++ figure_end
+unfoldable pub summary : Option Tick → Bool → Sweep → List SettingSummary → List FrontPoint → List ℕ
+summary time crashed sweep settings points =
+    figure_opening (codes "trade-off") (codes "The trade-off") ++ size_words sweep ++ front_words_of time crashed sweep.swept_keys settings points ++ figure_end

@@ -1,5 +1,5 @@
 -- The table of all settings.
-use Rattle.std.specs.Prelude.{ℕ, Bool, if◌then◌else◌, List, [], ◌++◌, codes, length, slice_get}
+use Rattle.std.specs.Prelude.{ℕ, Bool, if◌then◌else◌, List, [], ◌++◌, codes, length, slice_get, Option}
 use Rattle.std.specs.List.{flat_map, range_with_len}
 use Rattle.std.specs.Option.{option_map_or}
 use Rattle.sweep_plan.specs.Settings.{settings_of}
@@ -13,6 +13,7 @@ use Rattle.figures.specs.declared.summary.SettingSummary.{SettingSummary}
 use Rattle.sweep_cells.specs.Cells.{cell, time_cell}
 use Rattle.sweep_cells.specs.Words.{deaths_words, percent_words, hundredths_words, rate_words, runs_words, interval_words, thousandths, share_of, number_words}
 use Rattle.sweep_page.specs.Points.{is_marked}
+use Rattle.ticks.specs.declared.tick.Tick.{Tick}
 
 -- the cells that tell how often a setting threw out healthy members
 unfoldable pub share_cells : SettingSummary → List ℕ
@@ -25,10 +26,10 @@ unfoldable pub cost_cells : SettingSummary → List ℕ
 cost_cells setting = markup (codes "<td>") ++ hundredths_words setting.false_suspect ++ markup (codes "</td><td>") ++ rate_words setting.messages ++ markup (codes "</td>")
 
 -- the cells of a setting's figures
-unfoldable pub figure_cells : SettingSummary → List ℕ
-figure_cells setting =
-    time_cell setting.confirm_p50 ++ share_cells setting ++ time_cell setting.suspect_p50 ++ time_cell setting.confirm_p99 ++ time_cell setting.confirm_greatest ++ time_cell setting.last_p50
-    ++ time_cell setting.last_greatest ++ cost_cells setting
+unfoldable pub figure_cells : Option Tick → SettingSummary → List ℕ
+figure_cells time setting =
+    time_cell time setting.confirm_p50 ++ share_cells setting ++ time_cell time setting.suspect_p50 ++ time_cell time setting.confirm_p99 ++ time_cell time setting.confirm_greatest ++ time_cell time setting.last_p50
+    ++ time_cell time setting.last_greatest ++ cost_cells setting
 
 -- the cell of a value that a setting gives a key
 unfoldable pub value_cell : Choice → List ℕ
@@ -43,13 +44,13 @@ unfoldable pub row_opening : Bool → List ℕ
 row_opening marked = if marked then codes "<tr class=\"best\"><th scope=\"row\">&#9733;&nbsp;" else codes "<tr><th scope=\"row\">"
 
 -- the row of a setting
-unfoldable pub row : List KeyValues → ℕ → SettingSummary → Bool → List ℕ
-row swept_keys place setting marked =
-    row_opening marked ++ number_words place ++ markup (codes "</th>") ++ value_cells swept_keys place ++ figure_cells setting ++ markup (codes "</tr>\n")
+unfoldable pub row : Option Tick → List KeyValues → ℕ → SettingSummary → Bool → List ℕ
+row time swept_keys place setting marked =
+    row_opening marked ++ number_words place ++ markup (codes "</th>") ++ value_cells swept_keys place ++ figure_cells time setting ++ markup (codes "</tr>\n")
 
 -- the row of the setting at a place
-unfoldable pub row_at : List KeyValues → List SettingSummary → List Bool → ℕ → List ℕ
-row_at swept_keys settings front place = option_map_or (λ setting. row swept_keys place setting (is_marked front place)) (slice_get settings place) []
+unfoldable pub row_at : Option Tick → List KeyValues → List SettingSummary → List Bool → ℕ → List ℕ
+row_at time swept_keys settings front place = option_map_or (λ setting. row time swept_keys place setting (is_marked front place)) (slice_get settings place) []
 
 -- the name of a key over its column
 unfoldable pub key_head : KeyValues → List ℕ
@@ -64,7 +65,7 @@ unfoldable pub figure_heads : List ℕ
 figure_heads = codes "<th scope=\"col\">confirmed, median</th><th scope=\"col\">runs with a false death</th><th scope=\"col\">their share</th><th scope=\"col\">95&nbsp;% interval</th><th scope=\"col\">false deaths per run</th><th scope=\"col\">suspected, median</th><th scope=\"col\">confirmed, 99th percentile</th><th scope=\"col\">confirmed, greatest</th><th scope=\"col\">last confirmed, median</th><th scope=\"col\">last confirmed, greatest</th><th scope=\"col\">false suspicions per run</th><th scope=\"col\">messages per member per 1,000 ticks</th>"
 
 -- the table: a column for each key and each figure, a row for each setting
-unfoldable pub table : List KeyValues → List SettingSummary → List Bool → List ℕ
-table swept_keys settings front =
+unfoldable pub table : Option Tick → List KeyValues → List SettingSummary → List Bool → List ℕ
+table time swept_keys settings front =
     figure_opening (codes "cases") (codes "All settings") ++ table_words ++ flat_map key_head swept_keys ++ figure_heads ++ markup (codes "</tr></thead><tbody>\n")
-    ++ flat_map (row_at swept_keys settings front) (range_with_len 0 (length settings)) ++ markup (codes "</tbody></table></div>") ++ figure_end
+    ++ flat_map (row_at time swept_keys settings front) (range_with_len 0 (length settings)) ++ markup (codes "</tbody></table></div>") ++ figure_end

@@ -4,14 +4,14 @@ ghost use Rattle.std.specs.List.{flat_map, range_with_len};
 ghost use Rattle.std.specs.String.{string_bytes};
 ghost use Rattle.drawing.specs.Axes.{at_ticks};
 ghost use Rattle.drawing.specs.Rounds.{round_step};
-ghost use Rattle.sweep_page.specs.Front.{farthest, front_heading, highest, messages_words, most_messages, plane_title, plane_words, reach_of, speed_words, unit_words, share_tick, shares_up, plane, plane_opening, front_row, front_row_of, front_heads, front_table, front_words, front_chart, front_figure};
+ghost use Rattle.sweep_page.specs.Front.{axis_of, time_where, farthest, front_heading, highest, messages_words, most_messages, plane_title, plane_words, reach_of, speed_words, unit_words, share_tick, shares_up, plane, plane_opening, front_row, front_row_of, front_heads, front_table, front_words, front_chart, front_figure};
 
 use crate::front_points::{FrontPoint, across_of};
 use crate::marks::{push_joined, push_marks, push_numbers};
 use crate::table::push_shares;
 use base::Memory;
 use drawing::{
-    close_figure, close_plot, open_figure, open_plot, push_across, push_markup, push_place,
+    close_figure, close_plot, open_figure, open_plot, push_markup, push_place, push_time_across,
     round_step,
 };
 use figures::SettingSummary;
@@ -21,6 +21,7 @@ use sweep_cells::{
     thousandths,
 };
 use sweep_plan::Plan;
+use ticks::Tick;
 
 /// The greatest number that an axis reaches.
 const MOST: u64 = 1_000_000_000_000_000_000;
@@ -97,19 +98,20 @@ fn most_messages(settings: &[SettingSummary]) -> u128
 pub(crate) fn push_front(
     alloc: Global,
     text: &mut String,
+    time: Option<Tick>,
     plan: &Plan,
     settings: &[SettingSummary],
     front: &[bool],
     points: &[FrontPoint],
     crashed: bool,
 ) -> Result<(), Memory>
-    ensures { OnOk result (string_bytes text.new ≡ string_bytes text.old ++ front_figure crashed plan.now.swept_keys settings.now front.now points.now) }
+    ensures { OnOk result (string_bytes text.new ≡ string_bytes text.old ++ front_figure time crashed plan.now.swept_keys settings.now front.now points.now) }
 {
     let reach = reach_of(crashed, settings);
     open_figure(text, "front", front_heading(crashed))?;
     push_words(text, crashed)?;
-    push_chart(text, settings, front, points, &reach)?;
-    push_rows(alloc, text, plan, settings, points)?;
+    push_chart(text, time, settings, front, points, &reach)?;
+    push_rows(alloc, text, time, plan, settings, points)?;
     close_figure(text)?;
     Ok(())
 }
@@ -132,10 +134,10 @@ fn push_speed_words(text: &mut String) -> Result<(), AllocError>
     ensures { OnOk result (string_bytes text.new ≡ string_bytes text.old ++ speed_words) }
 {
     text.push_str(
-        "<p class=\"soft\">Each dot is a swept: the further left, the faster; the lower, the \
+        "<p class=\"soft\">Each dot is a setting: the further left, the faster; the lower, the \
          safer. Up: the share of runs with a false death, with its 95&nbsp;% interval as a bar. A \
          larger dot sends more messages. The numbered dots, joined by a line, are on the front: no \
-         other swept is as good in both and better in one.</p>",
+         other setting is as good in both and better in one.</p>",
     )
 }
 
@@ -145,9 +147,9 @@ fn push_messages_words(text: &mut String) -> Result<(), AllocError>
     ensures { OnOk result (string_bytes text.new ≡ string_bytes text.old ++ messages_words) }
 {
     text.push_str(
-        "<p class=\"soft\">Each dot is a swept: the further left, the fewer messages; the lower, \
+        "<p class=\"soft\">Each dot is a setting: the further left, the fewer messages; the lower, \
          the safer. Up: the share of runs with a false death, with its 95&nbsp;% interval as a bar. \
-         The numbered dots, joined by a line, are on the front: no other swept is as good in both \
+         The numbered dots, joined by a line, are on the front: no other setting is as good in both \
          and better in one.</p>",
     )
 }
@@ -156,6 +158,7 @@ fn push_messages_words(text: &mut String) -> Result<(), AllocError>
 #[tactic(auto, unfolding(crate::specs::Front::front_chart))]
 fn push_chart(
     text: &mut String,
+    time: Option<Tick>,
     settings: &[SettingSummary],
     front: &[bool],
     points: &[FrontPoint],
@@ -163,13 +166,34 @@ fn push_chart(
 ) -> Result<(), AllocError>
     requires across { reach.now.across < 2 ^ 63 }
     requires up { reach.now.up < 2 ^ 63 }
-    ensures { OnOk result (string_bytes text.new ≡ string_bytes text.old ++ front_chart reach.now settings.now front.now points.now) }
+    ensures { OnOk result (string_bytes text.new ≡ string_bytes text.old ++ front_chart time reach.now settings.now front.now points.now) }
 {
     push_markup(text, "<div class=\"chart\">")?;
     push_shares_up(text, reach.up)?;
     push_plane(text, settings, front, points, reach)?;
-    push_across(text, reach.across, unit_words(reach.crashed))?;
+    push_axis(text, time, reach)?;
     push_markup(text, "</div>")
+}
+
+/// Appends the axis across.
+#[tactic(auto, unfolding(crate::specs::Front::axis_of))]
+fn push_axis(text: &mut String, time: Option<Tick>, reach: &Reach) -> Result<(), AllocError>
+    requires { reach.now.across < 2 ^ 63 }
+    ensures { OnOk result (string_bytes text.new ≡ string_bytes text.old ++ axis_of time reach.now) }
+{
+    push_time_across(
+        text,
+        reach.across,
+        unit_words(reach.crashed),
+        time_where(time, reach.crashed),
+    )
+}
+
+/// How long a tick lasts, where time is across.
+fn time_where(time: Option<Tick>, crashed: bool) -> Option<Tick>
+    ensures { result ≡ time_where time crashed }
+{
+    if crashed { time } else { None }
 }
 
 /// Appends the axis of shares.
@@ -257,10 +281,10 @@ fn plane_words(crashed: bool) -> &'static str
 {
     if crashed {
         "Across: the median time until a crash is first confirmed. Up: the share of runs with a \
-         false death. The table beneath has the swept_keys on the front."
+         false death. The table beneath has the settings on the front."
     } else {
         "Across: messages per member. Up: the share of runs with a false death. The table beneath \
-         has the swept_keys on the front."
+         has the settings on the front."
     }
 }
 
@@ -293,14 +317,15 @@ fn front_heading(crashed: bool) -> &'static str
 fn push_rows(
     alloc: Global,
     text: &mut String,
+    time: Option<Tick>,
     plan: &Plan,
     settings: &[SettingSummary],
     points: &[FrontPoint],
 ) -> Result<(), Memory>
-    ensures { OnOk result (string_bytes text.new ≡ string_bytes text.old ++ front_table plan.now.swept_keys settings.now points.now) }
+    ensures { OnOk result (string_bytes text.new ≡ string_bytes text.old ++ front_table time plan.now.swept_keys settings.now points.now) }
 {
     push_heads(text)?;
-    push_rows_of(alloc, text, plan, settings, points)?;
+    push_rows_of(alloc, text, time, plan, settings, points)?;
     push_markup(text, "</tbody></table></div></details>")?;
     Ok(())
 }
@@ -312,8 +337,8 @@ fn push_heads(text: &mut String) -> Result<(), AllocError>
 {
     text.push_str(
         "<details><summary>The front in numbers</summary><div class=\"wide\"><table>\
-         <caption>The swept_keys on the front</caption><thead><tr><th scope=\"col\">number</th>\
-         <th scope=\"col\">swept</th><th scope=\"col\">confirmed, median</th>\
+         <caption>The settings on the front</caption><thead><tr><th scope=\"col\">number</th>\
+         <th scope=\"col\">setting</th><th scope=\"col\">confirmed, median</th>\
          <th scope=\"col\">runs with a false death</th><th scope=\"col\">their share</th>\
          <th scope=\"col\">95&nbsp;% interval</th><th scope=\"col\">false deaths per run</th>\
          <th scope=\"col\">messages per member per 1,000 ticks</th></tr></thead><tbody>",
@@ -324,14 +349,15 @@ fn push_heads(text: &mut String) -> Result<(), AllocError>
 fn push_rows_of(
     alloc: Global,
     text: &mut String,
+    time: Option<Tick>,
     plan: &Plan,
     settings: &[SettingSummary],
     points: &[FrontPoint],
 ) -> Result<(), Memory>
-    ensures { OnOk result (string_bytes text.new ≡ string_bytes text.old ++ flat_map (front_row_of plan.now.swept_keys settings.now) points.now) }
+    ensures { OnOk result (string_bytes text.new ≡ string_bytes text.old ++ flat_map (front_row_of time plan.now.swept_keys settings.now) points.now) }
 {
     for point in points {
-        push_row_of(alloc, text, plan, settings, point)?;
+        push_row_of(alloc, text, time, plan, settings, point)?;
     }
     Ok(())
 }
@@ -341,14 +367,15 @@ fn push_rows_of(
 fn push_row_of(
     alloc: Global,
     text: &mut String,
+    time: Option<Tick>,
     plan: &Plan,
     settings: &[SettingSummary],
     point: &FrontPoint,
 ) -> Result<(), Memory>
-    ensures { OnOk result (string_bytes text.new ≡ string_bytes text.old ++ front_row_of plan.now.swept_keys settings.now point.now) }
+    ensures { OnOk result (string_bytes text.new ≡ string_bytes text.old ++ front_row_of time plan.now.swept_keys settings.now point.now) }
 {
     match setting_at(settings, point.place) {
-        Some(setting) => push_row(alloc, text, plan, point.place, &setting),
+        Some(setting) => push_row(alloc, text, time, plan, point.place, &setting),
         None => Ok(()),
     }
 }
@@ -358,18 +385,19 @@ fn push_row_of(
 fn push_row(
     alloc: Global,
     text: &mut String,
+    time: Option<Tick>,
     plan: &Plan,
     place: usize,
     setting: &SettingSummary,
 ) -> Result<(), Memory>
-    ensures { OnOk result (string_bytes text.new ≡ string_bytes text.old ++ front_row plan.now.swept_keys place setting.now) }
+    ensures { OnOk result (string_bytes text.new ≡ string_bytes text.old ++ front_row time plan.now.swept_keys place setting.now) }
 {
     push_markup(text, "<tr><th scope=\"row\">")?;
     push_number(text, place)?;
     push_markup(text, "</th><td>")?;
     push_swept_keys_at(alloc, text, plan, place)?;
     push_markup(text, "</td>")?;
-    push_time_cell(text, setting.confirm_p50)?;
+    push_time_cell(text, time, setting.confirm_p50)?;
     push_shares(text, setting)?;
     push_markup(text, "<td>")?;
     push_rate(text, setting.messages)?;

@@ -12,6 +12,7 @@ use sweep_cells::{
     push_time, setting_at, thousandths,
 };
 use sweep_plan::Plan;
+use ticks::Tick;
 
 /// Five percent, in thousandths: what a safe setting's interval doesn't reach beyond.
 const SAFE: u64 = 50;
@@ -22,15 +23,16 @@ const SAFE: u64 = 50;
 pub(crate) fn push_item_at(
     alloc: Global,
     text: &mut String,
+    time: Option<Tick>,
     plan: &Plan,
     settings: &[SettingSummary],
     crashed: bool,
     place: usize,
 ) -> Result<(), Memory>
-    ensures { OnOk result (string_bytes text.new ≡ string_bytes text.old ++ item_at crashed plan.now.swept_keys settings.now place) }
+    ensures { OnOk result (string_bytes text.new ≡ string_bytes text.old ++ item_at time crashed plan.now.swept_keys settings.now place) }
 {
     match setting_at(settings, place) {
-        Some(setting) => push_item(alloc, text, plan, crashed, place, &setting),
+        Some(setting) => push_item(alloc, text, time, plan, crashed, place, &setting),
         None => Ok(()),
     }
 }
@@ -40,18 +42,19 @@ pub(crate) fn push_item_at(
 fn push_item(
     alloc: Global,
     text: &mut String,
+    time: Option<Tick>,
     plan: &Plan,
     crashed: bool,
     place: usize,
     setting: &SettingSummary,
 ) -> Result<(), Memory>
-    ensures { OnOk result (string_bytes text.new ≡ string_bytes text.old ++ item crashed plan.now.swept_keys place setting.now) }
+    ensures { OnOk result (string_bytes text.new ≡ string_bytes text.old ++ item time crashed plan.now.swept_keys place setting.now) }
 {
     let class = safety(setting);
     push_item_opening(text, class, place)?;
     push_swept_keys_at(alloc, text, plan, place)?;
     push_markup(text, "</code>")?;
-    push_speed(text, crashed, setting)?;
+    push_speed(text, time, crashed, setting)?;
     push_share(text, setting)?;
     push_cost(text, setting)?;
     push_item_end(text, class)?;
@@ -127,11 +130,16 @@ fn push_item_opening(text: &mut String, class: &str, place: usize) -> Result<(),
 
 /// Appends how fast a setting is, or how many false deaths it has where no run has a crash.
 #[tactic(auto, unfolding(crate::specs::Items::speed_span))]
-fn push_speed(text: &mut String, crashed: bool, setting: &SettingSummary) -> Result<(), AllocError>
-    ensures { OnOk result (string_bytes text.new ≡ string_bytes text.old ++ speed_span crashed setting.now) }
+fn push_speed(
+    text: &mut String,
+    time: Option<Tick>,
+    crashed: bool,
+    setting: &SettingSummary,
+) -> Result<(), AllocError>
+    ensures { OnOk result (string_bytes text.new ≡ string_bytes text.old ++ speed_span time crashed setting.now) }
 {
     if crashed {
-        push_confirm(text, setting)
+        push_confirm(text, time, setting)
     } else {
         push_false_deaths(text, setting)
     }
@@ -139,11 +147,15 @@ fn push_speed(text: &mut String, crashed: bool, setting: &SettingSummary) -> Res
 
 /// Appends the median time until a crash was confirmed.
 #[tactic(auto, unfolding(crate::specs::Items::confirm_span))]
-fn push_confirm(text: &mut String, setting: &SettingSummary) -> Result<(), AllocError>
-    ensures { OnOk result (string_bytes text.new ≡ string_bytes text.old ++ confirm_span setting.now) }
+fn push_confirm(
+    text: &mut String,
+    time: Option<Tick>,
+    setting: &SettingSummary,
+) -> Result<(), AllocError>
+    ensures { OnOk result (string_bytes text.new ≡ string_bytes text.old ++ confirm_span time setting.now) }
 {
     push_markup(text, "<span>first confirmed after <b>")?;
-    push_time(text, setting.confirm_p50)?;
+    push_time(text, time, setting.confirm_p50)?;
     push_markup(text, "</b> ticks, median</span>")
 }
 

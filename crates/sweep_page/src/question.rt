@@ -13,6 +13,7 @@ use goals::{Statistic, Want, may_meet, more_runs};
 use std::alloc::{AllocError, Global};
 use sweep_cells::{push_number, push_swept_keys_at};
 use sweep_plan::Plan;
+use ticks::Tick;
 
 /// What is wanted of a setting, and the best that meets it.
 #[derive(Clone, Copy)]
@@ -29,6 +30,7 @@ pub struct Question<'a> {
 pub(crate) fn push_question(
     alloc: Global,
     text: &mut String,
+    time: Option<Tick>,
     plan: &Plan,
     asked: &Question<'_>,
     settings: &[SettingSummary],
@@ -37,12 +39,12 @@ pub(crate) fn push_question(
     requires bounded { All IsBounded asked.now.wants.now }
     requires few { All HasFewRuns settings.now }
     ensures { OnOk result (string_bytes text.new ≡ string_bytes text.old
-        ++ question crashed plan.now.swept_keys asked.now.wants.now settings.now asked.now.best) }
+        ++ question time crashed plan.now.swept_keys asked.now.wants.now settings.now asked.now.best) }
 {
     if asked.wants.is_empty() {
         return Ok(());
     }
-    push_question_figure(alloc, text, plan, asked, settings, crashed)
+    push_question_figure(alloc, text, time, plan, asked, settings, crashed)
 }
 
 /// Appends the section.
@@ -50,6 +52,7 @@ pub(crate) fn push_question(
 fn push_question_figure(
     alloc: Global,
     text: &mut String,
+    time: Option<Tick>,
     plan: &Plan,
     asked: &Question<'_>,
     settings: &[SettingSummary],
@@ -58,11 +61,11 @@ fn push_question_figure(
     requires bounded { All IsBounded asked.now.wants.now }
     requires few { All HasFewRuns settings.now }
     ensures { OnOk result (string_bytes text.new ≡ string_bytes text.old
-        ++ question_figure crashed plan.now.swept_keys asked.now.wants.now settings.now asked.now.best) }
+        ++ question_figure time crashed plan.now.swept_keys asked.now.wants.now settings.now asked.now.best) }
 {
     open_figure(text, "answer", "The question and its answer")?;
     push_goals(text, asked.wants)?;
-    push_answer(alloc, text, plan, asked, settings, crashed)?;
+    push_answer(alloc, text, time, plan, asked, settings, crashed)?;
     close_figure(text)?;
     Ok(())
 }
@@ -126,6 +129,7 @@ fn statistic_words(statistic: Statistic) -> &'static str
 fn push_answer(
     alloc: Global,
     text: &mut String,
+    time: Option<Tick>,
     plan: &Plan,
     asked: &Question<'_>,
     settings: &[SettingSummary],
@@ -134,10 +138,10 @@ fn push_answer(
     requires bounded { All IsBounded asked.now.wants.now }
     requires few { All HasFewRuns settings.now }
     ensures { OnOk result (string_bytes text.new ≡ string_bytes text.old
-        ++ answer crashed plan.now.swept_keys asked.now.wants.now settings.now asked.now.best) }
+        ++ answer time crashed plan.now.swept_keys asked.now.wants.now settings.now asked.now.best) }
 {
     match asked.best {
-        Some(place) => push_best(alloc, text, plan, settings, crashed, place),
+        Some(place) => push_best(alloc, text, time, plan, settings, crashed, place),
         None => push_unmet(alloc, text, plan, asked.wants, settings),
     }
 }
@@ -147,19 +151,20 @@ fn push_answer(
 fn push_best(
     alloc: Global,
     text: &mut String,
+    time: Option<Tick>,
     plan: &Plan,
     settings: &[SettingSummary],
     crashed: bool,
     place: usize,
 ) -> Result<(), Memory>
-    ensures { OnOk result (string_bytes text.new ≡ string_bytes text.old ++ best_answer crashed plan.now.swept_keys settings.now place) }
+    ensures { OnOk result (string_bytes text.new ≡ string_bytes text.old ++ best_answer time crashed plan.now.swept_keys settings.now place) }
 {
     push_markup(
         text,
-        "<p class=\"lead\">Yes. Of the swept_keys that are shown to meet all of this, the best \
+        "<p class=\"lead\">Yes. Of the settings that are shown to meet all of this, the best \
          is</p><ol class=\"answers\">",
     )?;
-    push_item_at(alloc, text, plan, settings, crashed, place)?;
+    push_item_at(alloc, text, time, plan, settings, crashed, place)?;
     push_markup(text, "</ol>\n")?;
     push_caution_at(text, settings, place)?;
     Ok(())
@@ -224,7 +229,7 @@ fn push_open(
 {
     push_markup(
         text,
-        "<p class=\"lead\">No swept is shown to meet all of this yet. These may; so many more runs \
+        "<p class=\"lead\">No setting is shown to meet all of this yet. These may; so many more runs \
          of each would decide, if its share of runs with a false death stays as it is:</p>\
          <ol class=\"answers\">",
     )?;

@@ -12,6 +12,7 @@ use figures::SettingSummary;
 use std::alloc::{AllocError, Global};
 use sweep_cells::push_count;
 use sweep_plan::Plan;
+use ticks::Tick;
 
 /// How many settings on the front are told of in words.
 const MOST_TOLD: usize = 12;
@@ -21,16 +22,17 @@ const MOST_TOLD: usize = 12;
 pub(crate) fn push_summary(
     alloc: Global,
     text: &mut String,
+    time: Option<Tick>,
     plan: &Plan,
     settings: &[SettingSummary],
     crashed: bool,
     points: &[FrontPoint],
 ) -> Result<(), Memory>
-    ensures { OnOk result (string_bytes text.new ≡ string_bytes text.old ++ summary crashed plan.now settings.now points.now) }
+    ensures { OnOk result (string_bytes text.new ≡ string_bytes text.old ++ summary time crashed plan.now settings.now points.now) }
 {
     open_figure(text, "trade-off", "The trade-off")?;
     push_size(text, plan)?;
-    push_front_of(alloc, text, plan, settings, crashed, points)?;
+    push_front_of(alloc, text, time, plan, settings, crashed, points)?;
     close_figure(text)?;
     Ok(())
 }
@@ -64,18 +66,19 @@ fn push_at_most(text: &mut String, plan: &Plan) -> Result<(), AllocError>
 fn push_front_of(
     alloc: Global,
     text: &mut String,
+    time: Option<Tick>,
     plan: &Plan,
     settings: &[SettingSummary],
     crashed: bool,
     points: &[FrontPoint],
 ) -> Result<(), Memory>
-    ensures { OnOk result (string_bytes text.new ≡ string_bytes text.old ++ front_words_of crashed plan.now.swept_keys settings.now points.now) }
+    ensures { OnOk result (string_bytes text.new ≡ string_bytes text.old ++ front_words_of time crashed plan.now.swept_keys settings.now points.now) }
 {
     if points.is_empty() {
         push_none(text, crashed)?;
         return Ok(());
     }
-    push_told(alloc, text, plan, settings, crashed, points)
+    push_told(alloc, text, time, plan, settings, crashed, points)
 }
 
 /// Appends that no setting is on the front.
@@ -113,16 +116,17 @@ fn push_momentless(text: &mut String) -> Result<(), AllocError>
 fn push_told(
     alloc: Global,
     text: &mut String,
+    time: Option<Tick>,
     plan: &Plan,
     settings: &[SettingSummary],
     crashed: bool,
     points: &[FrontPoint],
 ) -> Result<(), Memory>
-    ensures { OnOk result (string_bytes text.new ≡ string_bytes text.old ++ told_words crashed plan.now.swept_keys settings.now points.now) }
+    ensures { OnOk result (string_bytes text.new ≡ string_bytes text.old ++ told_words time crashed plan.now.swept_keys settings.now points.now) }
 {
     push_front_opening(text, crashed)?;
     push_safety_words(text)?;
-    push_first(alloc, text, plan, settings, crashed, points)?;
+    push_first(alloc, text, time, plan, settings, crashed, points)?;
     push_markup(text, "</ol>\n")?;
     push_rest(text, points.len())?;
     Ok(())
@@ -146,7 +150,7 @@ fn push_speed_opening(text: &mut String) -> Result<(), AllocError>
     ensures { OnOk result (string_bytes text.new ≡ string_bytes text.old ++ speed_opening) }
 {
     text.push_str(
-        "<p class=\"lead\">These swept_keys confirm half of their crashes, and no other swept beats \
+        "<p class=\"lead\">These settings confirm half of their crashes, and no other setting beats \
          them: none is at least as fast and at least as safe, and better in one of the two. The \
          further down, the slower and the safer.</p>",
     )
@@ -158,8 +162,8 @@ fn push_messages_opening(text: &mut String) -> Result<(), AllocError>
     ensures { OnOk result (string_bytes text.new ≡ string_bytes text.old ++ messages_opening) }
 {
     text.push_str(
-        "<p class=\"lead\">No run has a crash, so swept_keys are compared by their false deaths and \
-         their messages. No other swept beats these: none sends at most as many messages and is \
+        "<p class=\"lead\">No run has a crash, so settings are compared by their false deaths and \
+         their messages. No other setting beats these: none sends at most as many messages and is \
          at least as safe, and is better in one of the two. The further down, the more messages \
          and the safer.</p>",
     )
@@ -182,15 +186,16 @@ fn push_safety_words(text: &mut String) -> Result<(), AllocError>
 fn push_first(
     alloc: Global,
     text: &mut String,
+    time: Option<Tick>,
     plan: &Plan,
     settings: &[SettingSummary],
     crashed: bool,
     points: &[FrontPoint],
 ) -> Result<(), Memory>
-    ensures { OnOk result (string_bytes text.new ≡ string_bytes text.old ++ flat_map (told_at crashed plan.now.swept_keys settings.now points.now) (range_with_len 0 (min (length points.now) 12))) }
+    ensures { OnOk result (string_bytes text.new ≡ string_bytes text.old ++ flat_map (told_at time crashed plan.now.swept_keys settings.now points.now) (range_with_len 0 (min (length points.now) 12))) }
 {
     for place in 0..points.len().min(MOST_TOLD) {
-        push_told_at(alloc, text, plan, settings, crashed, points, place)?;
+        push_told_at(alloc, text, time, plan, settings, crashed, points, place)?;
     }
     Ok(())
 }
@@ -200,16 +205,17 @@ fn push_first(
 fn push_told_at(
     alloc: Global,
     text: &mut String,
+    time: Option<Tick>,
     plan: &Plan,
     settings: &[SettingSummary],
     crashed: bool,
     points: &[FrontPoint],
     place: usize,
 ) -> Result<(), Memory>
-    ensures { OnOk result (string_bytes text.new ≡ string_bytes text.old ++ told_at crashed plan.now.swept_keys settings.now points.now place) }
+    ensures { OnOk result (string_bytes text.new ≡ string_bytes text.old ++ told_at time crashed plan.now.swept_keys settings.now points.now place) }
 {
     match points.get(place) {
-        Some(point) => push_item_at(alloc, text, plan, settings, crashed, point.place),
+        Some(point) => push_item_at(alloc, text, time, plan, settings, crashed, point.place),
         None => Ok(()),
     }
 }

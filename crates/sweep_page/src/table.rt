@@ -15,18 +15,20 @@ use sweep_cells::{
     push_runs_with, push_time_cell, setting_at, share_of, thousandths,
 };
 use sweep_plan::{Choice, Plan, Swept};
+use ticks::Tick;
 
 /// Appends the table of all settings, those on the front marked.
 #[tactic(auto, unfolding(crate::specs::Table::table))]
 pub(crate) fn push_table(
     alloc: Global,
     text: &mut String,
+    time: Option<Tick>,
     plan: &Plan,
     settings: &[SettingSummary],
     front: &[bool],
 ) -> Result<(), Memory>
     requires { length settings.now ≡ setting_count plan.now.swept_keys }
-    ensures { OnOk result (string_bytes text.new ≡ string_bytes text.old ++ table plan.now.swept_keys settings.now front.now) }
+    ensures { OnOk result (string_bytes text.new ≡ string_bytes text.old ++ table time plan.now.swept_keys settings.now front.now) }
 {
     open_figure(text, "cases", "All settings")?;
     push_table_words(text)?;
@@ -34,7 +36,7 @@ pub(crate) fn push_table(
     push_names(alloc, text, swept_keys)?;
     push_figure_words(text)?;
     push_markup(text, "</tr></thead><tbody>\n")?;
-    push_rows(alloc, text, plan, settings, front)?;
+    push_rows(alloc, text, time, plan, settings, front)?;
     push_markup(text, "</tbody></table></div>")?;
     close_figure(text)?;
     Ok(())
@@ -47,8 +49,8 @@ fn push_table_words(text: &mut String) -> Result<(), AllocError>
 {
     text.push_str(
         "<p class=\"soft\">Times are in ticks since the crash, over all crashes of all runs; a dash \
-         stands where too few crashes were detected. Starred swept_keys are on the front.</p>\
-         <div class=\"wide\"><table><caption>All swept_keys</caption><thead><tr>\
+         stands where too few crashes were detected. Starred settings are on the front.</p>\
+         <div class=\"wide\"><table><caption>All settings</caption><thead><tr>\
          <th scope=\"col\">number</th>",
     )
 }
@@ -100,16 +102,17 @@ fn push_figure_words(text: &mut String) -> Result<(), AllocError>
 fn push_rows(
     alloc: Global,
     text: &mut String,
+    time: Option<Tick>,
     plan: &Plan,
     settings: &[SettingSummary],
     front: &[bool],
 ) -> Result<(), Memory>
     requires { length settings.now ≡ setting_count plan.now.swept_keys }
     ensures { OnOk result (string_bytes text.new
-        ≡ string_bytes text.old ++ flat_map (row_at plan.now.swept_keys settings.now front.now) (range_with_len 0 (length settings.now))) }
+        ≡ string_bytes text.old ++ flat_map (row_at time plan.now.swept_keys settings.now front.now) (range_with_len 0 (length settings.now))) }
 {
     for place in 0..settings.len() {
-        push_row_at(alloc, text, plan, settings, front, place)?;
+        push_row_at(alloc, text, time, plan, settings, front, place)?;
     }
     Ok(())
 }
@@ -119,16 +122,25 @@ fn push_rows(
 fn push_row_at(
     alloc: Global,
     text: &mut String,
+    time: Option<Tick>,
     plan: &Plan,
     settings: &[SettingSummary],
     front: &[bool],
     place: usize,
 ) -> Result<(), Memory>
     requires { length settings.now ≡ setting_count plan.now.swept_keys }
-    ensures { OnOk result (string_bytes text.new ≡ string_bytes text.old ++ row_at plan.now.swept_keys settings.now front.now place) }
+    ensures { OnOk result (string_bytes text.new ≡ string_bytes text.old ++ row_at time plan.now.swept_keys settings.now front.now place) }
 {
     match setting_at(settings, place) {
-        Some(setting) => push_row(alloc, text, plan, place, &setting, is_marked(front, place)),
+        Some(setting) => push_row(
+            alloc,
+            text,
+            time,
+            plan,
+            place,
+            &setting,
+            is_marked(front, place),
+        ),
         None => Ok(()),
     }
 }
@@ -138,19 +150,20 @@ fn push_row_at(
 fn push_row(
     alloc: Global,
     text: &mut String,
+    time: Option<Tick>,
     plan: &Plan,
     place: usize,
     setting: &SettingSummary,
     marked: bool,
 ) -> Result<(), Memory>
     requires { place < setting_count plan.now.swept_keys }
-    ensures { OnOk result (string_bytes text.new ≡ string_bytes text.old ++ row plan.now.swept_keys place setting.now marked) }
+    ensures { OnOk result (string_bytes text.new ≡ string_bytes text.old ++ row time plan.now.swept_keys place setting.now marked) }
 {
     push_row_opening(text, marked)?;
     push_number(text, place)?;
     push_markup(text, "</th>")?;
     push_values(alloc, text, plan, place)?;
-    push_figures(text, setting)?;
+    push_figures(text, time, setting)?;
     push_markup(text, "</tr>\n")?;
     Ok(())
 }
@@ -200,16 +213,20 @@ fn push_value(alloc: Global, text: &mut String, choice: &Choice) -> Result<(), M
 
 /// Appends the figures of a setting.
 #[tactic(auto, unfolding(crate::specs::Table::figure_cells))]
-fn push_figures(text: &mut String, setting: &SettingSummary) -> Result<(), AllocError>
-    ensures { OnOk result (string_bytes text.new ≡ string_bytes text.old ++ figure_cells setting.now) }
+fn push_figures(
+    text: &mut String,
+    time: Option<Tick>,
+    setting: &SettingSummary,
+) -> Result<(), AllocError>
+    ensures { OnOk result (string_bytes text.new ≡ string_bytes text.old ++ figure_cells time setting.now) }
 {
-    push_time_cell(text, setting.confirm_p50)?;
+    push_time_cell(text, time, setting.confirm_p50)?;
     push_shares(text, setting)?;
-    push_time_cell(text, setting.suspect_p50)?;
-    push_time_cell(text, setting.confirm_p99)?;
-    push_time_cell(text, setting.confirm_greatest)?;
-    push_time_cell(text, setting.last_p50)?;
-    push_time_cell(text, setting.last_greatest)?;
+    push_time_cell(text, time, setting.suspect_p50)?;
+    push_time_cell(text, time, setting.confirm_p99)?;
+    push_time_cell(text, time, setting.confirm_greatest)?;
+    push_time_cell(text, time, setting.last_p50)?;
+    push_time_cell(text, time, setting.last_greatest)?;
     push_costs(text, setting)
 }
 

@@ -21,6 +21,7 @@ use std::alloc::{AllocError, Global};
 use sweep_keys::push_keys;
 use sweep_plan::Plan;
 use sweep_times::push_times;
+use ticks::Tick;
 
 /// What is told beside the figures.
 #[derive(Clone, Copy)]
@@ -29,6 +30,8 @@ pub struct SweepShown<'a> {
     pub name: &'a str,
     /// The release of the program.
     pub release: &'a str,
+    /// How long a tick lasts, where that is known.
+    pub tick: Option<Tick>,
 }
 
 /// The page of a sweep, whole. It takes the summary of each setting of the plan, in their order, for each
@@ -46,7 +49,7 @@ pub fn page(
     requires bounded { All IsBounded question.now.wants.now }
     requires few { All HasFewRuns settings.now }
     ensures { IfOk result (λ text. string_bytes text
-        ≡ page_text shown.now.name.now shown.now.release.now plan.now question.now.wants.now question.now.best settings.now front.now) }
+        ≡ page_text shown.now.tick shown.now.name.now shown.now.release.now plan.now question.now.wants.now question.now.best settings.now front.now) }
 {
     let crashed = has_crash(settings);
     let points = front_points(alloc, settings, front, crashed)?;
@@ -74,14 +77,16 @@ fn push_page(
     requires bounded { All IsBounded question.now.wants.now }
     requires few { All HasFewRuns settings.now }
     ensures { OnOk result (string_bytes text.new ≡ string_bytes text.old
-        ++ page_over shown.now.name.now shown.now.release.now plan.now question.now.wants.now question.now.best settings.now front.now crashed points.now) }
+        ++ page_over shown.now.tick shown.now.name.now shown.now.release.now plan.now question.now.wants.now question.now.best settings.now front.now crashed points.now) }
 {
     push_head(text, shown.name)?;
-    push_question(alloc, text, plan, question, settings, crashed)?;
-    push_summary(alloc, text, plan, settings, crashed, points)?;
-    push_front(alloc, text, plan, settings, front, points, crashed)?;
-    push_times_where(alloc, text, plan, settings, crashed, points)?;
-    push_table(alloc, text, plan, settings, front)?;
+    push_question(alloc, text, shown.tick, plan, question, settings, crashed)?;
+    push_summary(alloc, text, shown.tick, plan, settings, crashed, points)?;
+    push_front(
+        alloc, text, shown.tick, plan, settings, front, points, crashed,
+    )?;
+    push_times_where(alloc, text, shown.tick, plan, settings, crashed, points)?;
+    push_table(alloc, text, shown.tick, plan, settings, front)?;
     push_end(text, shown.release)?;
     Ok(())
 }
@@ -91,17 +96,18 @@ fn push_page(
 fn push_times_where(
     alloc: Global,
     text: &mut String,
+    time: Option<Tick>,
     plan: &Plan,
     settings: &[SettingSummary],
     crashed: bool,
     points: &[FrontPoint],
 ) -> Result<(), Memory>
-    ensures { OnOk result (string_bytes text.new ≡ string_bytes text.old ++ times_where crashed plan.now settings.now points.now) }
+    ensures { OnOk result (string_bytes text.new ≡ string_bytes text.old ++ times_where time crashed plan.now settings.now points.now) }
 {
     if !crashed {
         return Ok(());
     }
-    push_time_figures(alloc, text, plan, settings, points)
+    push_time_figures(alloc, text, time, plan, settings, points)
 }
 
 /// Appends how times spread, and what each key changes.
@@ -109,14 +115,15 @@ fn push_times_where(
 fn push_time_figures(
     alloc: Global,
     text: &mut String,
+    time: Option<Tick>,
     plan: &Plan,
     settings: &[SettingSummary],
     points: &[FrontPoint],
 ) -> Result<(), Memory>
-    ensures { OnOk result (string_bytes text.new ≡ string_bytes text.old ++ time_figures plan.now settings.now points.now) }
+    ensures { OnOk result (string_bytes text.new ≡ string_bytes text.old ++ time_figures time plan.now settings.now points.now) }
 {
-    push_times_of(alloc, text, plan, settings, points)?;
-    push_keys(alloc, text, plan, settings)?;
+    push_times_of(alloc, text, time, plan, settings, points)?;
+    push_keys(alloc, text, time, plan, settings)?;
     Ok(())
 }
 
@@ -124,15 +131,16 @@ fn push_time_figures(
 fn push_times_of(
     alloc: Global,
     text: &mut String,
+    time: Option<Tick>,
     plan: &Plan,
     settings: &[SettingSummary],
     points: &[FrontPoint],
 ) -> Result<(), Memory>
     ensures { OnOk result (string_bytes text.new ≡ string_bytes text.old
-        ++ times_figure plan.now.swept_keys settings.now (places_of points.now)) }
+        ++ times_figure time plan.now.swept_keys settings.now (places_of points.now)) }
 {
     let places = places_of(alloc, points)?;
-    push_times(alloc, text, plan, settings, &places)?;
+    push_times(alloc, text, time, plan, settings, &places)?;
     Ok(())
 }
 

@@ -1,9 +1,9 @@
 -- A chart of the times of a setting: a bar for each bin.
-use Rattle.std.specs.Prelude.{ℕ, ◌+◌, ◌==◌, if◌then◌else◌, min, List, [], ◌++◌, codes, decimal, slice_get}
+use Rattle.std.specs.Prelude.{ℕ, ◌+◌, ◌==◌, if◌then◌else◌, min, List, [], ◌++◌, codes, decimal, slice_get, Option}
 use Rattle.std.specs.List.{flat_map, range_with_len}
 use Rattle.std.specs.Option.{option_map_or}
 use Rattle.sweep_plan.specs.Sweep.{KeyValues}
-use Rattle.drawing.specs.Axes.{axis_across, axis_up}
+use Rattle.drawing.specs.Axes.{axis_up, time_across}
 use Rattle.drawing.specs.Escaped.{markup}
 use Rattle.drawing.specs.Numbers.{grouped}
 use Rattle.drawing.specs.Shapes.{bar, rule, plot_opening, plot_end}
@@ -11,6 +11,7 @@ use Rattle.figures.specs.declared.histogram.Histogram.{Histogram}
 use Rattle.figures.specs.declared.summary.SettingSummary.{SettingSummary}
 use Rattle.sweep_cells.specs.Words.{number_words, swept_keys_at, time_words}
 use Rattle.sweep_times.specs.Bins.{held, bin_start, bin_end, height_of, never_confirmed}
+use Rattle.ticks.specs.declared.tick.Tick.{Tick}
 
 -- the bar of a bin, as wide as the bin and as high as its times are many; the plot cuts it off
 unfoldable pub filled_bar : Histogram → ℕ → ℕ → ℕ → ℕ → List ℕ
@@ -53,25 +54,25 @@ chart_heading swept_keys place =
     markup (codes "<div><h3><span class=\"number\">") ++ number_words place ++ markup (codes "</span> <code>") ++ swept_keys_at swept_keys place ++ markup (codes "</code></h3>")
 
 -- its median, and how many crashes were never confirmed
-unfoldable pub chart_words : SettingSummary → List ℕ
-chart_words setting =
-    markup (codes "<p class=\"soft\">Median: ") ++ time_words setting.confirm_p50 ++ markup (codes " ticks. Never confirmed: ") ++ grouped (never_confirmed setting)
+unfoldable pub chart_words : Option Tick → SettingSummary → List ℕ
+chart_words time setting =
+    markup (codes "<p class=\"soft\">Median: ") ++ time_words time setting.confirm_p50 ++ markup (codes " ticks. Never confirmed: ") ++ grouped (never_confirmed setting)
     ++ markup (codes " of ") ++ grouped (held setting.crashes) ++ markup (codes " crashes.</p>")
 
 -- its plot with both axes
-unfoldable pub times_plot : ℕ → ℕ → SettingSummary → List ℕ
-times_plot across place setting =
+unfoldable pub times_plot : Option Tick → ℕ → ℕ → SettingSummary → List ℕ
+times_plot time across place setting =
     markup (codes "<div class=\"chart\">") ++ axis_up (height_of setting.confirm_times) ++ times_plane place setting across (height_of setting.confirm_times)
-    ++ axis_across across (codes "ticks since the crash") ++ markup (codes "</div></div>")
+    ++ time_across time across (codes "ticks since the crash") ++ markup (codes "</div></div>")
 
 -- the chart of a setting
-unfoldable pub times_chart : List KeyValues → ℕ → ℕ → SettingSummary → List ℕ
-times_chart swept_keys across place setting = chart_heading swept_keys place ++ chart_words setting ++ times_plot across place setting
+unfoldable pub times_chart : Option Tick → List KeyValues → ℕ → ℕ → SettingSummary → List ℕ
+times_chart time swept_keys across place setting = chart_heading swept_keys place ++ chart_words time setting ++ times_plot time across place setting
 
 -- that of the setting at a place
-unfoldable pub chart_at : List KeyValues → List SettingSummary → ℕ → ℕ → List ℕ
-chart_at swept_keys settings across place = option_map_or (times_chart swept_keys across place) (slice_get settings place) []
+unfoldable pub chart_at : Option Tick → List KeyValues → List SettingSummary → ℕ → ℕ → List ℕ
+chart_at time swept_keys settings across place = option_map_or (times_chart time swept_keys across place) (slice_get settings place) []
 
 -- the charts of the settings at these places
-unfoldable pub charts : List KeyValues → List SettingSummary → ℕ → List ℕ → List ℕ
-charts swept_keys settings across places = markup (codes "<div class=\"many\">") ++ flat_map (chart_at swept_keys settings across) places ++ markup (codes "</div>")
+unfoldable pub charts : Option Tick → List KeyValues → List SettingSummary → ℕ → List ℕ → List ℕ
+charts time swept_keys settings across places = markup (codes "<div class=\"many\">") ++ flat_map (chart_at time swept_keys settings across) places ++ markup (codes "</div>")

@@ -7,17 +7,21 @@ ghost use Rattle.sweep_times.specs.Charts.{median_rule, plot_title, times_openin
 use crate::bars::push_bars;
 use crate::bins::{height_of, held, never_confirmed};
 use base::Memory;
-use drawing::{close_plot, open_plot, push_across, push_grouped, push_markup, push_rule, push_up};
+use drawing::{
+    close_plot, open_plot, push_grouped, push_markup, push_rule, push_time_across, push_up,
+};
 use figures::SettingSummary;
 use std::alloc::{AllocError, Global};
 use sweep_cells::{push_number, push_swept_keys_at, push_time, setting_at};
 use sweep_plan::Plan;
+use ticks::Tick;
 
 /// Appends the charts of the settings at these places, over an axis of so many ticks.
 #[tactic(auto, unfolding(crate::specs::Charts::charts))]
 pub(crate) fn push_charts(
     alloc: Global,
     text: &mut String,
+    time: Option<Tick>,
     plan: &Plan,
     settings: &[SettingSummary],
     across: u64,
@@ -25,10 +29,10 @@ pub(crate) fn push_charts(
 ) -> Result<(), Memory>
     requires { across < 2 ^ 63 }
     ensures { OnOk result (string_bytes text.new ≡ string_bytes text.old
-        ++ charts plan.now.swept_keys settings.now across places.now) }
+        ++ charts time plan.now.swept_keys settings.now across places.now) }
 {
     push_markup(text, "<div class=\"many\">")?;
-    push_each_chart(alloc, text, plan, settings, across, places)?;
+    push_each_chart(alloc, text, time, plan, settings, across, places)?;
     push_markup(text, "</div>")?;
     Ok(())
 }
@@ -37,6 +41,7 @@ pub(crate) fn push_charts(
 fn push_each_chart(
     alloc: Global,
     text: &mut String,
+    time: Option<Tick>,
     plan: &Plan,
     settings: &[SettingSummary],
     across: u64,
@@ -44,10 +49,10 @@ fn push_each_chart(
 ) -> Result<(), Memory>
     requires { across < 2 ^ 63 }
     ensures { OnOk result (string_bytes text.new ≡ string_bytes text.old
-        ++ flat_map (chart_at plan.now.swept_keys settings.now across) places.now) }
+        ++ flat_map (chart_at time plan.now.swept_keys settings.now across) places.now) }
 {
     for place in places {
-        push_chart_at(alloc, text, plan, settings, across, *place)?;
+        push_chart_at(alloc, text, time, plan, settings, across, *place)?;
     }
     Ok(())
 }
@@ -57,6 +62,7 @@ fn push_each_chart(
 fn push_chart_at(
     alloc: Global,
     text: &mut String,
+    time: Option<Tick>,
     plan: &Plan,
     settings: &[SettingSummary],
     across: u64,
@@ -64,10 +70,10 @@ fn push_chart_at(
 ) -> Result<(), Memory>
     requires { across < 2 ^ 63 }
     ensures { OnOk result (string_bytes text.new ≡ string_bytes text.old
-        ++ chart_at plan.now.swept_keys settings.now across place) }
+        ++ chart_at time plan.now.swept_keys settings.now across place) }
 {
     match setting_at(settings, place) {
-        Some(setting) => push_chart(alloc, text, plan, across, place, &setting),
+        Some(setting) => push_chart(alloc, text, time, plan, across, place, &setting),
         None => Ok(()),
     }
 }
@@ -77,6 +83,7 @@ fn push_chart_at(
 fn push_chart(
     alloc: Global,
     text: &mut String,
+    time: Option<Tick>,
     plan: &Plan,
     across: u64,
     place: usize,
@@ -84,11 +91,11 @@ fn push_chart(
 ) -> Result<(), Memory>
     requires { across < 2 ^ 63 }
     ensures { OnOk result (string_bytes text.new ≡ string_bytes text.old
-        ++ times_chart plan.now.swept_keys across place setting.now) }
+        ++ times_chart time plan.now.swept_keys across place setting.now) }
 {
     push_heading(alloc, text, plan, place)?;
-    push_words(text, setting)?;
-    push_plot(alloc, text, across, place, setting)?;
+    push_words(text, time, setting)?;
+    push_plot(alloc, text, time, across, place, setting)?;
     Ok(())
 }
 
@@ -107,11 +114,15 @@ fn push_heading(alloc: Global, text: &mut String, plan: &Plan, place: usize) -> 
 
 /// Appends a setting's median, and how many of its crashes were never confirmed.
 #[tactic(auto, unfolding(crate::specs::Charts::chart_words))]
-fn push_words(text: &mut String, setting: &SettingSummary) -> Result<(), AllocError>
-    ensures { OnOk result (string_bytes text.new ≡ string_bytes text.old ++ chart_words setting.now) }
+fn push_words(
+    text: &mut String,
+    time: Option<Tick>,
+    setting: &SettingSummary,
+) -> Result<(), AllocError>
+    ensures { OnOk result (string_bytes text.new ≡ string_bytes text.old ++ chart_words time setting.now) }
 {
     push_markup(text, "<p class=\"soft\">Median: ")?;
-    push_time(text, setting.confirm_p50)?;
+    push_time(text, time, setting.confirm_p50)?;
     push_markup(text, " ticks. Never confirmed: ")?;
     push_grouped(text, never_confirmed(setting))?;
     push_markup(text, " of ")?;
@@ -124,18 +135,19 @@ fn push_words(text: &mut String, setting: &SettingSummary) -> Result<(), AllocEr
 fn push_plot(
     alloc: Global,
     text: &mut String,
+    time: Option<Tick>,
     across: u64,
     place: usize,
     setting: &SettingSummary,
 ) -> Result<(), Memory>
     requires { across < 2 ^ 63 }
-    ensures { OnOk result (string_bytes text.new ≡ string_bytes text.old ++ times_plot across place setting.now) }
+    ensures { OnOk result (string_bytes text.new ≡ string_bytes text.old ++ times_plot time across place setting.now) }
 {
     let up = height_of(&setting.confirm_times);
     push_markup(text, "<div class=\"chart\">")?;
     push_up(text, up)?;
     push_plane(alloc, text, place, setting, across, up)?;
-    push_across(text, across, "ticks since the crash")?;
+    push_time_across(text, across, "ticks since the crash", time)?;
     push_markup(text, "</div></div>")?;
     Ok(())
 }

@@ -5,22 +5,24 @@ ghost use Rattle.std.specs.String.{string_bytes};
 ghost use Rattle.sweep_times.specs.Times.{row_opening, row_end, filled_row, bin_row, row_at, bin_rows, never_row, setting_rows, rows_at, times_heads, times_table};
 
 use crate::bins::{bin_end, bin_start, count_at, never_confirmed};
-use drawing::{push_grouped, push_markup};
+use drawing::{push_grouped, push_markup, push_timed};
 use figures::{Histogram, SettingSummary};
 use std::alloc::AllocError;
 use sweep_cells::{push_number, setting_at};
+use ticks::Tick;
 
 /// Appends the bins of the settings at these places, folded.
 #[tactic(auto, unfolding(crate::specs::Times::times_table))]
 pub(crate) fn push_rows(
     text: &mut String,
+    time: Option<Tick>,
     settings: &[SettingSummary],
     places: &[usize],
 ) -> Result<(), AllocError>
-    ensures { OnOk result (string_bytes text.new ≡ string_bytes text.old ++ times_table settings.now places.now) }
+    ensures { OnOk result (string_bytes text.new ≡ string_bytes text.old ++ times_table time settings.now places.now) }
 {
     push_heads(text)?;
-    push_rows_of(text, settings, places)?;
+    push_rows_of(text, time, settings, places)?;
     push_markup(text, "</tbody></table></div></details>")
 }
 
@@ -32,7 +34,7 @@ fn push_heads(text: &mut String) -> Result<(), AllocError>
     text.push_str(
         "<details><summary>These times in numbers</summary><div class=\"wide\"><table>\
          <caption>How many crashes were first confirmed when</caption><thead><tr>\
-         <th scope=\"col\">swept</th><th scope=\"col\">ticks until first confirmed</th>\
+         <th scope=\"col\">setting</th><th scope=\"col\">ticks until first confirmed</th>\
          <th scope=\"col\">crashes</th></tr></thead><tbody>",
     )
 }
@@ -40,13 +42,14 @@ fn push_heads(text: &mut String) -> Result<(), AllocError>
 /// Appends the rows of these settings.
 fn push_rows_of(
     text: &mut String,
+    time: Option<Tick>,
     settings: &[SettingSummary],
     places: &[usize],
 ) -> Result<(), AllocError>
-    ensures { OnOk result (string_bytes text.new ≡ string_bytes text.old ++ flat_map (rows_at settings.now) places.now) }
+    ensures { OnOk result (string_bytes text.new ≡ string_bytes text.old ++ flat_map (rows_at time settings.now) places.now) }
 {
     for place in places {
-        push_rows_at(text, settings, *place)?;
+        push_rows_at(text, time, settings, *place)?;
     }
     Ok(())
 }
@@ -55,13 +58,14 @@ fn push_rows_of(
 #[tactic(auto, unfolding(crate::specs::Times::rows_at))]
 fn push_rows_at(
     text: &mut String,
+    time: Option<Tick>,
     settings: &[SettingSummary],
     place: usize,
 ) -> Result<(), AllocError>
-    ensures { OnOk result (string_bytes text.new ≡ string_bytes text.old ++ rows_at settings.now place) }
+    ensures { OnOk result (string_bytes text.new ≡ string_bytes text.old ++ rows_at time settings.now place) }
 {
     match setting_at(settings, place) {
-        Some(setting) => push_setting_rows(text, place, &setting),
+        Some(setting) => push_setting_rows(text, time, place, &setting),
         None => Ok(()),
     }
 }
@@ -70,22 +74,28 @@ fn push_rows_at(
 #[tactic(auto, unfolding(crate::specs::Times::setting_rows))]
 fn push_setting_rows(
     text: &mut String,
+    time: Option<Tick>,
     place: usize,
     setting: &SettingSummary,
 ) -> Result<(), AllocError>
-    ensures { OnOk result (string_bytes text.new ≡ string_bytes text.old ++ setting_rows place setting.now) }
+    ensures { OnOk result (string_bytes text.new ≡ string_bytes text.old ++ setting_rows time place setting.now) }
 {
-    push_bin_rows(text, &setting.confirm_times, place)?;
+    push_bin_rows(text, time, &setting.confirm_times, place)?;
     push_never_row(text, place, setting)
 }
 
 /// Appends the rows of its bins.
 #[tactic(auto, unfolding(crate::specs::Times::bin_rows))]
-fn push_bin_rows(text: &mut String, times: &Histogram, place: usize) -> Result<(), AllocError>
-    ensures { OnOk result (string_bytes text.new ≡ string_bytes text.old ++ bin_rows times.now place) }
+fn push_bin_rows(
+    text: &mut String,
+    time: Option<Tick>,
+    times: &Histogram,
+    place: usize,
+) -> Result<(), AllocError>
+    ensures { OnOk result (string_bytes text.new ≡ string_bytes text.old ++ bin_rows time times.now place) }
 {
     for bin in 0..times.bins.len() {
-        push_row_at(text, times, place, bin)?;
+        push_row_at(text, time, times, place, bin)?;
     }
     Ok(())
 }
@@ -94,14 +104,15 @@ fn push_bin_rows(text: &mut String, times: &Histogram, place: usize) -> Result<(
 #[tactic(auto, unfolding(crate::specs::Times::row_at))]
 fn push_row_at(
     text: &mut String,
+    time: Option<Tick>,
     times: &Histogram,
     place: usize,
     bin: usize,
 ) -> Result<(), AllocError>
-    ensures { OnOk result (string_bytes text.new ≡ string_bytes text.old ++ row_at times.now place bin) }
+    ensures { OnOk result (string_bytes text.new ≡ string_bytes text.old ++ row_at time times.now place bin) }
 {
     match count_at(times, bin) {
-        Some(count) => push_bin_row(text, times, place, bin, count),
+        Some(count) => push_bin_row(text, time, times, place, bin, count),
         None => Ok(()),
     }
 }
@@ -110,34 +121,36 @@ fn push_row_at(
 #[tactic(auto, unfolding(crate::specs::Times::bin_row))]
 fn push_bin_row(
     text: &mut String,
+    time: Option<Tick>,
     times: &Histogram,
     place: usize,
     bin: usize,
     count: u64,
 ) -> Result<(), AllocError>
-    ensures { OnOk result (string_bytes text.new ≡ string_bytes text.old ++ bin_row times.now place bin count) }
+    ensures { OnOk result (string_bytes text.new ≡ string_bytes text.old ++ bin_row time times.now place bin count) }
 {
     if count == 0 {
         return Ok(());
     }
-    push_filled_row(text, times, place, bin, count)
+    push_filled_row(text, time, times, place, bin, count)
 }
 
 /// Appends the row of a bin: its first tick and its last, and how many times are in it.
 #[tactic(auto, unfolding(crate::specs::Times::filled_row))]
 fn push_filled_row(
     text: &mut String,
+    time: Option<Tick>,
     times: &Histogram,
     place: usize,
     bin: usize,
     count: u64,
 ) -> Result<(), AllocError>
-    ensures { OnOk result (string_bytes text.new ≡ string_bytes text.old ++ filled_row times.now place bin count) }
+    ensures { OnOk result (string_bytes text.new ≡ string_bytes text.old ++ filled_row time times.now place bin count) }
 {
     push_row_opening(text, place)?;
-    push_grouped(text, bin_start(times, bin))?;
+    push_timed(text, time, bin_start(times, bin))?;
     push_markup(text, " to ")?;
-    push_grouped(text, bin_end(times, bin).saturating_sub(1))?;
+    push_timed(text, time, bin_end(times, bin).saturating_sub(1))?;
     push_row_end(text, count)
 }
 

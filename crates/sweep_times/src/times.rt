@@ -12,6 +12,7 @@ use figures::SettingSummary;
 use std::alloc::{AllocError, Global};
 use sweep_cells::push_count;
 use sweep_plan::Plan;
+use ticks::Tick;
 
 /// How many settings are drawn.
 const MOST_DRAWN: usize = 12;
@@ -23,18 +24,27 @@ const MOST_DRAWN: usize = 12;
 pub fn push_times(
     alloc: Global,
     text: &mut String,
+    time: Option<Tick>,
     plan: &Plan,
     settings: &[SettingSummary],
     places: &[usize],
 ) -> Result<(), Memory>
     ensures { OnOk result (string_bytes text.new ≡ string_bytes text.old
-        ++ times_figure plan.now.swept_keys settings.now places.now) }
+        ++ times_figure time plan.now.swept_keys settings.now places.now) }
 {
     if places.is_empty() {
         return Ok(());
     }
     let more = places.len().saturating_sub(MOST_DRAWN);
-    push_figure(alloc, text, plan, settings, first_places(places), more)
+    push_figure(
+        alloc,
+        text,
+        time,
+        plan,
+        settings,
+        first_places(places),
+        more,
+    )
 }
 
 /// The places of the settings that are drawn.
@@ -49,20 +59,21 @@ fn first_places(places: &[usize]) -> &[usize]
 fn push_figure(
     alloc: Global,
     text: &mut String,
+    time: Option<Tick>,
     plan: &Plan,
     settings: &[SettingSummary],
     places: &[usize],
     more: usize,
 ) -> Result<(), Memory>
     ensures { OnOk result (string_bytes text.new ≡ string_bytes text.old
-        ++ figure_of plan.now.swept_keys settings.now places.now more) }
+        ++ figure_of time plan.now.swept_keys settings.now places.now more) }
 {
     let across = axis_reach(settings, places);
     open_figure(text, "times", "How the times to confirm spread")?;
     push_words(text)?;
-    push_charts(alloc, text, plan, settings, across, places)?;
+    push_charts(alloc, text, time, plan, settings, across, places)?;
     push_undrawn(text, more)?;
-    push_rows(text, settings, places)?;
+    push_rows(text, time, settings, places)?;
     close_figure(text)?;
     Ok(())
 }
@@ -73,7 +84,7 @@ fn push_words(text: &mut String) -> Result<(), AllocError>
     ensures { OnOk result (string_bytes text.new ≡ string_bytes text.old ++ times_words) }
 {
     text.push_str(
-        "<p class=\"soft\">For each of the fastest swept_keys on the front, at most 12: how many crashes of all its \
+        "<p class=\"soft\">For each of the fastest settings on the front, at most 12: how many crashes of all its \
          runs were first confirmed after how many ticks. A bar is as wide as the span of ticks that it counts, and all charts reach as \
          far as the latest of these times; the upright rule is the median.</p>",
     )

@@ -13,6 +13,8 @@ use Rattle.sweep_plan.specs.declared.keys.SweptKey.{SweptKey}
 use Rattle.sweep_plan.specs.declared.values.SweptValue.{SweptValue}
 use Rattle.shards.specs.Shards.{IsShardWord}
 use Rattle.shards.specs.declared.shard.Shard.{Shard}
+use Rattle.ticks.specs.Ticks.{IsTickWord}
+use Rattle.ticks.specs.declared.tick.Tick.{Tick}
 use Rattle.reasons.specs.declared.words.Clash.{Clash}
 use Rattle.reasons.specs.declared.words.Clash.TheVariants as clash
 use Rattle.reasons.specs.declared.words.WordFault.{WordFault}
@@ -80,6 +82,7 @@ IsRefusedWord rows fault.SeedsMany word = (first_of (codes "seeds") rows ≡ Som
 IsRefusedWord rows fault.Swept word = Contains (words_of (codes "set") rows) word × SetsNothing word
 IsRefusedWord rows fault.KeyTwice word = Contains (words_of (codes "set") rows) word
 IsRefusedWord rows fault.Want word = Contains (words_of (codes "want") rows) word × WantsNothing word
+IsRefusedWord rows fault.Tick word = (first_of (codes "tick") rows ≡ Some word) × ((tick : Tick) → ¬ (IsTickWord word tick))
 
 -- what a reason says is true of the words that were found, and by it they ask for nothing
 abbrev pub IsReasonOf : List Row → WordReason → Type 0

@@ -7,6 +7,7 @@ use arguments::{is_given, number_within, value_of};
 use clap::ArgMatches;
 use reasons::{Clash, WordFault, WordReason};
 use shards::Shard;
+use ticks::tick_of;
 
 /// The options of a run that exclude each other.
 pub(crate) fn run_clash<'a>(run: &ArgMatches<'a>) -> Option<WordReason<'a>>
@@ -110,6 +111,20 @@ pub(crate) fn list_word<'a>(matches: &ArgMatches<'a>, fault: WordFault) -> Optio
 {
     let word = value_of(matches, "division")?;
     Some(WordReason::Word { fault, word })
+}
+
+/// The word of `--tick`, where it doesn't say how long a tick lasts.
+pub(crate) fn tick_word<'a>(matches: &ArgMatches<'a>) -> Option<WordReason<'a>>
+    ensures { IfSome result (IsReasonOf (rows_of (found_of matches.now))) }
+{
+    let word = value_of(matches, "tick")?;
+    if tick_of(word).is_some() {
+        return None;
+    }
+    Some(WordReason::Word {
+        fault: WordFault::Tick,
+        word,
+    })
 }
 
 /// The word of `--shard`, where it is no shard.

@@ -3,7 +3,7 @@ ghost use Rattle.std.specs.Prelude.{IfOk, IfSome};
 ghost use Rattle.clap.specs.Words.{found_of, rows_of};
 ghost use Rattle.word_reasons.specs.Found.{IsReasonOf, IsSeedsReason, SeedsNothing};
 
-use crate::options::{shard_word, sweep_clash, until_word};
+use crate::options::{shard_word, sweep_clash, tick_word, until_word};
 use crate::swept_keys::swept_keys_reason;
 use crate::wants::wants_reason;
 use arguments::{value_of, values_of};
@@ -35,8 +35,18 @@ fn option_reason<'a>(sweep: &ArgMatches<'a>) -> Option<WordReason<'a>>
         Some(clash) => Some(clash),
         None => match until_word(sweep) {
             Some(until) => Some(until),
-            None => shard_word(sweep),
+            None => shard_or_tick(sweep),
         },
+    }
+}
+
+/// What is wrong with the word of `--shard`, else with that of `--tick`.
+fn shard_or_tick<'a>(sweep: &ArgMatches<'a>) -> Option<WordReason<'a>>
+    ensures { IfSome result (IsReasonOf (rows_of (found_of sweep.now))) }
+{
+    match shard_word(sweep) {
+        Some(shard) => Some(shard),
+        None => tick_word(sweep),
     }
 }
 

@@ -5,7 +5,7 @@ ghost use Rattle.command_line.specs.Words.{swimsim_app};
 ghost use Rattle.word_reasons.specs.Found.{IsReasonMet, IsReasonOf};
 ghost use Rattle.word_reasons.specs.Faults.{IsFaultOf};
 
-use crate::options::{join_clash, list_word, parts_word, run_clash, workers_word};
+use crate::options::{join_clash, list_word, parts_word, run_clash, tick_word, workers_word};
 use crate::sweeping::sweep_reason;
 use crate::wants::wants_reason;
 use base::Memory;
@@ -62,7 +62,7 @@ fn taken_reason<'a>(
     }
     match matches.subcommand_matches("sweep") {
         Some(sweep) => sweep_failed(alloc, sweep, failure),
-        None => Ok(None),
+        None => Ok(page_reason(matches, failure)),
     }
 }
 
@@ -71,7 +71,10 @@ fn run_reason<'a>(run: &ArgMatches<'a>, failure: &Failure<'_>) -> Option<WordRea
     ensures { IfSome result (IsReasonOf (rows_of (found_of run.now))) }
 {
     match failure {
-        Failure::Usage => run_clash(run),
+        Failure::Usage => match run_clash(run) {
+            Some(clash) => Some(clash),
+            None => tick_word(run),
+        },
         Failure::Workers => workers_word(run),
         Failure::Division(fault) => division_reason(run, *fault),
         _ => None,
@@ -104,6 +107,19 @@ fn sweep_failed<'a>(
     }
 }
 
+/// What is wrong with the words of a page.
+fn page_reason<'a>(matches: &ArgMatches<'a>, failure: &Failure<'_>) -> Option<WordReason<'a>>
+    ensures { IfSome result (IsReasonMet (subcommand_rows_of matches.now)) }
+{
+    match failure {
+        Failure::Usage => {
+            let page = matches.subcommand_matches("page")?;
+            tick_word(page)
+        }
+        _ => None,
+    }
+}
+
 /// What is wrong with the words of a joining.
 fn join_reason<'a>(
     alloc: Global,
@@ -115,8 +131,18 @@ fn join_reason<'a>(
     match failure {
         Failure::Usage => match join_clash(join) {
             Some(clash) => Ok(Some(clash)),
-            None => wants_reason(alloc, join),
+            None => join_word(alloc, join),
         },
         _ => Ok(None),
+    }
+}
+
+/// What is wrong with the word of `--tick` in the words of a joining, else with what is wanted.
+fn join_word<'a>(alloc: Global, join: &ArgMatches<'a>) -> Result<Option<WordReason<'a>>, Memory>
+    ensures { IfOk result (λ reason. IfSome reason (IsReasonOf (rows_of (found_of join.now)))) }
+{
+    match tick_word(join) {
+        Some(tick) => Ok(Some(tick)),
+        None => wants_reason(alloc, join),
     }
 }

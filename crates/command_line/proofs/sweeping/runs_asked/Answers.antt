@@ -1,7 +1,10 @@
 use Rattle.std.proofs.Common.{rules, refl}
 use Rattle.clap.specs.Words.{found_of, rows_of}
-use Rattle.command_line.proofs.Sweeps.{no_plan, no_shard, no_wants}
+use Rattle.command_line.proofs.Sweeps.{no_plan, no_shard, no_tick, no_wants}
 use Rattle.command_line.proofs.sweeping.runs_asked.Goals as goal
+
+pub returns-in_default-clause-usage : goal.returns-in_default-clause-usage
+returns-in_default-clause-usage c e wish h = no_tick (rows_of (found_of c.args.sweep.now)) wish h (c.in_default.ensures.none refl)
 
 pub returns-in_err-plan-clause-usage : goal.returns-in_err-plan-clause-usage
 returns-in_err-plan-clause-usage c e wish h = no_plan (rows_of (found_of c.args.sweep.now)) wish h (c.in_err-plan.ensures.usage (search rules))
@@ -26,5 +29,6 @@ returns-clause-sweep c = record {
   resume = search rules;
   jsonl = search rules;
   page = search rules;
+  tick = c.in-Some.ensures.some;
   sense = c.requires.sense;
 }

@@ -16,10 +16,10 @@ push_at-requires c =
 
 pub loop-place-preserved : goal.loop-place-preserved
 loop-place-preserved c list are =
-    told_next (accuser_item c.args.scenario.now) list c.loop-place.place _ _ _ (c.loop-place.invariant list are)
-    (c.in_ok-push_at.ensures ∙ ap (λ (o : Option Accusation). string_bytes c.loop-place.text ++ option_map_or (accuser_item c.args.scenario.now) o []) (c.at.ensures list are))
+    told_next (accuser_item c.args.time c.args.scenario.now) list c.loop-place.place _ _ _ (c.loop-place.invariant list are)
+    (c.in_ok-push_at.ensures ∙ ap (λ (o : Option Accusation). string_bytes c.loop-place.text ++ option_map_or (accuser_item c.args.time c.args.scenario.now) o []) (c.at.ensures list are))
 
 pub returns : goal.returns
 returns c list are =
     let all : c.loop-place.place ≡ 4 = omega (arith, c.loop-place-test.false, c.loop-place.auto.place-end) in
-    c.loop-place.invariant list are ∙ ap (λ n. string_bytes c.args.text.now ++ flat_map (accuser_item c.args.scenario.now) (take n list)) all
+    c.loop-place.invariant list are ∙ ap (λ n. string_bytes c.args.text.now ++ flat_map (accuser_item c.args.time c.args.scenario.now) (take n list)) all

@@ -14,5 +14,5 @@ push_where-requires-clause-those c =
 
 pub returns : goal.returns
 returns c =
-    subst (λ n. OnOk c.push_where.result (string_bytes c.push_where.new.text ≡ string_bytes c.args.text.now ++ causes_where c.args.run.now.scenario.now (deaths_of c.args.run.now.tallies.now) n))
+    subst (λ n. OnOk c.push_where.result (string_bytes c.push_where.new.text ≡ string_bytes c.args.text.now ++ causes_where c.args.run.now.tick c.args.run.now.scenario.now (deaths_of c.args.run.now.tallies.now) n))
     (c.count-count.ensures ∙ ap (λ (d : Deaths). d.count) c.deaths-deaths.ensures ∙ c.requires.told.gathered.deaths.told.count) c.push_where.ensures

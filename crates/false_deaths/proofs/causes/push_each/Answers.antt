@@ -21,11 +21,11 @@ loop-place-preserved c =
     let s = c.args.run.now.scenario.now in
     let deaths = deaths_of c.args.run.now.tallies.now in
     let place = c.loop-place.place in
-    told_next (cause s) deaths place _ _ _ c.loop-place.invariant
+    told_next (cause c.args.run.now.tick s) deaths place _ _ _ c.loop-place.invariant
     (c.in_ok-push_slot.ensures (slice_get deaths place)
     (subst (λ slot. IsToldOf slot (slice_get deaths place)) (sym c.slot_at-slot.ensures) (c.requires.those.told place c.loop-place-test.true)))
 
 pub returns : goal.returns
 returns c =
     let all : c.loop-place.place ≡ 20 = omega (arith, c.loop-place-test.false, c.loop-place.auto.place-end) in
-    c.loop-place.invariant ∙ ap (λ n. string_bytes c.args.text.now ++ flat_map (cause c.args.run.now.scenario.now) (take n (deaths_of c.args.run.now.tallies.now))) all
+    c.loop-place.invariant ∙ ap (λ n. string_bytes c.args.text.now ++ flat_map (cause c.args.run.now.tick c.args.run.now.scenario.now) (take n (deaths_of c.args.run.now.tallies.now))) all

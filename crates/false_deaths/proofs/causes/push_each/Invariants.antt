@@ -6,4 +6,4 @@ use Rattle.false_deaths.proofs.causes.push_each.Given as goal
 
 -- those so far
 abbrev pub invariant-loop-place : goal.invariant-loop-place
-invariant-loop-place l = string_bytes l.text ≡ string_bytes l.initial.text ++ flat_map (cause l.run.scenario.now) (take l.place (deaths_of l.run.tallies.now))
+invariant-loop-place l = string_bytes l.text ≡ string_bytes l.initial.text ++ flat_map (cause l.run.tick l.run.scenario.now) (take l.place (deaths_of l.run.tallies.now))

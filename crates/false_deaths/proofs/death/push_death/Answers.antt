@@ -25,5 +25,5 @@ returns c =
     on_ok c.push_words.result
     (λ told r is.
     told (accusations c.args.death.now.subject r.earlier) (subst (λ a. AreAccusers a (accusations c.args.death.now.subject r.earlier)) (sym c.accusers.ensures) is.standing.accusers)
-    ∙ ap (λ words. string_bytes c.args.text.now ++ words) (cause_is c.args.scenario.now c.args.death.now r c.is_later.result c.refuted-refutation.result c.heard.result c.refuted-refutation.ensures c.heard.ensures c.is_later.ensures is))
+    ∙ ap (λ words. string_bytes c.args.text.now ++ words) (cause_is c.args.time c.args.scenario.now c.args.death.now r c.is_later.result c.refuted-refutation.result c.heard.result c.refuted-refutation.ensures c.heard.ensures c.is_later.ensures is))
     c.push_words.ensures

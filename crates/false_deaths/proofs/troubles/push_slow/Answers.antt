@@ -4,4 +4,4 @@ use Rattle.false_deaths.proofs.troubles.push_slow.Goals as goal
 
 pub returns : goal.returns
 unfolding slow_sentence
-returns c = simp (c.in_ok-push_time.ensures, c.in_ok-push_grouped.ensures, c.in_ok-open_sentence.ensures, append_assoc) refl
+returns c = simp (c.in_ok-push_time.ensures, c.in_ok-push_timed.ensures, c.in_ok-open_sentence.ensures, append_assoc) refl

@@ -6,4 +6,4 @@ use Rattle.member_timelines.proofs.lanes.push_spans.Given as goal
 
 -- the rows of the spans so far
 abbrev pub invariant-loop-span : goal.invariant-loop-span
-invariant-loop-span l = string_bytes l.text ≡ string_bytes l.initial.text ++ flat_map (span_row l.name l.width l.suspected l.dead) (range_with_len 0 l.span)
+invariant-loop-span l = string_bytes l.text ≡ string_bytes l.initial.text ++ flat_map (span_row l.time l.name l.width l.suspected l.dead) (range_with_len 0 l.span)

@@ -22,8 +22,8 @@ returns-clause-done g c =
     let s = c.args.prepared.now.scenario in
     let release = c.args.shown.now.release.now in
     told_done _ run.result.3 c.run_result.result c.run_result.ensures (each_ok run.result.3 run.ensures.written (λ summary writes.
-    subst (λ (name : List ℕ). StoresPaged s name release start end trace None page summary.rows) c.requires.named
-    (paged_stored s c.args.shown.now.name.now release start end trace None page _ _ _ _ _ _
+    subst (λ (name : List ℕ). StoresPaged s c.args.shown.now.tick name release start end trace None page summary.rows) c.requires.named
+    (paged_stored s c.args.shown.now.tick c.args.shown.now.name.now release start end trace None page _ _ _ _ _ _
     (first_of_two start made between end trace page c.in-Ok.ensures.differ c.in-Ok.ensures.others c.close.ensures.others c.close-2.ensures.others
     _ _ c.in-Ok.ensures.empty c.in-Ok.ensures.made c.close.ensures.closed)
     (λ text appended. tt)
@@ -49,8 +49,8 @@ returns-clause-failed g c =
     let ends = EndsWithCause (refused c.args.files.now < refused c.close-2.new.self) ends_by in
     told_failed _ run.result.3 c.run_result.result c.run_result.ensures (each_err run.result.3 run.ensures.beginning (λ cause is begins. (
       c.in-Ok.ensures.apart,
-      subst (λ (name : List ℕ). BreaksOffPaged ends s name release start end trace None page cause) c.requires.named
-          (paged_begun s c.args.shown.now.name.now release start end trace None page _ _ _ _ _ _
+      subst (λ (name : List ℕ). BreaksOffPaged ends s c.args.shown.now.tick name release start end trace None page cause) c.requires.named
+          (paged_begun s c.args.shown.now.tick c.args.shown.now.name.now release start end trace None page _ _ _ _ _ _
           (first_of_two start made between end trace page c.in-Ok.ensures.differ c.in-Ok.ensures.others c.close.ensures.others c.close-2.ensures.others
           _ _ c.in-Ok.ensures.empty c.in-Ok.ensures.made c.close.ensures.closed)
           (λ text appended. tt)

@@ -6,4 +6,4 @@ use Rattle.run_page.proofs.health.push_spans.Given as goal
 
 -- the rows of the spans so far
 abbrev pub invariant-loop-span : goal.invariant-loop-span
-invariant-loop-span l = string_bytes l.text ≡ string_bytes l.initial.text ++ flat_map (health_span l.value l.width l.counts) (range_with_len 0 l.span)
+invariant-loop-span l = string_bytes l.text ≡ string_bytes l.initial.text ++ flat_map (health_span l.time l.value l.width l.counts) (range_with_len 0 l.span)

@@ -14,7 +14,7 @@ returns c =
     let dead : times s (learned c.confirmed.result.now from) ≡ times s (learned c.args.spread.now.confirmed.items from) = ap (λ moments. times s (learned moments from)) c.confirmed.ensures in
     c.in_ok-push_part.ensures
     ∙ ap (λ t. string_bytes c.args.text.now ++ t)
-    (part_same c.args.name.now step _ _ _ _ _ _ _ _ _ _ up
+    (part_same c.args.run.now.tick c.args.name.now step _ _ _ _ _ _ _ _ _ _ up
     (c.in_ok-suspected.ensures.reached ∙ ap (λ list. reached list step) suspected)
     (c.in_ok-suspected.ensures.shares ∙ ap (λ n. shares n (times s (learned c.suspected.result.now from))) up ∙ ap (shares (staying s)) suspected)
     (c.in_ok-dead.ensures.reached ∙ ap (λ list. reached list step) dead)

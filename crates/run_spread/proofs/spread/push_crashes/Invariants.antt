@@ -6,4 +6,4 @@ use Rattle.run_spread.proofs.spread.push_crashes.Given as goal
 
 -- what is shown of those so far
 abbrev pub invariant-loop-number : goal.invariant-loop-number
-invariant-loop-number l = string_bytes l.text ≡ string_bytes l.initial.text ++ flat_map (watched_crash l.run.scenario.now l.run.tallies.now l.step) (range_with_len 0 l.number)
+invariant-loop-number l = string_bytes l.text ≡ string_bytes l.initial.text ++ flat_map (watched_crash l.run.tick l.run.scenario.now l.run.tallies.now l.step) (range_with_len 0 l.number)

@@ -7,7 +7,7 @@ use Rattle.sweep_keys.proofs.keys.push_axes.Given as goal
 abbrev pub invariant-loop-from : goal.invariant-loop-from
 invariant-loop-from l =
     record {
-      so_far : string_bytes l.text ++ figures_from l.plan.swept_keys l.settings l.from (axes_of (drop l.from l.swept_keys)) ≡ string_bytes l.fn.text ++ figures_from l.plan.swept_keys l.settings 0 (axes_of l.swept_keys);
+      so_far : string_bytes l.text ++ figures_from l.time l.plan.swept_keys l.settings l.from (axes_of (drop l.from l.swept_keys)) ≡ string_bytes l.fn.text ++ figures_from l.time l.plan.swept_keys l.settings 0 (axes_of l.swept_keys);
       within : l.from ≤ length l.swept_keys;
     }
 

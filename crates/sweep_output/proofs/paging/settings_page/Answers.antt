@@ -13,6 +13,6 @@ returns c =
     (λ text is. record {
       best = c.best_of-best.result;
       chosen = c.best_of-best.ensures;
-      shown = is ∙ ap (λ (front : List Bool). page_text shown.name.now shown.release.now c.args.plan.now wants c.best_of-best.result settings front) (c.as_slice.ensures.value ∙ c.in_ok-front.ensures);
+      shown = is ∙ ap (λ (front : List Bool). page_text shown.tick shown.name.now shown.release.now c.args.plan.now wants c.best_of-best.result settings front) (c.as_slice.ensures.value ∙ c.in_ok-front.ensures);
     })
     c.page.ensures
