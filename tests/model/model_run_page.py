@@ -230,16 +230,36 @@ class Page:
     @staticmethod
     def began(accuser):
         """When an accuser's probe began, where that is known; else when it accused."""
-        row, _, ping = accuser
+        row, _, ping, _ = accuser
         return ping[0].moment if ping else row.moment
 
     def accuser(self, accuser):
-        row, line, ping = accuser
+        row, line, ping, answers = accuser
         text = f'<li>{self.series.names[row.member]} accused it at {self.time(row.moment)}, on line {line}.'
         if ping:
             sent, place = ping
-            text += f' Its ping of {self.time(sent.moment)}, on line {place}, {"was" if sent.lost else "wasn" + chr(39) + "t"} lost.'
+            text += f' Its ping of {self.time(sent.moment)}, on line {place}, {self.fate(sent)}'
+            text += self.answers(sent, answers)
         return f'{text}{self.states(row.member, self.began(accuser), row.moment)}</li>'
+
+    @staticmethod
+    def fate(sent):
+        return 'was lost.' if sent.lost else "wasn't lost."
+
+    def answers(self, ping, answers):
+        """What came of a probe: the target's ack, and the helpers' answers."""
+        acks = [(row, line) for row, line in answers if row.what == 'ack' and row.member == ping.about]
+        asked = [row for row, _ in answers if row.what == 'ping-req']
+        helped = [row for row, _ in answers if row.what != 'ping-req' and row.member != ping.about]
+        helped = [row for row in helped if row.what in ('ack', 'nack')]
+        text = '' if ping.lost or acks else ' No ack was sent by then.'
+        if acks:
+            row, line = acks[-1]
+            text = f' The ack of {self.time(row.moment)}, on line {line}, {self.fate(row)}'
+        if asked:
+            text += (f' Helpers asked: {grouped(len(asked))} (requests lost: {grouped(sum(row.lost for row in asked))}). Their answers '
+                     f'by then: {grouped(len(helped))} (lost: {grouped(sum(row.lost for row in helped))}).')
+        return text
 
     def states(self, member, first, last):
         """What a member was at some moment of a time: of slow times, pauses and cuts the last that the text has."""

@@ -141,8 +141,9 @@ class Death:
 
 
 def deaths_of(rows):
-    """The first deaths of members that are up. An accuser is a row's line and its member's last ping by a timer of its own."""
-    departed, greatest, pings, failed, accusers, refuted, deaths = set(), {}, {}, {}, {}, {}, []
+    """The first deaths of members that are up. An accuser is a row and its line, its member's last ping by a timer of its own, and
+    the rows since that bear the ping's sequence number: requests by that member, and acks and nacks to it."""
+    departed, greatest, pings, answers, failed, accusers, refuted, deaths = set(), {}, {}, {}, {}, {}, {}, []
     for place, row in enumerate(rows):
         line = place + 2
         is_new = row.value > greatest.get((row.what, row.about), -1)
@@ -152,7 +153,7 @@ def deaths_of(rows):
         if row.what == SUSPECT and is_new:
             accusers[row.about] = []
         if row.what in (SUSPECT, 'accuse') and failed.get(row.about) == (row.member, row.moment):
-            accusers.setdefault(row.about, []).append((row, line, pings.get(row.member)))
+            accusers.setdefault(row.about, []).append((row, line, pings.get(row.member), list(answers.get(row.member, ()))))
         if row.what in (SUSPECT, CONFIRM) and is_new:
             greatest[row.what, row.about] = row.value
         if row.what == 'fail':
@@ -162,7 +163,10 @@ def deaths_of(rows):
         if row.what == ALIVE and row.about in refuted and row.value >= refuted[row.about][0].value:
             refuted[row.about] = *refuted[row.about][:2], refuted[row.about][2] + 1
         if row.what == 'ping' and row.maker == row.member:
-            pings[row.member] = row, line
+            pings[row.member], answers[row.member] = (row, line), []
+        prober = {'ping-req': row.member, 'ack': row.about, 'nack': row.about}.get(row.what)
+        if prober in pings and row.value == pings[prober][0].value:
+            answers[prober].append((row, line))
         if row.what in ('crash', 'leave'):
             departed.add(row.member)
     return deaths

@@ -9,6 +9,8 @@ use Rattle.trace.specs.declared.row.Row.{Row}
 use Rattle.series.specs.declared.lines.Line.{Line}
 use Rattle.series.specs.declared.accusers.Probe.{Probe}
 use Rattle.series.specs.declared.accusers.Accusation.{Accusation}
+use Rattle.series.specs.declared.answers.Reply.{Reply}
+use Rattle.series.specs.declared.answers.Answers.{Answers}
 use Rattle.series.specs.declared.standing.Refutation.{Refutation}
 use Rattle.series.specs.declared.deaths.Death.{Death}
 use Rattle.series.specs.Deaths.{Reached, line_reached, reaches, accusations, last_refutation, times_heard, deaths_of, IsDeathOf}
@@ -37,9 +39,33 @@ fate lost = if lost then codes ", was lost." else codes ", wasn't lost."
 unfoldable pub ping_words : Option Tick → ℕ → ℕ → Bool → List ℕ
 ping_words time at line lost = codes " Its ping of " ++ time_text time at ++ line_words line ++ fate lost
 
-abbrev pub ping_told : Option Tick → Option Probe → List ℕ
-ping_told time (Some probe) = ping_words time probe.ping.at probe.ping.number probe.lost
-ping_told time None = []
+-- how an ack of the target fared
+unfoldable pub ack_words : Option Tick → ℕ → ℕ → Bool → List ℕ
+ack_words time at line lost = codes " The ack of " ++ time_text time at ++ line_words line ++ fate lost
+
+-- the same, where it sent one by then; of a lost ping nothing comes
+abbrev pub ack_told : Option Tick → Bool → Option Reply → List ℕ
+ack_told time lost (Some reply) = ack_words time reply.line.at reply.line.number reply.lost
+ack_told time lost None = if lost then [] else codes " No ack was sent by then."
+
+-- how many helpers were asked, and how many of them answered by an ack or a nack
+unfoldable pub helpers_words : ℕ → ℕ → ℕ → ℕ → List ℕ
+helpers_words asked requests answered lost =
+    codes " Helpers asked: " ++ grouped asked ++ codes " (requests lost: " ++ grouped requests ++ codes "). Their answers by then: " ++ grouped answered ++ codes " (lost: "
+    ++ grouped lost ++ codes ")."
+
+-- the same, where some were asked
+abbrev pub helpers_told : Answers → List ℕ
+helpers_told a = if nat_eq a.asked 0 then [] else helpers_words a.asked a.requests_lost a.answered a.answers_lost
+
+-- what came of a probe whose ping was lost or not
+abbrev pub answers_told : Option Tick → Bool → Answers → List ℕ
+answers_told time lost a = ack_told time lost a.ack ++ helpers_told a
+
+-- how the ping fared, and what came of the probe, where it is known
+abbrev pub probe_words : Option Tick → Option Probe → Answers → List ℕ
+probe_words time (Some probe) a = ping_words time probe.ping.at probe.ping.number probe.lost ++ answers_told time probe.lost a
+probe_words time None a = []
 
 -- who accused the member, when and on which line
 unfoldable pub claim_of : Option Tick → List ℕ → ℕ → ℕ → List ℕ
@@ -48,10 +74,10 @@ claim_of time name at number = codes "<li>" ++ escaped name ++ codes " accused i
 abbrev pub claim_words : Option Tick → Setup → Line → List ℕ
 claim_words time s claim = claim_of time (name_of s claim.member) claim.at claim.number
 
--- the same, how its ping fared, and what the accuser was from then on
+-- the same, how its probe fared, and what the accuser was from then on
 unfoldable pub accuser_item : Option Tick → Setup → Accusation → List ℕ
 accuser_item time s accusation =
-    claim_words time s accusation.claim ++ ping_told time accusation.probe ++ states time s accusation.claim.member (began accusation) accusation.claim.at ++ codes "</li>"
+    claim_words time s accusation.claim ++ probe_words time accusation.probe accusation.answers ++ states time s accusation.claim.member (began accusation) accusation.claim.at ++ codes "</li>"
 
 -- how many accusations more there are than four
 unfoldable pub more_accusers : ℕ → List ℕ

@@ -6,14 +6,15 @@ ghost use Rattle.scenario.specs.Setup.{member_count};
 ghost use Rattle.series.specs.Accusers.{AreAccusers};
 ghost use Rattle.series.specs.declared.accusers.Accusation.{Accusation as AnAccusation};
 ghost use Rattle.member_timelines.specs.Numbers.{by_number};
-ghost use Rattle.false_deaths.specs.Causes.{began, fate, line_words, ping_words, ping_told, claim_of, claim_words, accuser_item, more_accusers, accusers_end, accusers_told, AreNamed};
+ghost use Rattle.false_deaths.specs.Causes.{began, fate, line_words, ping_words, probe_words, claim_of, claim_words, accuser_item, more_accusers, accusers_end, accusers_told, AreNamed};
 
+use crate::answers::push_answers;
 use crate::troubles::push_states;
 use base::{MemberId, Moment};
 use drawing::{push_escaped, push_grouped, push_timed};
 use member_timelines::by_number;
 use scenario::Scenario;
-use series::{Accusation, Accusers, Line, Probe};
+use series::{Accusation, Accusers, Line};
 use std::alloc::AllocError;
 use ticks::Tick;
 
@@ -68,7 +69,7 @@ fn push_at(
     }
 }
 
-/// Appends an accuser, how its ping fared, and what it was from then on.
+/// Appends an accuser, how its probe fared, and what it was from then on.
 #[tactic(auto, unfolding(crate::specs::Causes::accuser_item))]
 fn push_accuser(
     text: &mut String,
@@ -80,7 +81,7 @@ fn push_accuser(
     ensures { OnOk result (string_bytes text.new ≡ string_bytes text.old ++ accuser_item time scenario.now accusation.now) }
 {
     push_claim(text, time, scenario, &accusation.claim)?;
-    push_ping_told(text, time, &accusation.probe)?;
+    push_probe(text, time, accusation)?;
     let from = began(accusation);
     push_states(
         text,
@@ -92,6 +93,27 @@ fn push_accuser(
     )?;
     text.push_str("</li>")?;
     Ok(())
+}
+
+/// Appends how an accuser's probe fared, where it is known.
+fn push_probe(
+    text: &mut String,
+    time: Option<Tick>,
+    accusation: &Accusation,
+) -> Result<(), AllocError>
+    ensures { OnOk result (string_bytes text.new ≡ string_bytes text.old ++ probe_words time accusation.now.probe accusation.now.answers) }
+{
+    let Some(probe) = accusation.probe else {
+        return Ok(());
+    };
+    push_ping(
+        text,
+        time,
+        probe.ping.at.ticks(),
+        probe.ping.number,
+        probe.lost,
+    )?;
+    push_answers(text, time, probe.lost, &accusation.answers)
 }
 
 /// When an accuser's probe began, where that is known; else when it accused.
@@ -123,26 +145,6 @@ fn push_claim(
     )
 }
 
-/// Appends how a ping fared, where there is one.
-fn push_ping_told(
-    text: &mut String,
-    time: Option<Tick>,
-    probe: &Option<Probe>,
-) -> Result<(), AllocError>
-    ensures { OnOk result (string_bytes text.new ≡ string_bytes text.old ++ ping_told time probe.now) }
-{
-    match probe {
-        Some(probe) => push_ping(
-            text,
-            time,
-            probe.ping.at.ticks(),
-            probe.ping.number,
-            probe.lost,
-        ),
-        None => Ok(()),
-    }
-}
-
 /// Appends how a ping fared that was sent at a moment, on a line of that number.
 #[tactic(auto, unfolding(crate::specs::Causes::ping_words))]
 fn push_ping(
@@ -161,8 +163,8 @@ fn push_ping(
     Ok(())
 }
 
-/// How a ping fared.
-fn fate(lost: bool) -> &'static str
+/// How a message fared.
+pub(crate) fn fate(lost: bool) -> &'static str
     ensures { result.now ≡ fate lost }
 {
     if lost {

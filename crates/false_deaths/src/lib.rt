@@ -2,6 +2,7 @@
 #![tactic(auto)]
 
 mod accusers;
+mod answers;
 mod causes;
 mod death;
 mod troubles;
