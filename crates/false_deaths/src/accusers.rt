@@ -1,5 +1,5 @@
 //! Who accused a member before its death.
-ghost use Rattle.std.specs.Prelude.{◌≡◌, ◌<◌, ◌≤◌, ◌-◌, ◌^◌, ◌++◌, [], OnOk, IfSome, All, List, flat_map, take, length, slice_get};
+ghost use Rattle.std.specs.Prelude.{◌≡◌, ◌<◌, ◌≤◌, ◌-◌, ◌^◌, ◌++◌, [], Some, OnOk, IfSome, All, List, flat_map, take, length, slice_get};
 ghost use Rattle.std.specs.String.{string_bytes};
 ghost use Rattle.std.specs.Option.{option_map_or};
 ghost use Rattle.scenario.specs.Setup.{member_count};
@@ -14,7 +14,7 @@ use base::{MemberId, Moment};
 use drawing::{push_escaped, push_grouped, push_timed};
 use member_timelines::by_number;
 use scenario::Scenario;
-use series::{Accusation, Accusers, Line};
+use series::{Accusation, Accusers, Answers, Line, Probe};
 use std::alloc::AllocError;
 use ticks::Tick;
 
@@ -81,7 +81,7 @@ fn push_accuser(
     ensures { OnOk result (string_bytes text.new ≡ string_bytes text.old ++ accuser_item time scenario.now accusation.now) }
 {
     push_claim(text, time, scenario, &accusation.claim)?;
-    push_probe(text, time, accusation)?;
+    push_probe(text, time, &accusation.probe, &accusation.answers)?;
     let from = began(accusation);
     push_states(
         text,
@@ -95,17 +95,30 @@ fn push_accuser(
     Ok(())
 }
 
-/// Appends how an accuser's probe fared, where it is known.
+/// Appends how a probe fared, where there is one, and what came of it.
 fn push_probe(
     text: &mut String,
     time: Option<Tick>,
-    accusation: &Accusation,
+    probe: &Option<Probe>,
+    answers: &Answers,
 ) -> Result<(), AllocError>
-    ensures { OnOk result (string_bytes text.new ≡ string_bytes text.old ++ probe_words time accusation.now.probe accusation.now.answers) }
+    ensures { OnOk result (string_bytes text.new ≡ string_bytes text.old ++ probe_words time probe.now answers.now) }
 {
-    let Some(probe) = accusation.probe else {
-        return Ok(());
-    };
+    match probe {
+        Some(probe) => push_fared(text, time, probe, answers),
+        None => Ok(()),
+    }
+}
+
+/// Appends how a probe fared, and what came of it.
+fn push_fared(
+    text: &mut String,
+    time: Option<Tick>,
+    probe: &Probe,
+    answers: &Answers,
+) -> Result<(), AllocError>
+    ensures { OnOk result (string_bytes text.new ≡ string_bytes text.old ++ probe_words time (Some probe.now) answers.now) }
+{
     push_ping(
         text,
         time,
@@ -113,7 +126,7 @@ fn push_probe(
         probe.ping.number,
         probe.lost,
     )?;
-    push_answers(text, time, probe.lost, &accusation.answers)
+    push_answers(text, time, probe.lost, answers)
 }
 
 /// When an accuser's probe began, where that is known; else when it accused.
