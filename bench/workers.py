@@ -13,7 +13,7 @@ something is missed. The processors must have nothing else to do.
 The second form measures what several workers cost where processors are scarce. Each line is a scenario, of four without
 NAME: the least seconds of so many runs with one worker and with four, by turns, and the ratio. It may be 1.2 at most, and
 5 ms more. --beside N runs N loops beside them, on whatever processors the kernel gives those. --quota SHARE runs both in a
-control group (version 2) that gets this share of all processors, 0 to 1, as 0.5; where no such group can be made the script
+control group that gets this share of all processors, 0 to 1, as 0.5; where no such group can be made the script
 says so and ends with status 0. --one-processor runs both on one processor, with 64 workers for four, beside four loops
 unless N says otherwise.
 """

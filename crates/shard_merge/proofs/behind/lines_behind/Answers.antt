@@ -25,7 +25,7 @@ returns-in_default-strip_prefix-clause-refused c =
     let head = c.args.head.now in
     let found = sym c.place_of_run.ensures ∙ c.in-Some.is in
     let begins = begins_there c.args.texts.now head.mark.now head.revived head.plan head.shard c.requires.first c.args.places.now c.requires.places c.args.number _ _ found c.text_at.ensures in
-    let cut = rw c.in_default-strip_prefix.is at (strip_prefix_is Decides-eqb c.text_at.result.now _ c.strip_prefix.result c.strip_prefix.ensures.settings) in
+    let cut = rw c.in_default-strip_prefix.is at (strip_prefix_is Decides-eqb c.text_at.result.now _ c.strip_prefix.result c.strip_prefix.ensures.cases) in
     absurd (cut begins.rest (begins.written ∙ ap (λ l. l ++ begins.rest) (sym (c.as_slice.ensures.value ∙ c.in_ok-header.ensures.header ∙ ap (shard_header head.revived head.mark.now head.plan) c.shard_at.ensures.same))))
 
 -- lines without checksums
@@ -34,7 +34,7 @@ returns-then-older-clause-refused c =
     let head = c.args.head.now in
     let found = sym c.place_of_run.ensures ∙ c.in-Some.is in
     let rest = c.in-Some-strip_prefix.rest.now in
-    let front = rw c.in-Some-strip_prefix.is at (strip_prefix_is Decides-eqb c.text_at.result.now _ c.strip_prefix.result c.strip_prefix.ensures.settings) in
+    let front = rw c.in-Some-strip_prefix.is at (strip_prefix_is Decides-eqb c.text_at.result.now _ c.strip_prefix.result c.strip_prefix.ensures.cases) in
     let whole = front ∙ ap (λ l. l ++ rest) (c.as_slice.ensures.value ∙ c.in_ok-header.ensures.header ∙ ap (shard_header head.revived head.mark.now head.plan) c.shard_at.ensures.same) in
     of_before c.args.texts.now head.mark.now head.revived head.plan head.shard c.requires.first c.args.places.now c.requires.places c.args.number _ rest
     (record { found = found; text = _; there = c.text_at.ensures; written = whole }) (c.in_ok-older.ensures.older c.if-older.true)
@@ -45,7 +45,7 @@ returns-in_default-from_utf8-clause-refused c =
     let head = c.args.head.now in
     let found = sym c.place_of_run.ensures ∙ c.in-Some.is in
     let rest = c.in-Some-strip_prefix.rest.now in
-    let front = rw c.in-Some-strip_prefix.is at (strip_prefix_is Decides-eqb c.text_at.result.now _ c.strip_prefix.result c.strip_prefix.ensures.settings) in
+    let front = rw c.in-Some-strip_prefix.is at (strip_prefix_is Decides-eqb c.text_at.result.now _ c.strip_prefix.result c.strip_prefix.ensures.cases) in
     let whole = front ∙ ap (λ l. l ++ rest) (c.as_slice.ensures.value ∙ c.in_ok-header.ensures.header ∙ ap (shard_header head.revived head.mark.now head.plan) c.shard_at.ensures.same) in
     let not_encoded : ¬ (IsUtf8 rest) = search rules in
     torn c.args.texts.now head.mark.now head.revived head.plan head.shard c.requires.first c.args.places.now c.requires.places c.args.number _ rest
@@ -56,7 +56,7 @@ pub returns-clause-there : goal.returns-clause-there
 returns-clause-there c =
     let head = c.args.head.now in
     let found = sym c.place_of_run.ensures ∙ c.in-Some.is in
-    let front = rw c.in-Some-strip_prefix.is at (strip_prefix_is Decides-eqb c.text_at.result.now _ c.strip_prefix.result c.strip_prefix.ensures.settings) in
-    let same = (rw c.in-Ok.is at c.from_utf8.ensures.settings).0 in
+    let front = rw c.in-Some-strip_prefix.is at (strip_prefix_is Decides-eqb c.text_at.result.now _ c.strip_prefix.result c.strip_prefix.ensures.cases) in
+    let same = (rw c.in-Ok.is at c.from_utf8.ensures.cases).0 in
     let whole = front ∙ (λ i. (c.as_slice.ensures.value ∙ c.in_ok-header.ensures.header ∙ ap (shard_header head.revived head.mark.now head.plan) c.shard_at.ensures.same) i ++ sym same i) in
     record { found = found; text = _; there = c.text_at.ensures; written = whole }

@@ -7,9 +7,9 @@ use Rattle.shard_merge.proofs.head.begins_as.Goals as goal
 pub returns-clause-begins : goal.returns-clause-begins
 returns-clause-begins c =
     stripped c.args.text.now _ _ c.strip_prefix.result (c.as_slice.ensures.value ∙ c.in_ok-header.ensures.header)
-    (strip_prefix_is Decides-eqb c.args.text.now _ c.strip_prefix.result c.strip_prefix.ensures.settings) _ c.is_some.ensures
+    (strip_prefix_is Decides-eqb c.args.text.now _ c.strip_prefix.result c.strip_prefix.ensures.cases) _ c.is_some.ensures
 
 pub returns-clause-other : goal.returns-clause-other
 returns-clause-other c =
     unstripped c.args.text.now _ _ c.strip_prefix.result (c.as_slice.ensures.value ∙ c.in_ok-header.ensures.header)
-    (strip_prefix_is Decides-eqb c.args.text.now _ c.strip_prefix.result c.strip_prefix.ensures.settings) _ c.is_some.ensures
+    (strip_prefix_is Decides-eqb c.args.text.now _ c.strip_prefix.result c.strip_prefix.ensures.cases) _ c.is_some.ensures
