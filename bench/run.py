@@ -25,11 +25,11 @@ import tempfile
 import time
 from pathlib import Path
 
-TOP = Path(__file__).resolve().parent.parent
-BUILT = TOP / 'crates' / 'swimsim' / 'out' / 'swimsim'
-sys.path += [str(TOP / 'tests' / folder) for folder in ('model', 'harness')]
+TESTS = Path(__file__).resolve().parent.parent / 'tests'
+sys.path += [str(TESTS / folder) for folder in ('model', 'harness')]
 
 import model  # noqa: E402
+from harness import BUILT, TOP  # noqa: E402
 from scenarios import NEWEST, document_of, judge  # noqa: E402
 from tables import head, item, table  # noqa: E402
 
