@@ -1,4 +1,4 @@
-use Rattle.std.proofs.Common.{◌≡◌, ◌≤◌, ℕ, List, [], ◌∷◌, subst, arith}
+use Rattle.std.proofs.Common.{[], ◌∷◌, subst, arith}
 use Rattle.scenario.specs.Setup.{member_count}
 use Rattle.scenario.specs.Division.{Deal, in_turn}
 use Rattle.partitioning.specs.Parts.{Divides}

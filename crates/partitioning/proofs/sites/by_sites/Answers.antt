@@ -1,6 +1,6 @@
 use Rattle.std.proofs.Common.{◌≡◌, ◌<◌, ℕ, List, sym, subst, length, get_or, arith}
 use Rattle.scenario.specs.Division.{Deal}
-use Rattle.partitioning.specs.Sites.{AreJoined, AreSites, StandForGroups, group_for}
+use Rattle.partitioning.specs.Sites.{AreJoined, AreSites, group_for}
 use Rattle.partitioning.proofs.Marks.{are_sites}
 use Rattle.partitioning.proofs.sites.by_sites.Goals as goal
 

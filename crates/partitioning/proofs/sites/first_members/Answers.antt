@@ -1,4 +1,4 @@
-use Rattle.std.proofs.Common.{◌≡◌, ℕ, ◌+◌, ◌<◌, ◌&&◌, not, nat_lt, nat_eq, true, false, [], ◌∷◌, ◌++◌, sym, ap, ◌∙◌, subst, Vec, Global, arith}
+use Rattle.std.proofs.Common.{◌≡◌, ◌+◌, ◌<◌, ◌&&◌, not, nat_lt, nat_eq, true, false, sym, ◌∙◌, subst, Vec, Global, arith}
 use Rattle.base.specs.declared.key.MemberId.{MemberId}
 use Rattle.scenario.specs.Setup.{member_count}
 use Rattle.partitioning.proofs.Firsts.{StandSoFar, passed_over, taken}

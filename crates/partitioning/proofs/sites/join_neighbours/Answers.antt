@@ -1,9 +1,9 @@
-use Rattle.std.proofs.Common.{◌≡◌, ℕ, ◌+◌, ◌<◌, List, [], length, get_or, map, take, All, sym, ap, ◌∙◌, subst, arith}
+use Rattle.std.proofs.Common.{◌≡◌, ℕ, ◌+◌, ◌<◌, List, length, get_or, map, take, sym, ap, ◌∙◌, subst, arith}
 use Rattle.std.proofs.lemmas.List.{get_or_read, take_all}
 use Rattle.std.proofs.lemmas.List.Elements.{All-nil}
 use Rattle.scenario.specs.Setup.{group_at, member_count}
 use Rattle.windows.specs.Cluster.{link_delay}
-use Rattle.partitioning.specs.Sites.{AreSiteNumbers, AgreesOnSites, IsJoined, joined_site}
+use Rattle.partitioning.specs.Sites.{AreSiteNumbers, IsJoined, joined_site}
 use Rattle.partitioning.proofs.Joining.{agree_now, agreed_before, still_numbers}
 use Rattle.partitioning.proofs.Neighbours.{joined_too, passed_over}
 use Rattle.partitioning.proofs.sites.join_neighbours.Goals.{then-delay-ticks, else-delay-ticks}
