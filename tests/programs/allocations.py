@@ -11,7 +11,7 @@ standard output. Then standard error has `swimsim: memory`, and no older file ha
 `swimsim: run F1`, and there is a beginning of the trace, nothing of the report unless the whole trace is there, and
 nothing of the page unless both are. No other file is left. Where it was a thread that couldn't be started for it,
 there is `swimsim: run F4`, and nothing is written. Where the start of a thread is refused that the run needs, it must
-end so.
+end so, though those that were started sleep by then.
 
 The same holds where the system has no memory to open a file, each in turn.
 
@@ -180,7 +180,7 @@ def refuse_starts(words, stand_in, least):
     """Refuses the start of each thread, of which the run needs so many at least; answers how many went well and how
     many wrong. A sort of many rows starts threads too, and does without them."""
     whole = ended(words, stand_in.folder, (0, b''))
-    refusals = refused(words, stand_in, 's', itertools.count(1), **stand_in.processors(3))
+    refusals = refused(words, stand_in, 's', itertools.count(1), PAUSE=LONG_PAUSE, **stand_in.processors(3))
     spared, needed, wrong = judged(refusals, whole, lambda left: is_fault(left, NOT_STARTED), f'{words[1]}, thread')
     if needed < least:
         print(f'{words[1]}: fewer than {least} threads are needed')

@@ -1,4 +1,10 @@
 mod Counting
 mod Dividing
+mod Evenly
+mod Firsts
+mod Joining
 mod Keeping
+mod Marks
+mod Neighbours
+mod Paying
 mod Together

@@ -2,18 +2,17 @@
 use Rattle.std.specs.Prelude.{◌≡◌, ℕ, ◌-◌, ◌/◌, ◌<◌, ◌≤◌}
 use Rattle.scenario.specs.Setup.{Setup}
 use Rattle.scenario.specs.Division.{Deal}
-use Rattle.partitioning.specs.Parts.{PutsTogether}
+use Rattle.partitioning.specs.Parts.{IsFolded, PutsTogether}
 use Rattle.partitioning.specs.Rounds.{IsLongRound, IsLeastWalkOf}
 
 -- the share of each word in so many ticks, where each of so many parts tells each other one
 abbrev pub ticks_of_a_word : ℕ → ℕ → ℕ
 ticks_of_a_word ticks parts = ticks / parts / (parts - 1)
 
--- parts that join those of a division: as many as there are hands, where a round of these has so many ticks at least, else one
+-- the parts of a division put together into as many as there are hands, where a round of these has so many ticks at least, else into one
 pub record AreFewer (s : Setup) (asked : Deal) (hands long : ℕ) (used : Deal) : Type 0 where
   pub together : Deal
-  pub joined : PutsTogether asked together
-  pub one_each : together.parts ≡ hands
+  pub folded : IsFolded asked hands together
   pub ticks : ℕ
   pub walk : IsLeastWalkOf s together ticks
   pub worth : long ≤ ticks → used ≡ together

@@ -1,3 +1,5 @@
 pub mod Asked
 pub mod Parts
+pub mod Paying
 pub mod Rounds
+pub mod Sites

@@ -1,6 +1,6 @@
 -- By which parts a run is shared.
-use Rattle.std.specs.Prelude.{◌≡◌, ℕ, ◌-◌, ◌<◌, ◌≤◌, nat_lt, if◌then◌else◌, List, All, map, length, slice_index}
-use Rattle.scenario.specs.Setup.{Setup, member_count, group_at}
+use Rattle.std.specs.Prelude.{◌≡◌, ◌==◌, ℕ, ◌+◌, ◌-◌, ◌<◌, ◌≤◌, nat_lt, if◌then◌else◌, All, count_by, map, length}
+use Rattle.scenario.specs.Setup.{Setup, member_count}
 use Rattle.scenario.specs.Division.{Deal}
 
 -- of so many workers one writes and the others simulate; of two both do
@@ -17,16 +17,19 @@ pub record Divides (s : Setup) (most : ℕ) (deal : Deal) : Type 0 where
 abbrev pub PutsTogether : Deal → Deal → Type 0
 PutsTogether parts together = (place_of : ℕ → ℕ) × (together.part_of ≡ map place_of parts.part_of)
 
--- all members of a group are in one part
-abbrev pub LeavesGroupsWhole : Setup → List ℕ → Type 0
-LeavesGroupsWhole s part_of =
-    (i j : ℕ) → i < length part_of → j < length part_of → group_at s.groups i ≡ group_at s.groups j → slice_index part_of i ≡ slice_index part_of j
+-- how many members are at a place, where each part goes to one
+abbrev pub members_at : Deal → (ℕ → ℕ) → ℕ → ℕ
+members_at deal place_of place = count_by (λ part. place_of part == place) deal.part_of
 
--- a site for each of 64 groups, by the number of a group
-pub record AreSites (sites : List ℕ) : Type 0 where
-  pub each : length sites ≡ 64
-  pub few : All (λ site. site < 64) sites
+-- parts go to so many places evenly: a place with more members than another one has a part without which it has no more
+abbrev pub IsEven : Deal → ℕ → (ℕ → ℕ) → Type 0
+IsEven deal places place_of =
+    (large small : ℕ) → large < places → small < places → members_at deal place_of small < members_at deal place_of large
+    → (part : ℕ) × (part < deal.parts) × (place_of part ≡ large) × (members_at deal place_of large ≤ members_at deal place_of small + members_at deal (λ p. p) part)
 
--- the site of a group; of one past these it is the first one's
-abbrev pub site_of : List ℕ → ℕ → ℕ
-site_of sites group = slice_index sites (if nat_lt group 64 then group else 0)
+-- the parts of a division put together evenly into so many, each as a whole
+pub record IsFolded (asked : Deal) (many : ℕ) (folded : Deal) : Type 0 where
+  pub parts : folded.parts ≡ many
+  pub place_of : ℕ → ℕ
+  pub whole : folded.part_of ≡ map place_of asked.part_of
+  pub even : IsEven asked many place_of

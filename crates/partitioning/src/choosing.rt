@@ -1,10 +1,11 @@
 //! By which parts a run is shared. No result depends on it.
-ghost use Rattle.std.specs.Prelude.{◌≡◌, ◌<◌, ◌≤◌, ◌⊎◌, length, IfOk};
+ghost use Rattle.std.specs.Prelude.{◌≡◌, ◌<◌, ◌≤◌, length, IfOk};
 ghost use Rattle.scenario.specs.Setup.{member_count};
 ghost use Rattle.partitioning.specs.Asked.{AreAsAsked, AreFewer};
 ghost use Rattle.partitioning.specs.Parts.{Divides, PutsTogether};
+ghost use Rattle.partitioning.specs.Paying.{ArePaying, TakesLonger};
 
-use crate::divisions::{in_turn, same_parts};
+use crate::divisions::same_parts;
 use crate::folding::folded;
 use crate::round_length::{least_walk_of, long_round};
 use crate::sites::by_sites;
@@ -28,6 +29,7 @@ pub(crate) fn chosen_parts(
     requires few { (1 ≤ hands) × (hands ≤ 64) }
     ensures divides { IfOk result (λ parts. length parts.part_of ≡ member_count scenario.now) }
     ensures few { division.now.parts ≤ workers → IfOk result (Divides scenario.now hands) }
+    ensures pays { division.now.parts ≤ workers → IfOk result (ArePaying scenario.now division.now hands) }
     ensures asked { workers < division.now.parts → IfOk result (AreAsAsked scenario.now division.now hands) }
 {
     let links = &Links::of(alloc, scenario)?;
@@ -50,22 +52,21 @@ fn parts_that_pay(
 ) -> Result<Division, Memory>
     requires divides { length division.now.part_of ≡ member_count cluster.scenario.now }
     requires few { (1 ≤ hands) × (hands ≤ 64) }
-    ensures { IfOk result (Divides cluster.entry.scenario.now hands) }
+    ensures divides { IfOk result (Divides cluster.entry.scenario.now hands) }
+    ensures pays { IfOk result (ArePaying cluster.entry.scenario.now division.now hands) }
 {
     let scenario = cluster.scenario;
     let ticks = long_round(scenario);
-    let sites = by_sites(alloc, cluster, ticks)?;
     let given = folded(alloc, scenario, division, hands)?;
-    let sites = folded(alloc, scenario, &sites, hands)?;
-    let turns = in_turn(alloc, scenario, hands)?;
-    let whole = Choice {
-        parts: in_turn(alloc, scenario, 1)?,
-        ticks,
-    };
-    let choice = longer(alloc, cluster, whole, given)?;
-    let choice = longer(alloc, cluster, choice, sites)?;
-    let choice = longer(alloc, cluster, choice, turns)?;
-    Ok(choice.parts)
+    let sites = by_sites(alloc, cluster, ticks)?;
+    let near = folded(alloc, scenario, &sites, hands)?;
+    let turns = Division::in_turn(alloc, scenario, hands)?;
+    let parts = Division::in_turn(alloc, scenario, 1)?;
+    let whole = Choice { parts, ticks };
+    let of_given = longer(alloc, cluster, whole, given)?;
+    let of_near = longer(alloc, cluster, of_given, near)?;
+    let chosen = longer(alloc, cluster, of_near, turns)?;
+    Ok(chosen.parts)
 }
 
 /// The parts that were asked for, where a round of theirs is long enough for each word that they tell
@@ -132,7 +133,7 @@ fn longer(
     parts: Division,
 ) -> Result<Choice, Memory>
     requires divides { length parts.part_of ≡ member_count cluster.scenario.now }
-    ensures either { IfOk result (λ chosen. (chosen.parts ≡ choice.parts) ⊎ (chosen.parts ≡ parts)) }
+    ensures { IfOk result (λ chosen. TakesLonger cluster.entry.scenario.now choice.parts choice.ticks parts chosen.parts chosen.ticks) }
 {
     let ticks = least_walk_of(alloc, cluster, &parts)?;
     if ticks < choice.ticks {

@@ -1,7 +1,6 @@
 //! Divisions of a scenario's members into parts.
 ghost use Rattle.std.specs.Prelude.{◌≡◌, ◌<◌, ◌≤◌, IfOk, All, length, vec_len};
 ghost use Rattle.scenario.specs.Setup.{member_count};
-ghost use Rattle.partitioning.specs.Parts.{Divides};
 
 use base::{MemberId, Memory};
 use scenario::{Division, Scenario};
@@ -18,14 +17,6 @@ pub(crate) fn divided(scenario: &Scenario, parts: usize, part_of: Vec<u8>) -> Di
         Ok(division) => division,
         Err(_) => unreachable!(),
     }
-}
-
-/// The members in turn by so many parts.
-pub(crate) fn in_turn(alloc: Global, scenario: &Scenario, parts: usize) -> Result<Division, Memory>
-    requires few { (1 ≤ parts) × (parts ≤ 64) }
-    ensures { IfOk result (Divides scenario.now parts) }
-{
-    Division::in_turn(alloc, scenario, parts)
 }
 
 /// The same parts once more.

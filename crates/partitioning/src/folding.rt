@@ -1,7 +1,7 @@
 //! Many parts put together into few.
-ghost use Rattle.std.specs.Prelude.{◌≡◌, ◌==◌, ◌<◌, ◌≤◌, ℕ, IfOk, All, EachIndex, count_by, length, slice_index, vec_len};
+ghost use Rattle.std.specs.Prelude.{◌≡◌, ◌<◌, ◌≤◌, ℕ, IfOk, All, EachIndex, length, slice_index, slice_index_or, vec_len};
 ghost use Rattle.scenario.specs.Setup.{member_count};
-ghost use Rattle.partitioning.specs.Parts.{Divides, PutsTogether};
+ghost use Rattle.partitioning.specs.Parts.{Divides, IsEven, IsFolded, members_at};
 
 use crate::divisions::divided;
 use base::{MemberId, Memory};
@@ -19,11 +19,9 @@ pub(crate) fn folded(
     requires divides { length division.now.part_of ≡ member_count scenario.now }
     requires few { (1 ≤ most) × (most ≤ 64) }
     ensures divides { IfOk result (Divides scenario.now most) }
-    ensures parts { IfOk result (λ together. together.parts ≡ most) }
-    ensures whole { IfOk result (PutsTogether division.now) }
+    ensures folded { IfOk result (IsFolded division.now most) }
 {
-    let sizes = sizes_of(alloc, scenario, division)?;
-    let places = places_of(alloc, &sizes, most)?;
+    let places = places_of(alloc, scenario, division, most)?;
     let mut part_of = Vec::new(alloc);
     for member in 0..scenario.members() {
         let part = division.part(MemberId(member as u16));
@@ -36,8 +34,7 @@ pub(crate) fn folded(
 fn sizes_of(alloc: Global, scenario: &Scenario, division: &Division) -> Result<Vec<usize>, Memory>
     requires divides { length division.now.part_of ≡ member_count scenario.now }
     ensures each { IfOk result (λ sizes. vec_len sizes ≡ division.now.parts) }
-    ensures counted { IfOk result (λ sizes. (part : ℕ) → part < division.now.parts
-        → slice_index sizes.items part ≡ count_by (λ p. p == part) division.now.part_of) }
+    ensures counted { IfOk result (λ sizes. EachIndex sizes.items (λ part. slice_index sizes.items part ≡ members_at division.now (λ p. p) part)) }
     ensures few { IfOk result (λ sizes. vec_len sizes ≤ 64) }
     ensures bounded { IfOk result (λ sizes. All (λ size. size ≤ 4096) sizes.items) }
 {
@@ -49,17 +46,23 @@ fn sizes_of(alloc: Global, scenario: &Scenario, division: &Division) -> Result<V
     Ok(sizes)
 }
 
-/// Where each of the parts of these sizes goes, among so many places.
-fn places_of(alloc: Global, sizes: &[usize], most: usize) -> Result<Vec<u8>, Memory>
-    requires few { length sizes.now ≤ 64 }
-    requires bounded { All (λ size. size ≤ 4096) sizes.now }
-    requires places { (1 ≤ most) × (most ≤ 64) }
-    ensures each { IfOk result (λ places. vec_len places ≡ length sizes.now) }
+/// Where each of the parts goes, among so many places.
+fn places_of(
+    alloc: Global,
+    scenario: &Scenario,
+    division: &Division,
+    most: usize,
+) -> Result<Vec<u8>, Memory>
+    requires divides { length division.now.part_of ≡ member_count scenario.now }
+    requires few { (1 ≤ most) × (most ≤ 64) }
+    ensures each { IfOk result (λ places. vec_len places ≡ division.now.parts) }
     ensures below { IfOk result (λ places. All (λ place. place < most) places.items) }
+    ensures even { IfOk result (λ places. IsEven division.now most (λ part. slice_index_or places.items part most)) }
 {
+    let sizes = sizes_of(alloc, scenario, division)?;
     let mut filled = vec![in alloc; 0; most]?;
     let mut places = Vec::new(alloc);
-    for size in sizes {
+    for size in &sizes {
         let place = least_of(&filled);
         filled[place] += *size;
         places.push(place as u8)?;

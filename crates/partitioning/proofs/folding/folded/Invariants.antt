@@ -6,4 +6,4 @@ abbrev pub invariant-loop-member : goal.invariant-loop-member
 invariant-loop-member l =
     (vec_len l.part_of ≡ l.member)
     × All (λ part. part < l.most) l.part_of.items
-    × (l.part_of.items ≡ map (λ part. get_or l.places.items part 0) (take l.member l.division.part_of))
+    × (l.part_of.items ≡ map (λ part. get_or l.places.items part l.most) (take l.member l.division.part_of))

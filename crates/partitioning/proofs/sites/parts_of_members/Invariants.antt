@@ -1,6 +1,5 @@
 use Rattle.std.proofs.Common.{◌≡◌, ℕ, ◌<◌, All, get_or, vec_len}
-use Rattle.scenario.specs.Setup.{group_at}
-use Rattle.partitioning.specs.Parts.{site_of}
+use Rattle.partitioning.specs.Sites.{group_for}
 use Rattle.partitioning.proofs.sites.parts_of_members.Given as goal
 
 -- each member so far has its group's site
@@ -8,4 +7,4 @@ abbrev pub invariant-loop-member : goal.invariant-loop-member
 invariant-loop-member l =
     (vec_len l.part_of ≡ l.member)
     × All (λ part. part < 64) l.part_of.items
-    × ((m : ℕ) → m < l.member → get_or l.part_of.items m 0 ≡ site_of l.sites (group_at l.scenario.groups m))
+    × ((m : ℕ) → m < l.member → get_or l.part_of.items m 0 ≡ get_or l.sites (group_for l.scenario m) 0)
