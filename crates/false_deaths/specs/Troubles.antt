@@ -6,7 +6,6 @@ use Rattle.scenario.specs.declared.settings.Slow.{Slow}
 use Rattle.scenario.specs.declared.settings.Pause.{Pause}
 use Rattle.scenario.specs.declared.settings.Cut.{Cut}
 use Rattle.drawing.specs.Escaped.{escaped}
-use Rattle.drawing.specs.Numbers.{grouped}
 use Rattle.member_timelines.specs.Lanes.{is_cut_of}
 use Rattle.drawing.specs.Lengths.{time_text}
 use Rattle.ticks.specs.declared.tick.Tick.{Tick}

@@ -101,6 +101,10 @@ lost_tops s rows = tops (2 ^ 64 - 1) (flat (span_count s)) (map (lost_layer s ro
 unfoldable pub width_words : Option Tick → List ℕ → ℕ → List ℕ
 width_words time words width = words ++ decimal width ++ codes " ticks" ++ lasting time width ++ codes ".</p>"
 
+-- the end of a plot, with the axis of time below it, and how long its spans are, behind some words
+unfoldable pub below_plot : Option Tick → Setup → List ℕ → List ℕ
+below_plot time s words = plot_end ++ time_axis time s ++ width_words time words (span_width s)
+
 -- an area for each kind, each on those before it
 abbrev pub sent_areas : Setup → List Row → ℕ → List ℕ
 sent_areas s rows most = layers s most (flat (span_count s)) (map (sent_layer s rows) (message_kinds s.version))
@@ -110,7 +114,7 @@ unfoldable pub sent_plot : Option Tick → Setup → List Row → ℕ → List �
 sent_plot time s rows most =
     codes "<div class=\"chart\">" ++ axis_up most
     ++ plot_opening (codes "") (moments s) most (codes "Messages sent") (codes "How many messages of each kind were sent in each span of time.")
-    ++ sent_areas s rows most ++ plot_end ++ time_axis time s ++ width_words time (codes "</div><p class=\"soft\">Sent in each span of ") (span_width s)
+    ++ sent_areas s rows most ++ below_plot time s (codes "</div><p class=\"soft\">Sent in each span of ")
 
 -- the area of so many in each span that were lost
 unfoldable pub lost_area : Setup → List ℕ → ℕ → List ℕ
@@ -121,8 +125,7 @@ unfoldable pub lost_plot : Option Tick → Setup → List ℕ → ℕ → List �
 lost_plot time s counts most =
     codes "<div class=\"chart low\">" ++ axis_up most
     ++ plot_opening (codes "") (moments s) most (codes "Messages lost") (codes "How many messages were lost in each span of time.")
-    ++ lost_area s counts most ++ plot_end
-    ++ time_axis time s ++ width_words time (codes "</div><p class=\"soft\">Lost in each span of ") (span_width s)
+    ++ lost_area s counts most ++ below_plot time s (codes "</div><p class=\"soft\">Lost in each span of ")
 
 -- the same, where some were lost
 abbrev pub lost_part : Option Tick → Setup → List ℕ → List ℕ

@@ -5,7 +5,7 @@ ghost use Rattle.std.specs.List.{list_all, range_with_len};
 ghost use Rattle.reports.specs.Text.{message_kinds};
 ghost use Rattle.series.specs.Spans.{span_width, span_count};
 ghost use Rattle.member_timelines.specs.Run.{IsTold};
-ghost use Rattle.run_page.specs.Traffic.{is_counted, sent, lost, hundredths, two_places, rate_words, kind_entry, lost_entry, kinds_legend, width_words, sent_plot, lost_area, lost_plot, lost_tops, lost_part, column, columns, from_cell, cells, span_cells, traffic_table, traffic_body, traffic_text};
+ghost use Rattle.run_page.specs.Traffic.{is_counted, sent, lost, hundredths, two_places, rate_words, kind_entry, lost_entry, kinds_legend, width_words, below_plot, sent_plot, lost_area, lost_plot, lost_tops, lost_part, column, columns, from_cell, cells, span_cells, traffic_table, traffic_body, traffic_text};
 
 use crate::kinds::{
     all_lost_by_span, class_of, kinds, lost_in, most_in_a_span, open_time_plot, push_areas,
@@ -185,9 +185,19 @@ fn push_sent(alloc: Global, text: &mut String, run: &Run, most: u64) -> Result<(
         "How many messages of each kind were sent in each span of time.",
     )?;
     push_areas(alloc, text, run, most)?;
+    push_below(text, run, "</div><p class=\"soft\">Sent in each span of ")?;
+    Ok(())
+}
+
+/// Ends a plot, and appends the axis of time below it and how long its spans are, behind some words.
+#[tactic(auto, unfolding(crate::specs::Traffic::below_plot))]
+fn push_below(text: &mut String, run: &Run, words: &str) -> Result<(), AllocError>
+    requires { IsTold run.now }
+    ensures { OnOk result (string_bytes text.new ≡ string_bytes text.old ++ below_plot run.now.tick run.now.scenario.now words.now) }
+{
     close_plot(text)?;
     push_time_axis(text, run)?;
-    push_width(text, run, "</div><p class=\"soft\">Sent in each span of ")?;
+    push_width(text, run, words)?;
     Ok(())
 }
 
@@ -260,9 +270,7 @@ fn push_lost_plot(
         "How many messages were lost in each span of time.",
     )?;
     push_lost_area(alloc, text, run, counts, most)?;
-    close_plot(text)?;
-    push_time_axis(text, run)?;
-    push_width(text, run, "</div><p class=\"soft\">Lost in each span of ")?;
+    push_below(text, run, "</div><p class=\"soft\">Lost in each span of ")?;
     Ok(())
 }
 

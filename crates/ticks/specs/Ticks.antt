@@ -1,5 +1,5 @@
 -- How long a tick lasts, and the words that say so.
-use Rattle.std.specs.Prelude.{◌≡◌, ℕ, ◌*◌, ◌<◌, ◌≤◌, List, ◌++◌, codes, decimal}
+use Rattle.std.specs.Prelude.{◌≡◌, ℕ, ◌*◌, ◌≤◌, List, ◌++◌, codes, decimal}
 use Rattle.ticks.specs.declared.tick.Tick.{Tick}
 use Rattle.ticks.specs.declared.unit.Unit.{Unit}
 use Rattle.ticks.specs.declared.unit.Unit.TheVariants.{Microsecond, Millisecond, Second}
