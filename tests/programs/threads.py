@@ -24,14 +24,14 @@ import subprocess
 
 import paths  # noqa: F401 (puts the folders of what follows on the path)
 from harness import NOT_WRITTEN, TESTS, Skipped, parser_of, program_at, run_cases
-from hasty import HASTY, far
+from hasty import far, hasty
 from program import call_with_room
 from stand_in import NO_COMPILER, StandIn
 from sweeps import LONG, UNEVEN
 
 # a run of 1.3 million rows, whose text has 54 MB. A row takes at least 40 bytes of memory: they are 53 MB where all of
 # them wait there.
-MANY_ROWS = far(4, 64, 2_600_000, 100).replace('period = 100\ntimeout = 30', 'period = 1000\ntimeout = 300')
+MANY_ROWS = far(4, 64, 2_600_000, 100, period=1000, timeout=300)
 LEAST_ROWS, MOST_MEMORY = 1_300_000, 40_000_000
 
 # of a trace that is cut off: more rows come behind it than may be on the way
@@ -39,7 +39,7 @@ CUT = far(4, 64, 20_000)
 LIMITS = (0, 1, 4096, 200_000, 1_500_000)
 
 # members so near that a round of any parts has few messages
-NEAR = HASTY.format(end=3000) + '[[group]]\nname = "n"\ncount = 64\n'
+NEAR = hasty(3000, ('n', 64))
 
 # so many seeds, of which `--until 100` wants one
 SEEDS = '1..600'
