@@ -8,6 +8,7 @@ whatever else this one does (stand_in.py), so that a run by several workers star
 
 - one worker starts no thread, neither for a run nor for a sweep;
 - a run of four sites by four workers starts more than two threads, of which each simulates, and a sweep too;
+- a run of members that are near each other starts one thread beside the one that writes;
 - each of four long runs of a sweep is made by a thread of its own;
 - no more threads start than there are processors, or of two both and the one that writes; none where at most half are free;
 - all rows of a long run never wait in memory at once, by one worker and by several;
@@ -23,7 +24,7 @@ import subprocess
 
 import paths  # noqa: F401 (puts the folders of what follows on the path)
 from harness import NOT_WRITTEN, TESTS, Skipped, parser_of, program_at, run_cases
-from hasty import far
+from hasty import far, hasty
 from program import call_with_room
 from stand_in import NO_COMPILER, StandIn
 from sweeps import LONG, UNEVEN
@@ -36,6 +37,9 @@ LEAST_ROWS, MOST_MEMORY = 1_300_000, 40_000_000
 # of a trace that is cut off: more rows come behind it than may be on the way
 CUT = far(4, 64, 20_000)
 LIMITS = (0, 1, 4096, 200_000, 1_500_000)
+
+# members so near that a round of any parts has few messages
+NEAR = hasty(3000, ('n', 64))
 
 # so many seeds, of which `--until 100` wants one
 SEEDS = '1..600'
@@ -83,6 +87,12 @@ def several_workers(bench):
     threads = bench.threads(bench.run(far(4, 64, 3000), 4), 4)
     assert threads > 2, threads
     assert bench.trace.read_bytes() == whole
+
+
+def near_members(bench):
+    """Members so near each other that no rounds are worth it are simulated by one thread, while another one writes."""
+    threads = bench.threads(bench.run(NEAR, 4), 4)
+    assert threads == 1, threads
 
 
 def sweep_by_several(bench):
@@ -169,7 +179,8 @@ def width(bench):
     assert 3 * made < of_all, (made, of_all)
 
 
-CASES = (one_worker, several_workers, sweep_by_several, sweep_of_long_runs, few_processors, busy_processors, memory, cut_off, width)
+CASES = (one_worker, several_workers, near_members, sweep_by_several, sweep_of_long_runs, few_processors, busy_processors,
+         memory, cut_off, width)
 
 
 def main():
