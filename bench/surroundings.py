@@ -33,14 +33,23 @@ def busy_loops(count):
             loop.wait()
 
 
+def mounted(kind, option=''):
+    """Where control groups of this kind (`cgroup`, `cgroup2`) are mounted, those of version 1 with this controller."""
+    mounts = [line.split() for line in Path('/proc/self/mounts').read_text().splitlines()]
+    return [Path(words[1]) for words in mounts if words[2] == kind and (not option or option in words[3].split(','))]
+
+
+def group_of(prefix):
+    """The path of this process's control group, from the line of /proc/self/cgroup that a rule finds."""
+    return next((line.split(':', 2)[2] for line in Path('/proc/self/cgroup').read_text().splitlines() if prefix(line)), None)
+
+
 def own_group():
     """The folder of the control group, of version 2, in which this process is, and that of the highest one."""
-    mounts = [line.split() for line in Path('/proc/self/mounts').read_text().splitlines()]
-    tops = [Path(words[1]) for words in mounts if words[2] == 'cgroup2']
-    names = [line[3:] for line in Path('/proc/self/cgroup').read_text().splitlines() if line.startswith('0::')]
-    if not tops or not names:
+    tops, name = mounted('cgroup2'), group_of(lambda line: line.startswith('0::'))
+    if not tops or name is None:
         raise NoGroup('there are no control groups of version 2')
-    return tops[0] / names[0].lstrip('/'), tops[0]
+    return tops[0] / name.lstrip('/'), tops[0]
 
 
 def folder_for_groups():
@@ -55,11 +64,29 @@ def folder_for_groups():
         folder = folder.parent
 
 
+def folder_of_version_1():
+    """The group, of version 1, around this process that deals out processors."""
+    tops = mounted('cgroup', 'cpu')
+    name = group_of(lambda line: 'cpu' in line.split(':', 2)[1].split(','))
+    if not tops or name is None:
+        raise NoGroup('no control group of version 1 deals out processors')
+    return tops[0] / name.lstrip('/')
+
+
+def new_group():
+    """A folder for a new control group, and its files that take the time allowed in a period: `{}` is that time."""
+    name = f'swimsim-bench-{os.getpid()}'
+    try:
+        return folder_for_groups() / name, {'cpu.max': f'{{}} {MICROSECONDS}'}
+    except NoGroup:
+        return folder_of_version_1() / name, {'cpu.cfs_period_us': str(MICROSECONDS), 'cpu.cfs_quota_us': '{}'}
+
+
 @contextmanager
 def quota(share):
     """Makes a control group that gets this share of the time of all processors, and gives what a process calls to enter it.
     The group is removed at the end."""
-    group = folder_for_groups() / f'swimsim-bench-{os.getpid()}'
+    group, files = new_group()
     try:
         group.mkdir()
     except OSError as error:
@@ -69,16 +96,18 @@ def quota(share):
         (group / 'cgroup.procs').write_text(str(os.getpid()))
 
     try:
-        set_quota(group, share, enter)
+        set_quota(group, files, share, enter)
         yield enter
     finally:
         group.rmdir()
 
 
-def set_quota(group, share, enter):
+def set_quota(group, files, share, enter):
     """Gives a group its share, and sees that a process can enter it."""
+    allowed = round(share * os.cpu_count() * MICROSECONDS)
     try:
-        (group / 'cpu.max').write_text(f'{round(share * os.cpu_count() * MICROSECONDS)} {MICROSECONDS}')
+        for name, text in files.items():
+            (group / name).write_text(text.format(allowed))
         subprocess.run(['true'], preexec_fn=enter, check=True)
     except (OSError, subprocess.SubprocessError) as error:
         raise NoGroup(f'the control group takes no quota, or no process: {error}') from None

@@ -22,6 +22,6 @@ pub record IsBeginning (text whole : List ℕ) : Type 0 where
   pub rest : List ℕ
   pub split : text ++ rest ≡ whole
 
--- the text is a beginning of what is told of all mistakes of a scenario that is refused by this rule, or nothing
+-- the text is a beginning of what is told of all diagnostics of a scenario that is refused by this rule, or nothing
 abbrev pub TellsFirst : ℕ → List ℕ → Type 0
 TellsFirst rule text = (text ≡ []) ⊎ ((whole : List ℕ) × TellsLines rule whole × IsBeginning text whole)

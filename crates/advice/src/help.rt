@@ -6,11 +6,11 @@ swimsim simulates clusters of the SWIM membership protocol. Its commands:
 
   init     prints a scenario to begin with, with a comment on each key
   check    reads a scenario, and prints how many members it has
-  explain  tells what a scenario means, or all mistakes of one that is refused
+  explain  prints what a scenario means, or all errors of one that is refused
   run      runs a scenario, and writes its trace
   sweep    runs a scenario by many seeds and settings, and writes a table
-  join     puts the pieces of a sweep together
-  page     makes a sweep's page of the pieces of its table
+  join     puts the shards of a sweep together
+  page     makes a sweep's page of the shards of its table
 
 To try it:
 

@@ -11,4 +11,4 @@ mod surroundings;
 mod telling;
 
 pub use surroundings::Surroundings;
-pub use telling::tell_why;
+pub use telling::print_why;

@@ -4,7 +4,7 @@ ghost use Rattle.std.specs.Prelude.{◌≡◌};
 use crate::file_reasons::file_reason;
 use crate::help::SHORT_HELP;
 use crate::runs::run_reason;
-use crate::scenarios::first_mistake;
+use crate::scenarios::first_diagnostic;
 use crate::surroundings::Surroundings;
 use base::Memory;
 use command_line::{Asked, Failure, parse};
@@ -34,7 +34,7 @@ pub(crate) fn lines_below<'a, S: AsStr, F: Files, A: Surroundings>(
             words_lines(alloc, words, failure)
         }
         Failure::File(name) => file_lines(alloc, surroundings, words, name),
-        Failure::Rule(rule) | Failure::Case { rule, .. } => {
+        Failure::Rule(rule) | Failure::Setting { rule, .. } => {
             scenario_lines(alloc, words, *rule, files)
         }
         Failure::NoItem { key } => item_lines(alloc, words, key.as_str(), files),
@@ -71,8 +71,8 @@ fn file_lines<'a, S: AsStr, A: Surroundings>(
     }
 }
 
-/// What is wrong with the scenario whose file stands in the words: its first mistake, and what tells all of them. Where it has
-/// none, it is a setting that it is refused by.
+/// What is wrong with the scenario whose file stands in the words: its first diagnostic, and what tells all of them. Where it has
+/// none, it is a choice of the sweep that breaks a rule.
 fn scenario_lines<S: AsStr, F: Files>(
     alloc: Global,
     words: &[S],
@@ -89,9 +89,9 @@ fn scenario_lines<S: AsStr, F: Files>(
     let Some(name) = scenario_name(&asked) else {
         return Ok(String::new(alloc));
     };
-    let mut lines = first_mistake(alloc, name, rule, files)?;
+    let mut lines = first_diagnostic(alloc, name, rule, files)?;
     let reason = if lines.is_empty() {
-        RunReason::Setting(name)
+        RunReason::Swept(name)
     } else {
         RunReason::Rule(name)
     };

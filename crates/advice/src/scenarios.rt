@@ -1,4 +1,4 @@
-//! What is wrong with a scenario: its first mistake, as `explain` prints it.
+//! What is wrong with a scenario: its first diagnostic, as `explain` prints it.
 ghost use Rattle.std.specs.Prelude.{◌≡◌, IfOk, string_bytes};
 ghost use Rattle.advice.specs.Told.{IsBeginning, TellsFirst};
 
@@ -8,9 +8,9 @@ use files::Files;
 use scenario_reader::read;
 use std::alloc::Global;
 
-/// The first mistake of the scenario in a file that breaks this rule, as `explain` prints it, with a line feed behind it.
+/// The first diagnostic of the scenario in a file that breaks this rule, as `explain` prints it, with a line feed behind it.
 /// Nothing where the file can't be read once more, as a pipe, or no longer breaks the rule.
-pub(crate) fn first_mistake<F: Files>(
+pub(crate) fn first_diagnostic<F: Files>(
     alloc: Global,
     name: &str,
     rule: u8,
@@ -37,12 +37,12 @@ fn breaks(alloc: Global, bytes: &[u8], rule: u8) -> bool {
     }
 }
 
-/// The first mistake of a text.
+/// The first diagnostic of a text.
 fn first_of_text(alloc: Global, name: &str, bytes: &[u8], rule: u8) -> Result<String, Memory>
     ensures { IfOk result (λ text. TellsFirst rule (string_bytes text)) }
 {
-    let mistakes = of_refused(alloc, bytes, rule)?;
-    let lines = diagnostic_text::lines(alloc, name, bytes, &mistakes)?;
+    let diagnostics = of_refused(alloc, bytes, rule)?;
+    let lines = diagnostic_text::lines(alloc, name, bytes, &diagnostics)?;
     Ok(String::from_str(alloc, first_block(lines.as_str()))?)
 }
 

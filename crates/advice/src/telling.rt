@@ -12,7 +12,7 @@ use std::io::Write;
 
 /// Tells why a command failed, and what to do, on `err`, as far as it takes that: of `check` and `run` only where `err` is a
 /// terminal, as of words that begin with no command.
-pub fn tell_why<'a, S: AsStr, F: Files, E: Write, A: Surroundings>(
+pub fn print_why<'a, S: AsStr, F: Files, E: Write, A: Surroundings>(
     alloc: Global,
     is_terminal: bool,
     surroundings: &A,

@@ -17,15 +17,15 @@ use Rattle.run_command.specs.Outcomes.{EndsWithCause, RunFails, RunsAll}
 use Rattle.run_command.proofs.Causes.{run_item, run_memory, run_mistaken, run_output, run_preset, run_usage}
 use Rattle.sweep_command.specs.Outcomes.{SweepFails, SweepsAll}
 use Rattle.sweep_command.proofs.Causes.{sweep_memory, sweep_mistaken, sweep_output, sweep_preset, sweep_usage}
-use Rattle.shards.specs.declared.piece.Piece.{Piece}
-use Rattle.shards.specs.Pieces.{IsPiece}
+use Rattle.shards.specs.declared.shard.Shard.{Shard}
+use Rattle.shards.specs.Shards.{IsShard}
 use Rattle.goals.specs.Wants.{IsBounded}
 use Rattle.goals.specs.Words.{AreWants}
 use Rattle.goals.specs.declared.want.Want.{Want}
 use Rattle.cli.specs.Outcomes.{AsksForProgress, CheckFails, EndsRunBy, HasDone, Fails}
 use Rattle.files.specs.Files.{Making}
 use Rattle.command_line.specs.Printed.{rows_line, PresetFails, PrintsPreset}
-use Rattle.command_line.specs.Words.{Answers, AsksForRun, AsksForCheck, AsksForExplain, AsksForInit, AsksForJoin, AsksForPage, AsksForPiece, AsksForSweep, IsCommand}
+use Rattle.command_line.specs.Words.{Answers, AsksForRun, AsksForCheck, AsksForExplain, AsksForInit, AsksForJoin, AsksForPage, AsksForShard, AsksForSweep, IsCommand}
 use Rattle.command_line.specs.declared.release.Release.{Release}
 use Rattle.command_line.specs.declared.words.Asked.{Asked}
 use Rattle.command_line.specs.declared.words.Asked.TheVariants as asked
@@ -37,7 +37,7 @@ use Rattle.command_line.specs.declared.words.RunWords.{RunWords}
 use Rattle.command_line.specs.declared.words.SweepWords.{SweepWords}
 use Rattle.command_line.specs.declared.failure.Failure.{Failure}
 use Rattle.command_line.specs.declared.failure.Failure.TheVariants as failing
-use Rattle.command_line.specs.declared.failure.Failure.TheVariants.{File, Usage, NoItem, Rule, Mistaken, Case, Pieces, Workers, Division, Run, Memory, Output}
+use Rattle.command_line.specs.declared.failure.Failure.TheVariants.{File, Usage, NoItem, Rule, Mistaken, Setting, Shards, Workers, Division, Run, Memory, Output}
 
 -- words with an answer are a command
 pub is_command : (words : List Text) (answer : Asked) → Answers words answer → IsCommand words
@@ -57,8 +57,8 @@ pub run_fails : (Refused : Type 0) (words : List Text) (before after : Shelf) (m
 run_fails Refused words before after making old new run version (File name) asks fails = inl (run, asks, (version, fails))
 run_fails Refused words before after making old new run version (Rule rule) asks fails = inl (run, asks, (version, fails))
 run_fails Refused words before after making old new run version (Mistaken rule) asks fails = absurd (run_mistaken version before after making run rule fails)
-run_fails Refused words before after making old new run version (Case rule settings) asks fails = inl (run, asks, (version, fails))
-run_fails Refused words before after making old new run version (Pieces cause) asks fails = inl (run, asks, (version, fails))
+run_fails Refused words before after making old new run version (Setting rule swept_keys) asks fails = inl (run, asks, (version, fails))
+run_fails Refused words before after making old new run version (Shards cause) asks fails = inl (run, asks, (version, fails))
 run_fails Refused words before after making old new run version Workers asks fails = inl (run, asks, (version, fails))
 run_fails Refused words before after making old new run version (Division cause) asks fails = inl (run, asks, (version, fails))
 run_fails Refused words before after making old new run version (Run cause) asks fails = inl (run, asks, (version, fails))
@@ -74,8 +74,8 @@ pub check_fails : (Refused : Type 0) (words : List Text) (before after : Shelf) 
 check_fails Refused words before after making old new file (File name) asks fails = inr (inl (file, asks, fails))
 check_fails Refused words before after making old new file (Rule rule) asks fails = inr (inl (file, asks, fails))
 check_fails Refused words before after making old new file (Mistaken rule) asks fails = absurd fails.cause
-check_fails Refused words before after making old new file (Case rule settings) asks fails = absurd fails.cause
-check_fails Refused words before after making old new file (Pieces cause) asks fails = absurd fails.cause
+check_fails Refused words before after making old new file (Setting rule swept_keys) asks fails = absurd fails.cause
+check_fails Refused words before after making old new file (Shards cause) asks fails = absurd fails.cause
 check_fails Refused words before after making old new file Memory asks fails = fails.same
 check_fails Refused words before after making old new file Usage asks fails = absurd fails.cause
 check_fails Refused words before after making old new file (NoItem key) asks fails = absurd fails.cause
@@ -91,8 +91,8 @@ pub explain_fails : (Refused : Type 0) (words : List Text) (before after : Shelf
 explain_fails Refused words before after making old new explain (File name) asks same fails = inr (inr (inl (explain, asks, record { cause = fails; same = same })))
 explain_fails Refused words before after making old new explain (Rule rule) asks same fails = absurd fails
 explain_fails Refused words before after making old new explain (Mistaken rule) asks same fails = (explain, asks, record { cause = fails; same = same })
-explain_fails Refused words before after making old new explain (Case rule settings) asks same fails = absurd fails
-explain_fails Refused words before after making old new explain (Pieces cause) asks same fails = absurd fails
+explain_fails Refused words before after making old new explain (Setting rule swept_keys) asks same fails = absurd fails
+explain_fails Refused words before after making old new explain (Shards cause) asks same fails = absurd fails
 explain_fails Refused words before after making old new explain Memory asks same fails = same
 explain_fails Refused words before after making old new explain Usage asks same fails = absurd fails
 explain_fails Refused words before after making old new explain (NoItem key) asks same fails = absurd fails
@@ -131,8 +131,8 @@ pub sweep_fails : (Refused : Type 0) (words : List Text) (before after : Shelf) 
 sweep_fails Refused words before after making old new sweep (File name) asks fails = inr (inr (inr (inl (sweep, asks, fails))))
 sweep_fails Refused words before after making old new sweep (Rule rule) asks fails = inr (inr (inr (inl (sweep, asks, fails))))
 sweep_fails Refused words before after making old new sweep (Mistaken rule) asks fails = absurd (sweep_mistaken Refused before after making sweep rule fails)
-sweep_fails Refused words before after making old new sweep (Case rule settings) asks fails = inr (inr (inr (inl (sweep, asks, fails))))
-sweep_fails Refused words before after making old new sweep (Pieces cause) asks fails = inr (inr (inr (inl (sweep, asks, fails))))
+sweep_fails Refused words before after making old new sweep (Setting rule swept_keys) asks fails = inr (inr (inr (inl (sweep, asks, fails))))
+sweep_fails Refused words before after making old new sweep (Shards cause) asks fails = inr (inr (inr (inl (sweep, asks, fails))))
 sweep_fails Refused words before after making old new sweep Workers asks fails = inr (inr (inr (inl (sweep, asks, fails))))
 sweep_fails Refused words before after making old new sweep (Division cause) asks fails = inr (inr (inr (inl (sweep, asks, fails))))
 sweep_fails Refused words before after making old new sweep (Run cause) asks fails = inr (inr (inr (inl (sweep, asks, fails))))
@@ -210,17 +210,17 @@ asked_untold words answer sweep is h none = go sweep.progress refl
         let asks : Answers words (asked.Sweep sweep) = subst (Answers words) is h in
         absurd (none (inr (sweep, asks, e)))
 
--- the piece that a sweep names is sound
-piece_sound : (word : Option Text) (piece : Option Piece) → AsksForPiece word piece → (p : Piece) → piece ≡ Some p → IsPiece p
-piece_sound None None h p is = absurd (none-some p is)
-piece_sound None (Some q) h p is = absurd h
-piece_sound (Some word) None h p is = absurd h
-piece_sound (Some word) (Some q) h p is = subst IsPiece (same_Some q p is) h.sound
+-- the shard that a sweep names is sound
+shard_sound : (word : Option Text) (shard : Option Shard) → AsksForShard word shard → (p : Shard) → shard ≡ Some p → IsShard p
+shard_sound None None h p is = absurd (none-some p is)
+shard_sound None (Some q) h p is = absurd h
+shard_sound (Some word) None h p is = absurd h
+shard_sound (Some word) (Some q) h p is = subst IsShard (same_Some q p is) h.sound
 
-pub asked_piece : (words : List Text) (answer : Asked) (sweep : SweepWords) → answer ≡ asked.Sweep sweep → Answers words answer → ForSome sweep.piece IsPiece
-asked_piece words answer sweep is h =
+pub asked_shard : (words : List Text) (answer : Asked) (sweep : SweepWords) → answer ≡ asked.Sweep sweep → Answers words answer → ForSome sweep.shard IsShard
+asked_shard words answer sweep is h =
     let asks : Answers words (asked.Sweep sweep) = subst (Answers words) is h in
-    piece_sound (first_of (codes "shard") asks.1.rows) sweep.piece asks.1.piece
+    shard_sound (first_of (codes "shard") asks.1.rows) sweep.shard asks.1.shard
 
 -- what a sweep wants is bounded
 wants_bounded : (words : List Text) (wants : List Want) → AreWants words wants → All IsBounded wants
@@ -239,13 +239,13 @@ joined_wants words answer join is h =
     let asks : Answers words (asked.Join join) = subst (Answers words) is h in
     wants_bounded (unwrap_or (all_of (codes "want") asks.1.rows) []) join.wants.items asks.1.wants
 
--- why pieces that the words ask to join were not put together
+-- why shards that the words ask to join were not put together
 join_fails : (Refused : Type 0) (words : List Text) (before after : Shelf) (making : Making) (old new : Option (List ℕ)) (join : JoinWords) (failure : Failure)
     → AsksForJoin words join → JoinFails Refused before after making join failure → Fails Refused words before after making old new failure
 join_fails Refused words before after making old new join (File name) asks fails = inr (inr (inr (inr (inl (join, asks, fails)))))
 join_fails Refused words before after making old new join (Rule rule) asks fails = inr (inr (inr (inr (inl (join, asks, fails)))))
-join_fails Refused words before after making old new join (Case rule settings) asks fails = inr (inr (inr (inr (inl (join, asks, fails)))))
-join_fails Refused words before after making old new join (Pieces cause) asks fails = inr (inr (inr (inr (inl (join, asks, fails)))))
+join_fails Refused words before after making old new join (Setting rule swept_keys) asks fails = inr (inr (inr (inr (inl (join, asks, fails)))))
+join_fails Refused words before after making old new join (Shards cause) asks fails = inr (inr (inr (inr (inl (join, asks, fails)))))
 join_fails Refused words before after making old new join Workers asks fails = inr (inr (inr (inr (inl (join, asks, fails)))))
 join_fails Refused words before after making old new join (Division cause) asks fails = inr (inr (inr (inr (inl (join, asks, fails)))))
 join_fails Refused words before after making old new join (Run cause) asks fails = inr (inr (inr (inr (inl (join, asks, fails)))))
@@ -263,7 +263,7 @@ asked_join_fails Refused words before after making old new answer join failure i
     let asks : Answers words (asked.Join join) = subst (Answers words) is h in
     join_fails Refused words before after making old new join failure asks fails
 
--- pieces that the words ask to join were put together, and the lines of the cases printed
+-- shards that the words ask to join were put together, and the lines of the settings printed
 pub asked_join_done : {E : Type 0} (release : Release) (words : List Text) (before after : Shelf) (making : Making) (old new : Option (List ℕ)) (answer : Asked) (join : JoinWords)
     (lines shown : List ℕ) (printed : Result (Unit {0}) E) → answer ≡ asked.Join join → Answers words answer → JoinsAll release.version.now before after making join lines
     → shown ≡ lines → OnOk printed (Appends old new shown) → OnOk printed (HasDone release words before after making old new)
@@ -284,8 +284,8 @@ page_fails : (Refused : Type 0) (words : List Text) (before after : Shelf) (maki
     → AsksForPage words page → PageFails Refused before after making page failure → Fails Refused words before after making old new failure
 page_fails Refused words before after making old new page (File name) asks fails = inr (inr (inr (inr (inr (page, asks, fails)))))
 page_fails Refused words before after making old new page (Rule rule) asks fails = inr (inr (inr (inr (inr (page, asks, fails)))))
-page_fails Refused words before after making old new page (Case rule settings) asks fails = inr (inr (inr (inr (inr (page, asks, fails)))))
-page_fails Refused words before after making old new page (Pieces cause) asks fails = inr (inr (inr (inr (inr (page, asks, fails)))))
+page_fails Refused words before after making old new page (Setting rule swept_keys) asks fails = inr (inr (inr (inr (inr (page, asks, fails)))))
+page_fails Refused words before after making old new page (Shards cause) asks fails = inr (inr (inr (inr (inr (page, asks, fails)))))
 page_fails Refused words before after making old new page Workers asks fails = inr (inr (inr (inr (inr (page, asks, fails)))))
 page_fails Refused words before after making old new page (Division cause) asks fails = inr (inr (inr (inr (inr (page, asks, fails)))))
 page_fails Refused words before after making old new page (Run cause) asks fails = inr (inr (inr (inr (inr (page, asks, fails)))))
@@ -336,8 +336,8 @@ asked_init_fails Refused words before making old new answer preset unchanged fai
     by_failure failing.Preset asks none = absurd none
     by_failure (Rule rule) asks none = absurd none
     by_failure (Mistaken rule) asks none = absurd none
-    by_failure (Case rule settings) asks none = absurd none
-    by_failure (Pieces cause) asks none = absurd none
+    by_failure (Setting rule swept_keys) asks none = absurd none
+    by_failure (Shards cause) asks none = absurd none
     by_failure Workers asks none = absurd none
     by_failure (Division cause) asks none = absurd none
     by_failure (Run cause) asks none = absurd none

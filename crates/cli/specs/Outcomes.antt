@@ -60,8 +60,8 @@ abbrev pub DoesVersion : List Text → Shelf → Shelf → Type 0
 DoesVersion words before after = AsksForVersion words × (after ≡ before)
 
 -- what the words ask for was done: a run, and the number of its rows printed; a check, and the number of members
--- printed; what a scenario means printed; a sweep, and the lines of its cases printed; a preset's scenario printed; pieces joined, and the lines of
--- the cases printed; a page of pieces made, and nothing printed; help was printed; or the line that tells of this release
+-- printed; what a scenario means printed; a sweep, and the lines of its settings printed; a preset's scenario printed; shards joined, and the lines of
+-- the settings printed; a page of shards made, and nothing printed; help was printed; or the line that tells of this release
 abbrev pub HasDone : Release → List Text → Shelf → Shelf → Making → Option (List ℕ) → Option (List ℕ) → Type 0
 HasDone release words before after making old new = ((count : ℕ) × DoesRun release.version.now words before after making count × Appends old new (rows_line count))
     ⊎ (((members : ℕ) × DoesCheck words before after members × Appends old new (members_line members))
@@ -99,12 +99,12 @@ EndsRunBy s workers cause = (cause ≡ fault.CounterOverflow → CounterOverflow
 abbrev pub CheckFails : Shelf → Shelf → Text → Failure → Type 0
 CheckFails before after file failure = IsRefused before after (LoadFails (before file) file failure)
 
--- why the scenario of the file isn't explained: the file was not read, or standard output has got the mistakes of its text
+-- why the scenario of the file isn't explained: the file was not read, or standard output has got the diagnostics of its text
 abbrev pub DoesNotExplain : List Text → Shelf → Shelf → Option (List ℕ) → Option (List ℕ) → Failure → Type 0
 DoesNotExplain words before after old new failure = (explain : ExplainWords) × AsksForExplain words explain
     × IsRefused before after (ExplainFails (before explain.file.now) explain old new failure)
 
--- Why a run, a check, an explanation, a sweep, a joining or a page of pieces that the words ask for was not done. By a failed write a run, a
+-- Why a run, a check, an explanation, a sweep, a joining or a page of shards that the words ask for was not done. By a failed write a run, a
 -- sweep, a joining or a page ends only where a file refused one, as `Refused` says.
 abbrev pub DoesNot : Type 0 → List Text → Shelf → Shelf → Making → Option (List ℕ) → Option (List ℕ) → Failure → Type 0
 DoesNot Refused words before after making old new failure =
@@ -126,7 +126,7 @@ Fails Refused words before after making old new Memory = after ≡ before
 Fails Refused words before after making old new failure = DoesNot Refused words before after making old new failure
 
 -- How a command ended that answered this status, which isn't 0: by a failure of that status. Standard output is as it was,
--- unless it failed itself or has got the mistakes of a text that was to be explained.
+-- unless it failed itself or has got the diagnostics of a text that was to be explained.
 pub record Ends {O : Type 0} (Refused : Type 0) (words : List Text) (before after : Shelf) (making : Making) (contents : O → Option (List ℕ)) (old new : O)
     (status : ℕ) : Type 0 where
   pub failure : Failure

@@ -10,7 +10,7 @@ pub mod system;
 
 pub use advice::Surroundings;
 pub use command_line::{
-    Asked, ExplainWords, Failure, JoinWords, PageWords, PieceFault, Release, RunWords, Split,
+    Asked, ExplainWords, Failure, JoinWords, PageWords, Release, RunWords, ShardFault, Split,
     SweepWords, division_asked, parse, refuse, workers_asked,
 };
 pub use files::{FileFault, Files, PairFault, ReadFault, TripleFault, testing};

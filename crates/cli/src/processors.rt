@@ -70,22 +70,43 @@ fn idle_processors<R: Files + AllocGlobal>(rt: &R) -> Option<usize> {
     Some(processors.saturating_sub(running.saturating_sub(1)))
 }
 
-/// How many processors the control group of this process may keep busy.
+/// How many processors the control group of this process may keep busy: the lesser number where it is in groups of both
+/// versions.
 fn share_of_group<R: Files + AllocGlobal>(rt: &R) -> Option<usize> {
     let own = fs::read_to_string(rt, OWN_GROUP).ok()?;
-    let path = own
-        .as_str()
-        .lines()
-        .find_map(|line| line.strip_prefix("0::"))?;
-    let file = format!(in rt.alloc(); "{GROUPS}{path}/cpu.max").ok()?;
-    let most = fs::read_to_string(rt, file.as_str()).ok()?;
-    quota_in(most.as_str())
+    let mut share = None;
+    for line in own.as_str().lines() {
+        if let Some(processors) = share_in(rt, line) {
+            share = Some(processors.min(share.unwrap_or(processors)));
+        }
+    }
+    share
 }
 
-/// The processors that a quota allows. It is the time allowed in each period, and the period: `20000
-/// 100000`, or `max 100000`. Less than one processor counts as one.
-fn quota_in(most: &str) -> Option<usize> {
-    let (limit, period) = most.trim().split_once(' ')?;
+/// The processors that a group's quota allows. The line names the group: `0::/a/b` one of version 2, `4:cpu,cpuacct:/a/b` one
+/// of version 1 that deals out processors.
+fn share_in<R: Files + AllocGlobal>(rt: &R, line: &str) -> Option<usize> {
+    let (_number, rest) = line.split_once(':')?;
+    let (controllers, path) = rest.split_once(':')?;
+    if controllers.is_empty() {
+        let file = format!(in rt.alloc(); "{GROUPS}{path}/cpu.max").ok()?;
+        let most = fs::read_to_string(rt, file.as_str()).ok()?;
+        let (limit, period) = most.as_str().trim().split_once(' ')?;
+        return quota(limit, period);
+    }
+    if !controllers.split(',').any(|it| it == "cpu") {
+        return None;
+    }
+    let limit = format!(in rt.alloc(); "{GROUPS}/cpu{path}/cpu.cfs_quota_us").ok()?;
+    let period = format!(in rt.alloc(); "{GROUPS}/cpu{path}/cpu.cfs_period_us").ok()?;
+    let limit = fs::read_to_string(rt, limit.as_str()).ok()?;
+    let period = fs::read_to_string(rt, period.as_str()).ok()?;
+    quota(limit.as_str().trim(), period.as_str().trim())
+}
+
+/// The processors that a quota allows: the time allowed in each period, and the period. No number, as `max` or `-1`, is no
+/// limit. Less than one processor counts as one.
+fn quota(limit: &str, period: &str) -> Option<usize> {
     let limit: usize = limit.parse().ok()?;
     let period: usize = period.parse().ok()?;
     Some(limit.checked_div(period)?.max(1))

@@ -6,7 +6,7 @@ ghost use Rattle.sweep_command.specs.Outcomes.{SetsNoItem};
 ghost use Rattle.cli.specs.Outcomes.{AsksForProgress, HasDone, Fails, Ends};
 
 use crate::simulation::ByThreads;
-use advice::{Surroundings, tell_why};
+use advice::{Surroundings, print_why};
 use command_line::{
     Asked, Failure, Release, parse, print_help, print_members, print_preset, print_release,
     print_rows, print_text, refuse,
@@ -28,7 +28,7 @@ use sweep_command::sweep_file;
 ///
 /// `rt` starts the threads of a run, of which no more than `most` simulate, and lets them wait. `release` is what the program tells of itself. `words` are
 /// those of the command line without the program's name. A failure is told in one line on `err`, below which others tell why: of `check` and
-/// `run` only where `err` is a terminal. `out` then gets nothing, unless it failed itself or gets the mistakes of a scenario. `surroundings` are
+/// `run` only where `err` is a terminal. `out` then gets nothing, unless it failed itself or gets the diagnostics of a scenario. `surroundings` are
 /// asked what the system says of a file that can't be read or made. A run or a sweep that is to tell how far it has come does so on `progress`, as far as that takes
 /// its lines.
 pub fn command<S: AsStr, F: Files, O: Write, E: Write, P: Write, A: Surroundings>(
@@ -48,9 +48,9 @@ pub fn command<S: AsStr, F: Files, O: Write, E: Write, P: Write, A: Surroundings
 
     // Status 0: what the words ask for was done. A run has left its trace in the file of that name, its
     // report and its page where they are asked for, and told standard output the number of its rows; a check, the number
-    // of members; an explanation, what the scenario means; a sweep has left its table and its page, and told the lines of its cases, unless it
-    // is a piece; a preset's scenario was told; pieces that were joined have left the table of the whole and its page, and told those
-    // lines; a page of pieces was left, and nothing told; who asks for the version was told the line of this release.
+    // of members; an explanation, what the scenario means; a sweep has left its table and its page, and told the lines of its settings, unless it
+    // is a shard; a preset's scenario was told; shards that were joined have left the table of the whole and its page, and told those
+    // lines; a page of shards was left, and nothing told; who asks for the version was told the line of this release.
     ensures done { result ≡ 0 → HasDone release.now (map S.text words.now) (F.known files.old) (F.known files.new) (F.making files.old)
         (O.contents out.old) (O.contents out.new) }
 
@@ -65,7 +65,7 @@ pub fn command<S: AsStr, F: Files, O: Write, E: Write, P: Write, A: Surroundings
     ensures usage { result ≡ 2 → IsNoCommand (map S.text words.now) ⊎ SetsNoItem (map S.text words.now) (F.known files.old) }
     ensures other { ¬ (IsCommand (map S.text words.now)) → (result ≡ 2) ⊎ (result ≡ 5) }
 
-    // What failed says nothing on standard output, but for the mistakes of a scenario that was to be explained and is
+    // What failed says nothing on standard output, but for the diagnostics of a scenario that was to be explained and is
     // refused; and what was done says nothing on standard error.
     ensures silent { 2 ≤ result → ¬ (AsksToExplain (map S.text words.now)) ⊎ (result ≢ 3) → out.new ≡ out.old }
     ensures quiet { result ≡ 0 → err.new ≡ err.old }
@@ -78,7 +78,7 @@ pub fn command<S: AsStr, F: Files, O: Write, E: Write, P: Write, A: Surroundings
         Ok(()) => 0,
         Err(failure) => {
             let status = refuse(&failure, err);
-            tell_why(
+            print_why(
                 alloc,
                 is_terminal,
                 surroundings,

@@ -87,7 +87,7 @@ no_preset_no_init met names preset h =
     let same : h.rows ≡ names.rows = ap rows_met (sym h.met_init ∙ names.met_init) in
     names.unknown preset (same_Some (word_of preset) names.word (sym h.named ∙ (ap (first_of (codes "PRESET")) same ∙ names.given)))
 
--- nor for pieces to be joined, nor for a page of them
+-- nor for shards to be joined, nor for a page of them
 pub no_preset_no_join : (met : Option (Text × List Row)) → NamesNoPreset met → (join : JoinWords) → IsJoinIn met join → ⊥
 no_preset_no_join met names join h =
     let letter = apart met (codes "init") (codes "join") names.rows h.rows names.met_init h.met_join in

@@ -4,8 +4,8 @@ use Rattle.std.proofs.lemmas.Option.{none-some}
 use Rattle.clap.specs.Words.{Row, first_of}
 use Rattle.sweep_plan.specs.Sweep.{Sweep as Planned}
 use Rattle.goals.specs.declared.want.Want.{Want}
-use Rattle.shards.specs.declared.piece.Piece.{Piece}
-use Rattle.command_line.specs.Words.{have_sense, AreWantsIn, AsksForPiece, IsPlanIn, IsSweepIn}
+use Rattle.shards.specs.declared.shard.Shard.{Shard}
+use Rattle.command_line.specs.Words.{have_sense, AreWantsIn, AsksForShard, IsPlanIn, IsSweepIn}
 use Rattle.command_line.specs.declared.words.SweepWords.{SweepWords}
 use Rattle.command_line.proofs.RunRows.{rows_met}
 
@@ -25,8 +25,8 @@ module _ (rows : List Row) (sweep : SweepWords) (h : IsSweepIn (Some (codes "swe
   pub no_plan : ((plan : Planned) → IsPlanIn rows plan → ⊥) → ⊥
   no_plan none = none sweep.plan (subst (λ r. IsPlanIn r sweep.plan) same h.plan)
 
-  pub no_piece : ((piece : Option Piece) → AsksForPiece (first_of (codes "shard") rows) piece → ⊥) → ⊥
-  no_piece none = none sweep.piece (subst (λ r. AsksForPiece (first_of (codes "shard") r) sweep.piece) same h.piece)
+  pub no_shard : ((shard : Option Shard) → AsksForShard (first_of (codes "shard") rows) shard → ⊥) → ⊥
+  no_shard none = none sweep.shard (subst (λ r. AsksForShard (first_of (codes "shard") r) sweep.shard) same h.shard)
 
   pub no_wants : ((wants : List Want) → AreWantsIn rows wants → ⊥) → ⊥
   no_wants none = none sweep.wants.items (subst (λ r. AreWantsIn r sweep.wants.items) same h.wants)

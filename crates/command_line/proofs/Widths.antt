@@ -20,18 +20,18 @@ same_width (Some word) (Some n) (Some m) asks other =
 pub no_plan : (rows : List Row) (words : List Text) (seeds : Option Text) (until : Option ℕ) → words ≡ unwrap_or (all_of (codes "set") rows) []
     → seeds ≡ first_of (codes "seeds") rows → AsksForWidth (first_of (codes "until") rows) until
     → ((plan : Planned) → ¬ (IsSweepOf words seeds until plan)) → (plan : Planned) → IsPlanIn rows plan → ⊥
-no_plan rows words seeds until settings seeded asks none plan h =
+no_plan rows words seeds until swept_keys seeded asks none plan h =
     let same = same_width (first_of (codes "until") rows) plan.until until h.width asks in
-    let set = subst (λ w. IsSweepOf w (first_of (codes "seeds") rows) plan.until plan) (sym settings) h.planned in
+    let set = subst (λ w. IsSweepOf w (first_of (codes "seeds") rows) plan.until plan) (sym swept_keys) h.planned in
     let all = subst (λ s. IsSweepOf words s plan.until plan) (sym seeded) set in
     none plan (subst (λ w. IsSweepOf words seeds w plan) same all)
 
 -- where they make one, it is asked for
 pub plans : (rows : List Row) (words : List Text) (seeds : Option Text) (until : Option ℕ) (plan : Planned) → words ≡ unwrap_or (all_of (codes "set") rows) []
     → seeds ≡ first_of (codes "seeds") rows → AsksForWidth (first_of (codes "until") rows) until → IsSweepOf words seeds until plan → IsPlanIn rows plan
-plans rows words seeds until plan settings seeded asks h =
+plans rows words seeds until plan swept_keys seeded asks h =
     let same = sym h.wanted in
-    let set = subst (λ w. IsSweepOf w seeds until plan) settings h in
+    let set = subst (λ w. IsSweepOf w seeds until plan) swept_keys h in
     let all = subst (λ s. IsSweepOf (unwrap_or (all_of (codes "set") rows) []) s until plan) seeded set in
     record {
       width = subst (AsksForWidth (first_of (codes "until") rows)) same asks;

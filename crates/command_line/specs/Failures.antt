@@ -12,9 +12,9 @@ use Rattle.shown_names.specs.Shown.{shown_name}
 use Rattle.command_line.specs.Division.{AreParts, AsksForWorkers, DivisionFails, ListFails}
 use Rattle.command_line.specs.declared.words.Split.{Split}
 use Rattle.command_line.specs.declared.failure.Failure.{Failure}
-use Rattle.command_line.specs.declared.failure.Failure.TheVariants.{File, Usage, Preset, NoItem, Rule, Mistaken, Case, Pieces, Workers, Division, Run, Memory, Output}
-use Rattle.command_line.specs.declared.failure.PieceFault.{PieceFault}
-use Rattle.command_line.specs.declared.failure.PieceFault.TheVariants as piece
+use Rattle.command_line.specs.declared.failure.Failure.TheVariants.{File, Usage, Preset, NoItem, Rule, Mistaken, Setting, Shards, Workers, Division, Run, Memory, Output}
+use Rattle.command_line.specs.declared.failure.ShardFault.{ShardFault}
+use Rattle.command_line.specs.declared.failure.ShardFault.TheVariants as shard
 
 -- the exit status
 abbrev pub status_of : Failure → ℕ
@@ -25,8 +25,8 @@ status_of Preset = 2
 status_of (NoItem key) = 2
 status_of (Rule number) = 3
 status_of (Mistaken number) = 3
-status_of (Case number settings) = 3
-status_of (Pieces cause) = 3
+status_of (Setting number swept_keys) = 3
+status_of (Shards cause) = 3
 status_of Workers = 4
 status_of (Division cause) = 4
 status_of (Run cause) = 5
@@ -50,23 +50,23 @@ division_number division.Length = 1
 division_number division.PartNumber = 2
 division_number division.Parts = 3
 
--- with which settings a case was made, if any
-abbrev pub case_settings : List ℕ → List ℕ
-case_settings [] = []
-case_settings settings = codes " with " ++ settings
+-- with which choices a setting was made, if any
+abbrev pub setting_swept_keys : List ℕ → List ℕ
+setting_swept_keys [] = []
+setting_swept_keys swept_keys = codes " with " ++ swept_keys
 
--- what is told of the piece in a file
-abbrev pub piece_told : Text → List ℕ → List ℕ
-piece_told name what = codes "piece " ++ shown_name name ++ what
+-- what is told of the shard in a file
+abbrev pub shard_told : Text → List ℕ → List ℕ
+shard_told name what = codes "piece " ++ shown_name name ++ what
 
--- why files aren't the pieces of one sweep, in words
-abbrev pub piece_message : PieceFault → List ℕ
-piece_message (piece.NoPiece name) = codes "no piece " ++ shown_name name.now
-piece_message (piece.Other name) = piece_told name.now (codes " of another sweep")
-piece_message (piece.Doubled name) = piece_told name.now (codes " twice")
-piece_message (piece.Torn name) = piece_told name.now (codes " torn")
-piece_message (piece.Older name) = piece_told name.now (codes " of an earlier version: make it again, or read it with that version")
-piece_message (piece.Missing number) = codes "piece " ++ decimal number ++ codes " missing"
+-- why files aren't the shards of one sweep, in words
+abbrev pub shard_message : ShardFault → List ℕ
+shard_message (shard.NoShard name) = codes "no piece " ++ shown_name name.now
+shard_message (shard.Other name) = shard_told name.now (codes " of another sweep")
+shard_message (shard.Doubled name) = shard_told name.now (codes " twice")
+shard_message (shard.Torn name) = shard_told name.now (codes " torn")
+shard_message (shard.Older name) = shard_told name.now (codes " of an earlier version: make it again, or read it with that version")
+shard_message (shard.Missing number) = codes "piece " ++ decimal number ++ codes " missing"
 
 -- what failed, in words
 abbrev pub message_of : Failure → List ℕ
@@ -76,8 +76,8 @@ message_of Preset = codes "usage: the presets are local, lan, wan and swim"
 message_of (NoItem key) = codes "usage: no item of " ++ string_bytes key
 message_of (Rule number) = codes "scenario rule " ++ decimal number
 message_of (Mistaken number) = codes "scenario rule " ++ decimal number
-message_of (Case number settings) = codes "scenario rule " ++ decimal number ++ case_settings (string_bytes settings)
-message_of (Pieces cause) = piece_message cause
+message_of (Setting number swept_keys) = codes "scenario rule " ++ decimal number ++ setting_swept_keys (string_bytes swept_keys)
+message_of (Shards cause) = shard_message cause
 message_of Workers = codes "workers"
 message_of (Division cause) = codes "division V" ++ decimal (division_number cause)
 message_of (Run cause) = codes "run F" ++ decimal (fault_number cause)

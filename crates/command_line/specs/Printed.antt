@@ -21,7 +21,7 @@ abbrev pub release_line : Release → List ℕ
 release_line release =
     codes "swimsim " ++ release.version.now ++ codes " (sources " ++ release.sources.now ++ codes ", " ++ release.kit.now ++ codes ")\n"
 
--- there is a text with the settings of the preset
+-- there is a text with the values of the preset
 abbrev pub HasText : Preset → Type 0
 HasText preset = (text : List ℕ) × TellsSettings (settings_of preset) text
 

@@ -9,8 +9,8 @@ use Rattle.sweep_plan.specs.Sweep.{Sweep as Planned}
 use Rattle.sweep_plan.specs.Asked.{IsSweepOf}
 use Rattle.goals.specs.Words.{AreWants}
 use Rattle.goals.specs.declared.want.Want.{Want}
-use Rattle.shards.specs.Pieces.{IsPieceWord}
-use Rattle.shards.specs.declared.piece.Piece.{Piece}
+use Rattle.shards.specs.Shards.{IsShardWord}
+use Rattle.shards.specs.declared.shard.Shard.{Shard}
 use Rattle.presets.specs.Presets.{word_of}
 use Rattle.presets.specs.declared.preset.Preset.{Preset}
 use Rattle.decimals.specs.Numbers.{IsDecimal}
@@ -49,45 +49,45 @@ check_app = with_rule (new_app (codes "check")) file_rule
 abbrev pub explain_app : App
 explain_app = with_rule (with_rule (new_app (codes "explain")) file_rule) (flag_rule (codes "json"))
 
--- a command, and what says which cases a sweep has, and by how many seeds: the options --seeds and --until; and --set, which may stand more
+-- a command, and what says which settings a sweep has, and by how many seeds: the options --seeds and --until; and --set, which may stand more
 -- than once
-abbrev pub with_cases : App → App
-with_cases app =
+abbrev pub with_settings : App → App
+with_settings app =
     let seeded = with_rule app (option_rule (codes "seeds")) in
     with_rule (with_rule seeded (option_rule (codes "until"))) (repeated_rule (codes "set"))
 
--- and what says which runs are made and where their table goes: the option --table, which is required; the cases; --shard and --workers; and the
+-- and what says which runs are made and where their table goes: the option --table, which is required; the settings; --shard and --workers; and the
 -- flag --resume
 abbrev pub with_runs : App → App
 with_runs app =
-    let cased = with_cases (with_rule app (required_rule (codes "table"))) in
+    let cased = with_settings (with_rule app (required_rule (codes "table"))) in
     let sharded = with_rule cased (option_rule (codes "shard")) in
     with_rule (with_rule sharded (flag_rule (codes "resume"))) (option_rule (codes "workers"))
 
--- a command, and what says what is told of the cases of a sweep: the option --want, which may stand more than once; the flag --jsonl; and the
+-- a command, and what says what is told of the settings of a sweep: the option --want, which may stand more than once; the flag --jsonl; and the
 -- option --page
 abbrev pub with_telling : App → App
 with_telling app =
     let wanted = with_rule app (repeated_rule (codes "want")) in
     with_rule (with_rule wanted (flag_rule (codes "jsonl"))) (option_rule (codes "page"))
 
--- the command `sweep`: a file, which is required, the options of its runs and those of what is told of its cases, and the flag --progress
+-- the command `sweep`: a file, which is required, the options of its runs and those of what is told of its settings, and the flag --progress
 abbrev pub sweep_app : App
 sweep_app = with_rule (with_telling (with_runs (with_rule (new_app (codes "sweep")) file_rule))) (flag_rule (codes "progress"))
 
--- the files of pieces: one or more
-abbrev pub pieces_rule : Rule
-pieces_rule = record (new_rule (codes "PIECE")) { required = true; range = Some (record { start_inclusive = 1; end_inclusive = usize_max }) }
+-- the files of shards: one or more
+abbrev pub shards_rule : Rule
+shards_rule = record (new_rule (codes "PIECE")) { required = true; range = Some (record { start_inclusive = 1; end_inclusive = usize_max }) }
 
--- the command `join`: files of pieces and the option --table, both required, the options of what is told of the cases, and the option --name
+-- the command `join`: files of shards and the option --table, both required, the options of what is told of the settings, and the option --name
 abbrev pub join_app : App
 join_app =
-    let tabled = with_rule (with_rule (new_app (codes "join")) pieces_rule) (required_rule (codes "table")) in
+    let tabled = with_rule (with_rule (new_app (codes "join")) shards_rule) (required_rule (codes "table")) in
     with_rule (with_telling tabled) (option_rule (codes "name"))
 
--- the command `page`: files of pieces and the option --out, both required, and the option --name
+-- the command `page`: files of shards and the option --out, both required, and the option --name
 abbrev pub page_app : App
-page_app = with_rule (with_rule (with_rule (new_app (codes "page")) pieces_rule) (required_rule (codes "out"))) (option_rule (codes "name"))
+page_app = with_rule (with_rule (with_rule (new_app (codes "page")) shards_rule) (required_rule (codes "out"))) (option_rule (codes "name"))
 
 -- the command `init`: the name of a preset
 abbrev pub preset_rule : Rule
@@ -142,7 +142,7 @@ pub record IsExplainIn (met : Option (Text × List Row)) (explain : ExplainWords
   pub file : first_of (codes "FILE") rows ≡ Some explain.file.now
   pub json : is_given (first_of (codes "json") rows) ≡ explain.json
 
--- the word is the number of hundredths that the interval of a case may be wide for it to get no more seeds; nothing is said of it where there
+-- the word is the number of hundredths that the interval of a setting may be wide for it to get no more seeds; nothing is said of it where there
 -- is no word
 abbrev pub AsksForWidth : Option Text → Option ℕ → Type 0
 AsksForWidth None None = Unit {0}
@@ -150,30 +150,30 @@ AsksForWidth None (Some width) = ⊥
 AsksForWidth (Some word) None = ⊥
 AsksForWidth (Some word) (Some width) = IsDecimal word width
 
--- The words of all settings, in their order, that of the seeds and that of the width, if there are any, ask for this plan. Words that ask for
+-- The words of all swept keys, in their order, that of the seeds and that of the width, if there are any, ask for this plan. Words that ask for
 -- none, as a key that stands twice, make no sweep.
 pub record IsPlanIn (rows : List Row) (plan : Planned) : Type 0 where
   pub width : AsksForWidth (first_of (codes "until") rows) plan.until
   pub planned : IsSweepOf (unwrap_or (all_of (codes "set") rows) []) (first_of (codes "seeds") rows) plan.until plan
 
--- this piece is asked for; none, and so the whole, where there is no word
-abbrev pub AsksForPiece : Option Text → Option Piece → Type 0
-AsksForPiece None None = Unit {0}
-AsksForPiece None (Some p) = ⊥
-AsksForPiece (Some word) None = ⊥
-AsksForPiece (Some word) (Some p) = IsPieceWord word p
+-- this shard is asked for; none, and so the whole, where there is no word
+abbrev pub AsksForShard : Option Text → Option Shard → Type 0
+AsksForShard None None = Unit {0}
+AsksForShard None (Some p) = ⊥
+AsksForShard (Some word) None = ⊥
+AsksForShard (Some word) (Some p) = IsShardWord word p
 
--- only a piece goes on where it was cut off; and only a whole sweep tells its cases and has a page
+-- only a shard goes on where it was cut off; and only a whole sweep tells its settings and has a page
 abbrev pub go_together : Option Text → Option Text → Bool → Bool → Bool
 go_together None page resume jsonl = not resume
-go_together (Some piece) page resume jsonl = is_none page && not jsonl
+go_together (Some shard) page resume jsonl = is_none page && not jsonl
 
 -- the words go together
 abbrev pub have_sense : List Row → Bool
 have_sense rows =
     go_together (first_of (codes "shard") rows) (first_of (codes "page") rows) (is_given (first_of (codes "resume") rows)) (is_given (first_of (codes "jsonl") rows))
 
--- the words of all that is wanted of cases, in their order, want these
+-- the words of all that is wanted of settings, in their order, want these
 abbrev pub AreWantsIn : List Row → List Want → Type 0
 AreWantsIn rows wants = AreWants (unwrap_or (all_of (codes "want") rows) []) wants
 
@@ -184,7 +184,7 @@ pub record IsSweepIn (met : Option (Text × List Row)) (sweep : SweepWords) : Ty
   pub file : first_of (codes "FILE") rows ≡ Some sweep.file.now
   pub table : first_of (codes "table") rows ≡ Some sweep.table.now
   pub plan : IsPlanIn rows sweep.plan
-  pub piece : AsksForPiece (first_of (codes "shard") rows) sweep.piece
+  pub shard : AsksForShard (first_of (codes "shard") rows) sweep.shard
   pub wants : AreWantsIn rows sweep.wants.items
   pub workers : first_of (codes "workers") rows ≡ option_map (λ word. word.now) sweep.workers
   pub progress : is_given (first_of (codes "progress") rows) ≡ sweep.progress

@@ -3,7 +3,7 @@ ghost use Rattle.std.specs.Prelude.{◌≡◌, ◌≤◌, ◌++◌, Some, OnOk, 
 ghost use Rattle.std.specs.Io.KnownBytes.{Appends};
 ghost use Rattle.std.specs.Fmt.{WritesOnOk};
 ghost use Rattle.shown_names.specs.Shown.{shown_name};
-ghost use Rattle.command_line.specs.Failures.{status_of, message_of, failure_line, fault_number, division_number, case_settings, piece_message};
+ghost use Rattle.command_line.specs.Failures.{status_of, message_of, failure_line, fault_number, division_number, setting_swept_keys, shard_message};
 
 use base::Fault;
 use scenario::DivisionFault;
@@ -11,20 +11,20 @@ use shown_names::write_name;
 use std::io::Write;
 use std::{fmt, io};
 
-/// Why files aren't the pieces of one sweep.
+/// Why files aren't the shards of one sweep.
 #[derive(Clone, Copy, Debug, PartialEq, Eq)]
-pub enum PieceFault<'a> {
-    /// The file of this name is no piece.
-    NoPiece(&'a str),
-    /// It is a piece of another sweep than the first.
+pub enum ShardFault<'a> {
+    /// The file of this name is no shard.
+    NoShard(&'a str),
+    /// It is a shard of another sweep than the first.
     Other(&'a str),
-    /// It is a piece that another file is.
+    /// It is a shard that another file is.
     Doubled(&'a str),
-    /// It is a piece that isn't whole.
+    /// It is a shard that isn't whole.
     Torn(&'a str),
-    /// It is a piece of an earlier version, whose lines have no checksums.
+    /// It is a shard of an earlier version, whose lines have no checksums.
     Older(&'a str),
-    /// No file is the piece of this number.
+    /// No file is the shard of this number.
     Missing(u64),
 }
 
@@ -43,11 +43,11 @@ pub enum Failure<'a> {
     Rule(u8),
     /// The scenario that was to be explained breaks this rule; standard output has its mistakes.
     Mistaken(u8),
-    /// A case of a sweep breaks this rule: the scenario with these settings, each `KEY=V`, with spaces between
+    /// A setting of a sweep breaks this rule: the scenario with these choices, each `KEY=V`, with spaces between
     /// them. There are none where the sweep sets nothing.
-    Case { rule: u8, settings: String },
-    /// The files that were to be joined aren't the pieces of one sweep.
-    Pieces(PieceFault<'a>),
+    Setting { rule: u8, swept_keys: String },
+    /// The files that were to be joined aren't the shards of one sweep.
+    Shards(ShardFault<'a>),
     /// What was said of workers is no number of them.
     Workers,
     /// There is no such division of the members.
@@ -68,8 +68,10 @@ impl Failure<'_> {
         match self {
             Failure::File(_) | Failure::Output => 1,
             Failure::Usage | Failure::Preset | Failure::NoItem { .. } => 2,
-            Failure::Rule(_) | Failure::Mistaken(_) | Failure::Case { .. } | Failure::Pieces(_) =>
-                3,
+            Failure::Rule(_)
+            | Failure::Mistaken(_)
+            | Failure::Setting { .. }
+            | Failure::Shards(_) => 3,
             Failure::Workers | Failure::Division(_) => 4,
             Failure::Run(_) | Failure::Memory => 5,
         }
@@ -113,11 +115,11 @@ impl fmt::Display for Failure<'_> {
             Failure::Preset => f.write_str("usage: the presets are local, lan, wan and swim"),
             Failure::NoItem { key } => write!(f, "usage: no item of {key}"),
             Failure::Rule(rule) | Failure::Mistaken(rule) => write!(f, "scenario rule {rule}"),
-            Failure::Case { rule, settings } => {
+            Failure::Setting { rule, swept_keys } => {
                 write!(f, "scenario rule {rule}")?;
-                write_settings(f, settings)
+                write_swept_keys(f, swept_keys)
             }
-            Failure::Pieces(fault) => write_piece_fault(f, *fault),
+            Failure::Shards(fault) => write_shard_fault(f, *fault),
             Failure::Workers => f.write_str("workers"),
             Failure::Division(fault) => {
                 let number = division_number(*fault);
@@ -133,39 +135,39 @@ impl fmt::Display for Failure<'_> {
     }
 }
 
-/// Writes which settings a case has, if it has any.
-fn write_settings<W: fmt::Write>(f: &mut fmt::Formatter<W>, settings: &str) -> fmt::Result
-    ensures { WritesOnOk W.write_str_gives f.old result (case_settings settings.now) f.new }
+/// Writes which choices a setting has, if it has any.
+fn write_swept_keys<W: fmt::Write>(f: &mut fmt::Formatter<W>, swept_keys: &str) -> fmt::Result
+    ensures { WritesOnOk W.write_str_gives f.old result (setting_swept_keys swept_keys.now) f.new }
 {
-    if settings.is_empty() {
+    if swept_keys.is_empty() {
         return Ok(());
     }
-    write!(f, " with {settings}")
+    write!(f, " with {swept_keys}")
 }
 
-/// Writes why files aren't the pieces of one sweep.
-fn write_piece_fault<W: fmt::Write>(f: &mut fmt::Formatter<W>, fault: PieceFault<'_>) -> fmt::Result
-    ensures { WritesOnOk W.write_str_gives f.old result (piece_message fault.entry) f.new }
+/// Writes why files aren't the shards of one sweep.
+fn write_shard_fault<W: fmt::Write>(f: &mut fmt::Formatter<W>, fault: ShardFault<'_>) -> fmt::Result
+    ensures { WritesOnOk W.write_str_gives f.old result (shard_message fault.entry) f.new }
 {
     match fault {
-        PieceFault::NoPiece(name) => {
+        ShardFault::NoShard(name) => {
             f.write_str("no piece ")?;
             write_name(f, name)
         }
-        PieceFault::Other(name) => write_piece(f, name, " of another sweep"),
-        PieceFault::Doubled(name) => write_piece(f, name, " twice"),
-        PieceFault::Torn(name) => write_piece(f, name, " torn"),
-        PieceFault::Older(name) => write_piece(
+        ShardFault::Other(name) => write_shard(f, name, " of another sweep"),
+        ShardFault::Doubled(name) => write_shard(f, name, " twice"),
+        ShardFault::Torn(name) => write_shard(f, name, " torn"),
+        ShardFault::Older(name) => write_shard(
             f,
             name,
             " of an earlier version: make it again, or read it with that version",
         ),
-        PieceFault::Missing(number) => write!(f, "piece {number} missing"),
+        ShardFault::Missing(number) => write!(f, "piece {number} missing"),
     }
 }
 
-/// Writes what is told of the piece in a file.
-fn write_piece<W: fmt::Write>(f: &mut fmt::Formatter<W>, name: &str, what: &str) -> fmt::Result
+/// Writes what is told of the shard in a file.
+fn write_shard<W: fmt::Write>(f: &mut fmt::Formatter<W>, name: &str, what: &str) -> fmt::Result
     ensures { WritesOnOk W.write_str_gives f.old result (codes "piece " ++ shown_name name.now ++ what.now) f.new }
 {
     f.write_str("piece ")?;

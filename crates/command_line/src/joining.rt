@@ -3,7 +3,7 @@ ghost use Rattle.std.specs.Prelude.{◌≡◌, ◌⊎◌, ℕ, Some, map, unwrap
 ghost use Rattle.clap.specs.Words.{App, all_of, first_of, found_of, rows_of, rule_of, subcommand_rows_of, with_rule};
 ghost use Rattle.arguments.specs.Rules.{IsLocal};
 ghost use Rattle.command_line.specs.declared.joining.JoinWords.{JoinWords as Wished};
-ghost use Rattle.command_line.specs.Words.{join_app, may_name, pieces_rule, IsJoinIn, Meets};
+ghost use Rattle.command_line.specs.Words.{join_app, may_name, shards_rule, IsJoinIn, Meets};
 
 use crate::chained::{and_option, and_required};
 use crate::failure::Failure;
@@ -16,13 +16,13 @@ use std::alloc::{AllocError, Global};
 /// The words of the command `join`.
 #[derive(Debug, Drop)]
 pub struct JoinWords<'a> {
-    /// The names of the files with the pieces, in any order.
+    /// The names of the files with the shards, in any order.
     pub files: Vec<&'a str>,
     /// The name of the file that takes the table.
     pub table: &'a str,
-    /// What is wanted of the cases.
+    /// What is wanted of the settings.
     pub wants: Vec<Want<'a>>,
-    /// Whether the cases are told as JSON, an object a line, in place of aligned columns.
+    /// Whether the settings are told as JSON, an object a line, in place of aligned columns.
     pub jsonl: bool,
     /// The name of the file that takes the page, where one is asked for.
     pub page: Option<&'a str>,
@@ -35,7 +35,7 @@ pub(crate) fn join_command<'a>(alloc: Global) -> Result<Command<'a>, AllocError>
     ensures { IfOk result (IsLocal join_app) }
 {
     let about = "Puts the pieces of a sweep together, and writes the table of the whole";
-    let filed = with_pieces(alloc, new_command(alloc, "join", about));
+    let filed = with_shards(alloc, new_command(alloc, "join", about));
     let tabled = and_required(
         alloc,
         filed,
@@ -53,19 +53,19 @@ pub(crate) fn join_command<'a>(alloc: Global) -> Result<Command<'a>, AllocError>
     )
 }
 
-/// A command with the files of pieces more.
-pub(crate) fn with_pieces<'a>(
+/// A command with the files of shards more.
+pub(crate) fn with_shards<'a>(
     alloc: Global,
     command: Command<'a>,
 ) -> Result<Command<'a>, AllocError>
-    ensures { (app : App) → IsLocal app command.entry → IfOk result (IsLocal (with_rule app pieces_rule)) }
+    ensures { (app : App) → IsLocal app command.entry → IfOk result (IsLocal (with_rule app shards_rule)) }
 {
-    command.arg(pieces_argument(alloc))
+    command.arg(shards_argument(alloc))
 }
 
-/// The argument for the files of pieces.
-fn pieces_argument<'a>(alloc: Global) -> Arg<'a>
-    ensures rule { rule_of result ≡ pieces_rule }
+/// The argument for the files of shards.
+fn shards_argument<'a>(alloc: Global) -> Arg<'a>
+    ensures rule { rule_of result ≡ shards_rule }
     ensures local { result.global ≡ false }
 {
     Arg::new(alloc, "PIECE")
@@ -98,7 +98,7 @@ pub(crate) fn join_asked<'a>(
         return Err(Failure::Usage);
     }
     let wants = wants_asked(alloc, join)?;
-    let files = pieces_named(alloc, join)?;
+    let files = shards_named(alloc, join)?;
     Ok(Some(JoinWords {
         files,
         table,
@@ -116,10 +116,10 @@ fn may_name(join: &ArgMatches<'_>) -> bool
     value_of(join, "name").is_none() || value_of(join, "page").is_some()
 }
 
-/// The names of the files with pieces, in the order of the words.
+/// The names of the files with shards, in the order of the words.
 ///
 /// Failure: `Memory`.
-pub(crate) fn pieces_named<'a>(
+pub(crate) fn shards_named<'a>(
     alloc: Global,
     matches: &ArgMatches<'a>,
 ) -> Result<Vec<&'a str>, Failure<'a>>

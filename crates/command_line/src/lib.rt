@@ -19,7 +19,7 @@ mod words;
 
 pub use division::{division_asked, workers_asked};
 pub use explaining::ExplainWords;
-pub use failure::{Failure, PieceFault, refuse};
+pub use failure::{Failure, ShardFault, refuse};
 pub use joining::JoinWords;
 pub use paging::PageWords;
 pub use printing::{

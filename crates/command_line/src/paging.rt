@@ -7,7 +7,7 @@ ghost use Rattle.command_line.specs.Words.{page_app, IsPageIn};
 
 use crate::chained::{and_option, and_required};
 use crate::failure::Failure;
-use crate::joining::{pieces_named, with_pieces};
+use crate::joining::{shards_named, with_shards};
 use arguments::{new_command, value_of};
 use clap::{ArgMatches, Command};
 use std::alloc::{AllocError, Global};
@@ -15,7 +15,7 @@ use std::alloc::{AllocError, Global};
 /// The words of the command `page`.
 #[derive(Debug, Drop)]
 pub struct PageWords<'a> {
-    /// The names of the files with the pieces, in any order.
+    /// The names of the files with the shards, in any order.
     pub files: Vec<&'a str>,
     /// The name of the file that takes the page.
     pub page: &'a str,
@@ -28,7 +28,7 @@ pub(crate) fn page_command<'a>(alloc: Global) -> Result<Command<'a>, AllocError>
     ensures { IfOk result (IsLocal page_app) }
 {
     let about = "Makes a sweep's page of the pieces of its table";
-    let filed = with_pieces(alloc, new_command(alloc, "page", about));
+    let filed = with_shards(alloc, new_command(alloc, "page", about));
     let made = and_required(
         alloc,
         filed,
@@ -62,7 +62,7 @@ pub(crate) fn page_asked<'a>(
     let Some(page) = value_of(words, "out") else {
         return Ok(None);
     };
-    let files = pieces_named(alloc, words)?;
+    let files = shards_named(alloc, words)?;
     let name = value_of(words, "name");
     Ok(Some(PageWords { files, page, name }))
 }

@@ -4,9 +4,9 @@ ghost use Rattle.clap.specs.Words.{App, first_of, found_of, rows_of, subcommand_
 ghost use Rattle.sweep_plan.specs.Asked.{IsSweepOf};
 ghost use Rattle.sweep_plan.specs.Sweep.{Sweep as Planned};
 ghost use Rattle.command_line.specs.declared.words.SweepWords.{SweepWords as Sought};
-ghost use Rattle.shards.specs.declared.piece.Piece.{Piece as Part};
+ghost use Rattle.shards.specs.declared.shard.Shard.{Shard as Part};
 ghost use Rattle.arguments.specs.Rules.{is_given, IsLocal};
-ghost use Rattle.command_line.specs.Words.{have_sense, sweep_app, with_cases, with_runs, AreWantsIn, AsksForPiece, AsksForWidth, IsPlanIn, IsSweepIn};
+ghost use Rattle.command_line.specs.Words.{have_sense, sweep_app, with_settings, with_runs, AreWantsIn, AsksForShard, AsksForWidth, IsPlanIn, IsSweepIn};
 
 use crate::chained::{and_flag, and_option, and_repeated, and_required};
 use crate::failure::Failure;
@@ -15,7 +15,7 @@ use crate::words::SweepWords;
 use arguments::{is_given, new_command, value_of, values_of, with_file};
 use clap::{ArgMatches, Command};
 use decimals::number;
-use shards::Piece;
+use shards::Shard;
 use std::alloc::{AllocError, Global};
 use sweep_plan::{Plan, PlanFault};
 
@@ -49,7 +49,7 @@ fn with_runs<'a>(
         "T",
         "The file that takes the table, a line for each run; one that is there is replaced",
     );
-    let set = with_cases(alloc, tabled);
+    let set = with_settings(alloc, tabled);
     let sharded = and_option(
         alloc,
         set,
@@ -72,12 +72,12 @@ fn with_runs<'a>(
     )
 }
 
-/// A command with the options more that say which cases a sweep has, and their seeds.
-fn with_cases<'a>(
+/// A command with the options more that say which settings a sweep has, and their seeds.
+fn with_settings<'a>(
     alloc: Global,
     so_far: Result<Command<'a>, AllocError>,
 ) -> Result<Command<'a>, AllocError>
-    ensures { (app : App) → IfOk so_far.entry (IsLocal app) → IfOk result (IsLocal (with_cases app)) }
+    ensures { (app : App) → IfOk so_far.entry (IsLocal app) → IfOk result (IsLocal (with_settings app)) }
 {
     let seeded = and_option(
         alloc,
@@ -156,13 +156,13 @@ fn runs_asked<'a>(
     ensures failures { IfErr result (λ f. (f ≡ Failure.Usage) ⊎ (f ≡ Failure.Memory)) }
 {
     let plan = plan_asked(alloc, sweep)?;
-    let piece = piece_asked(sweep)?;
+    let shard = shard_asked(sweep)?;
     let wants = wants_asked(alloc, sweep)?;
     Ok(SweepWords {
         file,
         table,
         plan,
-        piece,
+        shard,
         resume: is_given(sweep, "resume"),
         wants,
         workers: value_of(sweep, "workers"),
@@ -172,8 +172,8 @@ fn runs_asked<'a>(
     })
 }
 
-/// Whether the words of a sweep go together: only a piece goes on where it was cut off; and only a
-/// whole sweep tells its cases and has a page.
+/// Whether the words of a sweep go together: only a shard goes on where it was cut off; and only a
+/// whole sweep tells its settings and has a page.
 fn have_sense(sweep: &ArgMatches<'_>) -> bool
     ensures { result ≡ have_sense (rows_of (found_of sweep.now)) }
 {
@@ -193,33 +193,38 @@ fn plan_asked<'a>(alloc: Global, sweep: &ArgMatches<'a>) -> Result<Plan, Failure
 {
     let until = width_asked(sweep)?;
     match values_of(alloc, sweep, "set") {
-        Ok(settings) => read_plan(alloc, settings.as_slice(), value_of(sweep, "seeds"), until),
+        Ok(swept_keys) => read_plan(
+            alloc,
+            swept_keys.as_slice(),
+            value_of(sweep, "seeds"),
+            until,
+        ),
         Err(_) => Err(Failure::Memory),
     }
 }
 
-/// The plan that these words of settings, that of the seeds and the width of the interval ask for.
+/// The plan that these words of swept keys, that of the seeds and the width of the interval ask for.
 ///
 /// Failures: `Usage` where they ask for none; `Memory`.
 fn read_plan<'a>(
     alloc: Global,
-    settings: &[&str],
+    swept_keys: &[&str],
     seeds: Option<&str>,
     until: Option<u64>,
 ) -> Result<Plan, Failure<'a>>
-    ensures plan { IfOk result (IsSweepOf (map (λ word. word.now) settings.now) (option_map (λ word. word.now) seeds.entry) until) }
+    ensures plan { IfOk result (IsSweepOf (map (λ word. word.now) swept_keys.now) (option_map (λ word. word.now) seeds.entry) until) }
     ensures usage { IsErrOf result Failure.Usage
-        → (plan : Planned) → ¬ (IsSweepOf (map (λ word. word.now) settings.now) (option_map (λ word. word.now) seeds.entry) until plan) }
+        → (plan : Planned) → ¬ (IsSweepOf (map (λ word. word.now) swept_keys.now) (option_map (λ word. word.now) seeds.entry) until plan) }
     ensures failures { IfErr result (λ f. (f ≡ Failure.Usage) ⊎ (f ≡ Failure.Memory)) }
 {
-    match Plan::read(alloc, settings, seeds, until) {
+    match Plan::read(alloc, swept_keys, seeds, until) {
         Ok(plan) => Ok(plan),
         Err(PlanFault::Words) => Err(Failure::Usage),
         Err(PlanFault::Memory) => Err(Failure::Memory),
     }
 }
 
-/// How wide, in hundredths, the interval of a case may be for it to get no more seeds by the words of
+/// How wide, in hundredths, the interval of a setting may be for it to get no more seeds by the words of
 /// a sweep, if they say so.
 ///
 /// Failure: `Usage` where the word isn't a number in decimal, without sign or leading zero.
@@ -237,19 +242,19 @@ fn width_asked<'a>(sweep: &ArgMatches<'a>) -> Result<Option<u64>, Failure<'a>>
     }
 }
 
-/// The piece that is asked for by the words of a sweep, if any is.
+/// The shard that is asked for by the words of a sweep, if any is.
 ///
-/// Failure: `Usage` where the word is no piece, as `3/8`.
-fn piece_asked<'a>(sweep: &ArgMatches<'a>) -> Result<Option<Piece>, Failure<'a>>
-    ensures piece { IfOk result (AsksForPiece (first_of (codes "shard") (rows_of (found_of sweep.now)))) }
-    ensures usage { IsErrOf result Failure.Usage → (piece : Option Part) → ¬ (AsksForPiece (first_of (codes "shard") (rows_of (found_of sweep.now))) piece) }
+/// Failure: `Usage` where the word is no shard, as `3/8`.
+fn shard_asked<'a>(sweep: &ArgMatches<'a>) -> Result<Option<Shard>, Failure<'a>>
+    ensures shard { IfOk result (AsksForShard (first_of (codes "shard") (rows_of (found_of sweep.now)))) }
+    ensures usage { IsErrOf result Failure.Usage → (shard : Option Part) → ¬ (AsksForShard (first_of (codes "shard") (rows_of (found_of sweep.now))) shard) }
     ensures failures { IfErr result (λ f. f ≡ Failure.Usage) }
 {
     let Some(word) = value_of(sweep, "shard") else {
         return Ok(None);
     };
-    match Piece::read(word) {
-        Some(piece) => Ok(Some(piece)),
+    match Shard::read(word) {
+        Some(shard) => Ok(Some(shard)),
         None => Err(Failure::Usage),
     }
 }

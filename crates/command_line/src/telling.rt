@@ -1,4 +1,4 @@
-//! What is told of the cases of a sweep: the options that say so, and what their words ask for.
+//! What is told of the settings of a sweep: the options that say so, and what their words ask for.
 ghost use Rattle.std.specs.Prelude.{◌≡◌, ◌⊎◌, map, unwrap_or, IfOk, IfErr, IsErrOf, List, []};
 ghost use Rattle.clap.specs.Words.{App, found_of, rows_of};
 ghost use Rattle.goals.specs.declared.want.Want.{Want as Wanting};
@@ -12,7 +12,7 @@ use clap::{ArgMatches, Command};
 use goals::{Want, WantFault, read_wants};
 use std::alloc::{AllocError, Global};
 
-/// A command with the options more that say what is told of the cases of a sweep.
+/// A command with the options more that say what is told of the settings of a sweep.
 pub(crate) fn with_telling<'a>(
     alloc: Global,
     so_far: Result<Command<'a>, AllocError>,
@@ -41,7 +41,7 @@ pub(crate) fn with_telling<'a>(
     )
 }
 
-/// What is wanted of the cases by the words of a command.
+/// What is wanted of the settings by the words of a command.
 ///
 /// Failures: `Usage` where one of them wants nothing; `Memory`.
 pub(crate) fn wants_asked<'a>(

@@ -17,7 +17,7 @@ use clap::error::ErrorKind;
 use clap::{ArgMatches, Error};
 use goals::Want;
 use presets::Preset;
-use shards::Piece;
+use shards::Shard;
 use std::alloc::Global;
 use std::convert::AsStr;
 use sweep_plan::Plan;
@@ -59,22 +59,22 @@ pub struct SweepWords<'a> {
     pub file: &'a str,
     /// The name of the file that takes the table.
     pub table: &'a str,
-    /// Which keys of the scenario are set to which values, by which seeds each case is run, and how
-    /// wide the interval of a case may be for it to get no more of them.
+    /// Which keys of the scenario are set to which values, by which seeds each setting is run, and how
+    /// wide the interval of a setting may be for it to get no more of them.
     pub plan: Plan,
-    /// Which piece of the sweep is made; all of it where none is named.
-    pub piece: Option<Piece>,
-    /// Whether a piece goes on where its table was cut off. Never without a piece.
+    /// Which shard of the sweep is made; all of it where none is named.
+    pub shard: Option<Shard>,
+    /// Whether a shard goes on where its table was cut off. Never without a shard.
     pub resume: bool,
-    /// What is wanted of the cases.
+    /// What is wanted of the settings.
     pub wants: Vec<Want<'a>>,
     /// How many workers make the runs; one where that isn't said.
     pub workers: Option<&'a str>,
     /// Whether to tell how far the sweep has come.
     pub progress: bool,
-    /// Whether the cases are told as JSON, an object a line, in place of aligned columns. Never with a piece.
+    /// Whether the settings are told as JSON, an object a line, in place of aligned columns. Never with a shard.
     pub jsonl: bool,
-    /// The name of the file that takes the page, where one is asked for. Never with a piece.
+    /// The name of the file that takes the page, where one is asked for. Never with a shard.
     pub page: Option<&'a str>,
 }
 
@@ -89,9 +89,9 @@ pub enum Asked<'a> {
     Explain(ExplainWords<'a>),
     /// To run a scenario by many seeds and settings, and write a table of the runs.
     Sweep(SweepWords<'a>),
-    /// To put the pieces of a sweep together.
+    /// To put the shards of a sweep together.
     Join(JoinWords<'a>),
-    /// To make a sweep's page of the pieces of its table.
+    /// To make a sweep's page of the shards of its table.
     Page(PageWords<'a>),
     /// To be given the scenario of a preset.
     Init(Preset),
@@ -157,7 +157,7 @@ fn scenario_asked<'a>(matches: &ArgMatches<'a>) -> Option<Asked<'a>>
     }
 }
 
-/// What is asked for that has to do with a sweep's table: to join its pieces, to make a page of them or to sweep.
+/// What is asked for that has to do with a sweep's table: to join its shards, to make a page of them or to sweep.
 ///
 /// Failures: `Usage` where none of it is; `Memory`.
 fn table_asked<'a>(alloc: Global, matches: &ArgMatches<'a>) -> Result<Asked<'a>, Failure<'a>>

@@ -1,11 +1,11 @@
--- The document of a text's mistakes reads back.
+-- The document of a text's diagnostics reads back.
 use Rattle.std.proofs.Common.{◌≡◌, ◌∙◌, ◌≤◌, ◌&&◌, ◌∷◌, ℕ, Some, codes, Bool, true, false, max, List, [], nat_le, subst, refl, arith}
 use Rattle.std.proofs.lemmas.Bool.{false≢true}
 use Rattle.std.proofs.lemmas.Bool.Decides.{nat_tests}
 use Rattle.serde_json.specs.Data.{Data, depth, items_depth, number, unsigned}
 use Rattle.serde_json.specs.Find.{get}
 use Rattle.serde_json.specs.View.{items_of}
-use Rattle.diagnostic_text.specs.Told.{are_shallow, document_of, mistake_data}
+use Rattle.diagnostic_text.specs.Told.{are_shallow, document_of, diagnostic_data}
 
 -- no deeper than each of the values
 items_shallow : (ds : List Data) → are_shallow ds ≡ true → items_depth (items_of ds) ≤ 1
@@ -25,13 +25,13 @@ document_reads file ds more all =
     let few = items_shallow ds all in
     omega (arith, few)
 
--- what a mistake's object tells first, and that it has no other one
-pub tells_rule : {d : Data} (rule : ℕ) (message remedy : List ℕ) (line column length : ℕ) → d ≡ mistake_data rule message remedy line column length
+-- what a diagnostic's object tells first, and that it has no other one
+pub tells_rule : {d : Data} (rule : ℕ) (message remedy : List ℕ) (line column length : ℕ) → d ≡ diagnostic_data rule message remedy line column length
     → get (codes "rule") d ≡ Some (number (unsigned rule))
-unfolding mistake_data
+unfolding diagnostic_data
 tells_rule rule message remedy line column length is = rw is refl
 
-pub tells_shallow : {d : Data} (rule : ℕ) (message remedy : List ℕ) (line column length : ℕ) → d ≡ mistake_data rule message remedy line column length
+pub tells_shallow : {d : Data} (rule : ℕ) (message remedy : List ℕ) (line column length : ℕ) → d ≡ diagnostic_data rule message remedy line column length
     → depth d ≡ 1
-unfolding mistake_data
+unfolding diagnostic_data
 tells_shallow rule message remedy line column length is = rw is refl

@@ -1,4 +1,4 @@
-//! The mistakes of a text as lines for people.
+//! The diagnostics of a text as lines for people.
 ghost use Rattle.std.specs.Prelude.{◌≡◌, ◌++◌, IfOk, OnOk, string_bytes};
 ghost use Rattle.diagnostics.specs.Told.{IsLeastRule};
 ghost use Rattle.diagnostic_text.specs.Told.{AreBlocks, TellsLines, block_of, count_line, head_of};
@@ -9,36 +9,41 @@ use crate::excerpt::{Excerpt, excerpt_of};
 use crate::shown::shown_whole;
 use crate::words::{Words, words_of};
 use base::Memory;
-use diagnostics::{Mistake, Mistakes};
+use diagnostics::{Diagnostic, Diagnostics};
 use std::alloc::{AllocError, Global};
 use toml_places::{Position, Span, position_of};
 
-/// The mistakes of the text of a file, at most 50 of them by their places, and how many there are.
-pub fn lines(alloc: Global, file: &str, bytes: &[u8], mistakes: &Mistakes) -> Result<String, Memory>
-    requires least { IsLeastRule mistakes.now.rule mistakes.now.list.items }
-    ensures { IfOk result (λ text. TellsLines mistakes.now.rule (string_bytes text)) }
+/// The diagnostics of the text of a file, at most 50 of them by their places, and how many there are.
+pub fn lines(
+    alloc: Global,
+    file: &str,
+    bytes: &[u8],
+    diagnostics: &Diagnostics,
+) -> Result<String, Memory>
+    requires least { IsLeastRule diagnostics.now.rule diagnostics.now.list.items }
+    ensures { IfOk result (λ text. TellsLines diagnostics.now.rule (string_bytes text)) }
 {
-    let context = Context::new(alloc, bytes, mistakes);
+    let context = Context::new(alloc, bytes, diagnostics);
     let file = shown_whole(alloc, file)?;
-    let shown = shown(alloc, mistakes)?;
+    let shown = shown(alloc, diagnostics)?;
     let mut lines = blocks(&context, file.as_str(), shown.as_slice())?;
-    push_count(&mut lines, mistakes.list.len())?;
+    push_count(&mut lines, diagnostics.list.len())?;
     Ok(lines)
 }
 
-/// The lines of these mistakes.
-fn blocks(context: &Context<'_>, file: &str, shown: &[Mistake]) -> Result<String, Memory>
+/// The lines of these diagnostics.
+fn blocks(context: &Context<'_>, file: &str, shown: &[Diagnostic]) -> Result<String, Memory>
     ensures { IfOk result (λ text. AreBlocks shown.now (string_bytes text)) }
 {
     let mut lines = String::new(context.alloc);
-    for mistake in shown {
-        let words = told(context, file, mistake)?;
-        push_block(&mut lines, mistake.rule, words.as_str())?;
+    for diagnostic in shown {
+        let words = told(context, file, diagnostic)?;
+        push_block(&mut lines, diagnostic.rule, words.as_str())?;
     }
     Ok(lines)
 }
 
-/// Adds the words on a mistake of a rule.
+/// Adds the words on a diagnostic of a rule.
 fn push_block(lines: &mut String, rule: u8, words: &str) -> Result<(), AllocError>
     ensures { OnOk result (string_bytes lines.new ≡ string_bytes lines.old ++ block_of rule words.now) }
 {
@@ -46,33 +51,33 @@ fn push_block(lines: &mut String, rule: u8, words: &str) -> Result<(), AllocErro
     lines.push_str(words)
 }
 
-/// Adds what the words on a mistake of a rule begin with.
+/// Adds what the words on a diagnostic of a rule begin with.
 fn push_head(lines: &mut String, rule: u8) -> Result<(), AllocError>
     ensures { OnOk result (string_bytes lines.new ≡ string_bytes lines.old ++ head_of rule) }
 {
     write!(lines, "error[rule {rule}]: ")
 }
 
-/// Adds how many mistakes there are.
+/// Adds how many diagnostics there are.
 fn push_count(lines: &mut String, count: usize) -> Result<(), AllocError>
     ensures { OnOk result (string_bytes lines.new ≡ string_bytes lines.old ++ count_line count) }
 {
     if count == 1 {
-        return lines.push_str("1 mistake\n");
+        return lines.push_str("1 error\n");
     }
     if count <= MOST {
-        return write!(lines, "{count} mistakes\n");
+        return write!(lines, "{count} errors\n");
     }
     let more = count - MOST;
-    write!(lines, "{count} mistakes, {more} of them not shown\n")
+    write!(lines, "{count} errors, {more} of them not shown\n")
 }
 
-/// The words on a mistake: what is wrong, where, the line, and what helps.
-fn told(context: &Context<'_>, file: &str, mistake: &Mistake) -> Result<String, AllocError> {
-    let at = position_of(context.bytes, mistake.span.start);
+/// The words on a diagnostic: what is wrong, where, the line, and what helps.
+fn told(context: &Context<'_>, file: &str, diagnostic: &Diagnostic) -> Result<String, AllocError> {
+    let at = position_of(context.bytes, diagnostic.span.start);
     let gutter = spaces(context.alloc, digits(at.line))?;
-    let words = words_of(context, mistake)?;
-    told_of(context, file, mistake.span, at, gutter.as_str(), &words)
+    let words = words_of(context, diagnostic)?;
+    told_of(context, file, diagnostic.span, at, gutter.as_str(), &words)
 }
 
 /// The same, behind a gutter.

@@ -1,11 +1,11 @@
-//! What words are made from: the text, and its mistakes.
+//! What words are made from: the text, and its diagnostics.
 use crate::shown::shown_name;
-use diagnostics::Mistakes;
+use diagnostics::Diagnostics;
 use std::alloc::{AllocError, Global};
 use toml_parser::{ParseError, quoted, starts_string};
 use toml_places::{Span, position_of};
 
-/// A text and its mistakes.
+/// A text and its diagnostics.
 #[derive(Clone, Copy)]
 pub(crate) struct Context<'a> {
     pub(crate) alloc: Global,
@@ -13,17 +13,17 @@ pub(crate) struct Context<'a> {
     pub(crate) bytes: &'a [u8],
     /// As much of it as is UTF-8.
     pub(crate) text: &'a str,
-    pub(crate) mistakes: &'a Mistakes,
+    pub(crate) diagnostics: &'a Diagnostics,
 }
 
 impl<'a> Context<'a> {
     /// The context of a text.
-    pub(crate) fn new(alloc: Global, bytes: &'a [u8], mistakes: &'a Mistakes) -> Context<'a> {
+    pub(crate) fn new(alloc: Global, bytes: &'a [u8], diagnostics: &'a Diagnostics) -> Context<'a> {
         Context {
             alloc,
             bytes,
             text: valid_text(bytes),
-            mistakes,
+            diagnostics,
         }
     }
 

@@ -1,4 +1,4 @@
-//! The line of a text on which a mistake stands, with a mark below its place.
+//! The line of a text on which a diagnostic stands, with a mark below its place.
 use crate::context::Context;
 use crate::shown::{first_chars, last_chars, push_source};
 use std::alloc::{AllocError, Global};

@@ -1,4 +1,4 @@
-//! The mistakes of a scenario text in words: as lines for people, and as JSON.
+//! The diagnostics of a scenario text in words: as lines for people, and as JSON.
 #![tactic(auto)]
 
 mod aliases;

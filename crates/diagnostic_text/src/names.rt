@@ -1,4 +1,4 @@
-//! The words of mistakes of rules 6 and 7.
+//! The words of diagnostics of rules 6 and 7.
 use crate::context::Context;
 use crate::nearest::distance;
 use crate::shown::shown_name;
@@ -112,7 +112,7 @@ fn nearest_group_label(context: &Context<'_>, name: &str) -> Result<String, Allo
 fn nearest_group<'a>(context: &Context<'a>, name: &str) -> Result<Option<&'a str>, AllocError> {
     let mut nearest = None;
     let mut least = usize::MAX;
-    for group in context.mistakes.groups.keys() {
+    for group in context.diagnostics.groups.keys() {
         if let Some(edits) = distance(context.alloc, name, group.as_str())?
             && edits < least
         {
@@ -140,7 +140,7 @@ fn groups_note(context: &Context<'_>) -> Result<String, AllocError> {
 fn groups_list(context: &Context<'_>) -> Result<String, AllocError> {
     let mut list = String::new(context.alloc);
     let mut listed = 0usize;
-    for group in context.mistakes.groups.keys() {
+    for group in context.diagnostics.groups.keys() {
         if listed > MOST_GROUPS {
             return Ok(list);
         }
@@ -185,7 +185,7 @@ pub(crate) fn member_words(context: &Context<'_>, span: Span) -> Result<Words, A
 /// The members of a name's group, or the nearest member.
 fn member_label(context: &Context<'_>, name: &str) -> Result<String, AllocError> {
     let group = group_part(name);
-    match context.mistakes.groups.get(group).copied() {
+    match context.diagnostics.groups.get(group).copied() {
         Some(known) => range_label(context.alloc, group, known),
         None => nearest_member_label(context, name),
     }
@@ -248,7 +248,7 @@ fn nearest_member<'a>(
 ) -> Result<Option<&'a str>, AllocError> {
     let mut nearest = None;
     let mut least = usize::MAX;
-    for (group, known) in context.mistakes.groups.iter() {
+    for (group, known) in context.diagnostics.groups.iter() {
         if let Some(edits) = member_distance(context.alloc, name, group.as_str(), *known, index)?
             && edits < least
         {

@@ -115,7 +115,7 @@ fn optional_text(alloc: Global, key: &str, kind: Kind) -> Result<String, AllocEr
 
 /// The version by which a text is judged.
 pub(crate) fn version_of(context: &Context<'_>) -> Version {
-    context.mistakes.version
+    context.diagnostics.version
 }
 
 /// The version whose keys are told of as keys of another table: that of the text, but no less than 2.

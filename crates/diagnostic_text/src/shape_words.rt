@@ -1,4 +1,4 @@
-//! The words of mistakes of rules 1 to 5.
+//! The words of diagnostics of rules 1 to 5.
 use crate::aliases::{Alias, alias_label, alias_of};
 use crate::context::Context;
 use crate::foreign::foreign_kind;
@@ -9,7 +9,7 @@ use crate::rows::{
     version_of, wanted_text,
 };
 use crate::words::Words;
-use diagnostics::{Cause, Found, Home, Mistake};
+use diagnostics::{Cause, Diagnostic, Found, Home};
 use schema::{FormatKey, KeyRule, Kind, Section, Version};
 use std::alloc::{AllocError, Global};
 use toml_places::Span;
@@ -17,12 +17,12 @@ use toml_places::Span;
 /// Rule 1.
 pub(crate) fn document_words(
     context: &Context<'_>,
-    mistake: &Mistake,
+    diagnostic: &Diagnostic,
 ) -> Result<Words, AllocError> {
-    if mistake.cause == Cause::NoUtf8 {
-        return byte_words(context, mistake.span);
+    if diagnostic.cause == Cause::NoUtf8 {
+        return byte_words(context, diagnostic.span);
     }
-    let fault = context.mistakes.fault.as_str();
+    let fault = context.diagnostics.fault.as_str();
     match foreign_kind(context.text) {
         Some(kind) => foreign_words(context.alloc, kind, fault),
         None => Words::fixed(context.alloc, "the text is no TOML document", fault, ""),
@@ -199,7 +199,7 @@ fn alias_note(context: &Context<'_>, home: Home, alias: Alias) -> Result<String,
     match alias {
         Alias::Key { .. } | Alias::Tables => String::from_str(
             context.alloc,
-            "docs/MEMBERLIST.md has memberlist's names beside these",
+            "docs/MEMBERLIST.md lists memberlist's names next to these",
         ),
         Alias::End | Alias::Until => keys_note(context, home, "has", false),
     }

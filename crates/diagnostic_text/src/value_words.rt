@@ -1,4 +1,4 @@
-//! The words of mistakes of rules 8 to 10.
+//! The words of diagnostics of rules 8 to 10.
 use crate::context::Context;
 use crate::rows::version_of;
 use crate::words::Words;

@@ -1,4 +1,4 @@
-//! The words of a mistake.
+//! The words of a diagnostic.
 use crate::context::Context;
 use crate::names::{group_name_words, group_words, member_words, repeated_words};
 use crate::rows::version_of;
@@ -10,11 +10,11 @@ use crate::value_words::{
     early_words, end_words, gone_words, late_words, needless_words, overlap_words, size_words,
     timeout_words,
 };
-use diagnostics::{Cause, Mistake};
+use diagnostics::{Cause, Diagnostic};
 use schema::Version;
 use std::alloc::{AllocError, Global};
 
-/// What is said of a mistake.
+/// What is said of a diagnostic.
 #[derive(Drop)]
 pub(crate) struct Words {
     /// What is wrong.
@@ -54,11 +54,14 @@ impl Words {
     }
 }
 
-/// The words of a mistake.
-pub(crate) fn words_of(context: &Context<'_>, mistake: &Mistake) -> Result<Words, AllocError> {
-    let span = mistake.span;
-    match mistake.cause {
-        Cause::NoUtf8 | Cause::NoDocument => document_words(context, mistake),
+/// The words of a diagnostic.
+pub(crate) fn words_of(
+    context: &Context<'_>,
+    diagnostic: &Diagnostic,
+) -> Result<Words, AllocError> {
+    let span = diagnostic.span;
+    match diagnostic.cause {
+        Cause::NoUtf8 | Cause::NoDocument => document_words(context, diagnostic),
         Cause::MissingKey { home, row } => missing_words(context, home, row),
         Cause::EmptyList { row } => empty_words(context, row),
         Cause::MissingContact { start } => contact_words(context, start),
@@ -71,14 +74,14 @@ pub(crate) fn words_of(context: &Context<'_>, mistake: &Mistake) -> Result<Words
         Cause::RepeatedName { other } => repeated_words(context, span, other),
         Cause::NoGroup => group_words(context, span),
         Cause::NoMember => member_words(context, span),
-        _ => later_rule_words(context, mistake),
+        _ => later_rule_words(context, diagnostic),
     }
 }
 
-/// The words of a mistake of rules 8 to 10, or of one of which the rule alone is known.
-fn later_rule_words(context: &Context<'_>, mistake: &Mistake) -> Result<Words, AllocError> {
-    let span = mistake.span;
-    match mistake.cause {
+/// The words of a diagnostic of rules 8 to 10, or of one of which the rule alone is known.
+fn later_rule_words(context: &Context<'_>, diagnostic: &Diagnostic) -> Result<Words, AllocError> {
+    let span = diagnostic.span;
+    match diagnostic.cause {
         Cause::GoneTwice { now, before, other } => gone_words(context, span, now, before, other),
         Cause::Overlap { key, other } => overlap_words(context, span, key, other),
         Cause::LongTimeout {
@@ -95,7 +98,7 @@ fn later_rule_words(context: &Context<'_>, mistake: &Mistake) -> Result<Words, A
         } => early_words(context, departure, at, start),
         Cause::EndsTooSoon { key, begins, until } => end_words(context, key, begins, until),
         Cause::TooManyMembers { members, most } => size_words(context, members, most),
-        _ => general_words(context, mistake.rule),
+        _ => general_words(context, diagnostic.rule),
     }
 }
 

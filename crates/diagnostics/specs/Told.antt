@@ -1,17 +1,17 @@
--- Which mistakes may be told of a text that is refused.
+-- Which diagnostics may be told of a text that is refused.
 use Rattle.std.specs.Prelude.{◌≡◌, ℕ, List, Bool, true, nat_le, nat_eq}
 use Rattle.std.specs.List.{list_any, list_all}
-use Rattle.diagnostics.specs.declared.list.Mistake.{Mistake}
+use Rattle.diagnostics.specs.declared.list.Diagnostic.{Diagnostic}
 
--- no mistake is of a rule below this one
-abbrev pub are_from : ℕ → List Mistake → Bool
+-- no diagnostic is of a rule below this one
+abbrev pub are_from : ℕ → List Diagnostic → Bool
 are_from rule found = list_all (λ m. nat_le rule m.rule) found
 
--- a mistake is of this rule
-abbrev pub has_rule : ℕ → List Mistake → Bool
+-- a diagnostic is of this rule
+abbrev pub has_rule : ℕ → List Diagnostic → Bool
 has_rule rule found = list_any (λ m. nat_eq m.rule rule) found
 
--- this is the least rule of the mistakes
-pub record IsLeastRule (rule : ℕ) (found : List Mistake) : Type 0 where
+-- this is the least rule of the diagnostics
+pub record IsLeastRule (rule : ℕ) (found : List Diagnostic) : Type 0 where
   pub from : are_from rule found ≡ true
   pub there : has_rule rule found ≡ true

@@ -1,4 +1,4 @@
-//! The causes of mistakes in a scenario text, by the rule that each breaks (1 to 10), with the values that a
+//! The causes of diagnostics in a scenario text, by the rule that each breaks (1 to 10), with the values that a
 //! diagnostic shows.
 use schema::{FormatKey, KeyRule, Section, Version};
 use toml_places::Span;

@@ -1,4 +1,4 @@
-//! All mistakes of a scenario text: of each the rule that it breaks, its cause, and where it stands.
+//! All diagnostics of a scenario text: of each the rule that it breaks, its cause, and where it stands.
 #![tactic(auto)]
 
 mod cause;
@@ -13,6 +13,6 @@ mod times;
 mod walk;
 
 pub use cause::{Cause, Departure, Found, Home};
-pub use list::{Mistake, Mistakes};
+pub use list::{Diagnostic, Diagnostics};
 pub use members::Known;
 pub use telling::{has_rule, of_refused};

@@ -1,13 +1,13 @@
-//! The mistakes of a scenario text with their rules and places, and what the diagnostics need besides them.
+//! The diagnostics of a scenario text with their rules and places, and what the diagnostics need besides them.
 use crate::cause::Cause;
 use crate::members::Known;
 use indexmap::IndexMap;
 use schema::Version;
 use toml_places::Span;
 
-/// A mistake.
+/// A diagnostic.
 #[derive(Clone, Copy, Debug, PartialEq, Eq)]
-pub struct Mistake {
+pub struct Diagnostic {
     /// The rule that the text breaks, 1 to 10.
     pub rule: u8,
     pub cause: Cause,
@@ -15,11 +15,11 @@ pub struct Mistake {
     pub span: Span,
 }
 
-/// All mistakes of a text, and what more its words need.
+/// All diagnostics of a text, and what more its words need.
 #[derive(Drop)]
-pub struct Mistakes {
-    /// The mistakes by their places in the text.
-    pub list: Vec<Mistake>,
+pub struct Diagnostics {
+    /// The diagnostics by their places in the text.
+    pub list: Vec<Diagnostic>,
     /// The rule by which the text is refused, the least of these.
     pub rule: u8,
     /// The version by which the text is judged.

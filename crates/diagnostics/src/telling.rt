@@ -1,22 +1,22 @@
-//! From a text to its mistakes.
+//! From a text to its diagnostics.
 ghost use Rattle.std.specs.Prelude.{◌≡◌, true, IfOk, OnOk};
 ghost use Rattle.diagnostics.specs.Told.{IsLeastRule, are_from, has_rule};
 
 use crate::cause::Cause;
-use crate::list::{Mistake, Mistakes};
-use crate::walk::find_mistakes;
+use crate::list::{Diagnostic, Diagnostics};
+use crate::walk::find_diagnostics;
 use base::Memory;
 use std::alloc::Global;
 use toml_places::Span;
 
-/// The mistakes of a text that is refused by this rule, by their places. The least rule among them is this one.
-pub fn of_refused(alloc: Global, bytes: &[u8], rule: u8) -> Result<Mistakes, Memory>
+/// The diagnostics of a text that is refused by this rule, by their places. The least rule among them is this one.
+pub fn of_refused(alloc: Global, bytes: &[u8], rule: u8) -> Result<Diagnostics, Memory>
     ensures { IfOk result (λ found. (found.rule ≡ rule) × IsLeastRule rule found.list.items) }
 {
-    let Ok(found) = find_mistakes(alloc, bytes, rule) else {
+    let Ok(found) = find_diagnostics(alloc, bytes, rule) else {
         return Err(Memory);
     };
-    let Mistakes {
+    let Diagnostics {
         list,
         rule: _,
         version,
@@ -26,7 +26,7 @@ pub fn of_refused(alloc: Global, bytes: &[u8], rule: u8) -> Result<Mistakes, Mem
     let Ok(list) = told(alloc, list.as_slice(), rule) else {
         return Err(Memory);
     };
-    Ok(Mistakes {
+    Ok(Diagnostics {
         list,
         rule,
         version,
@@ -35,9 +35,9 @@ pub fn of_refused(alloc: Global, bytes: &[u8], rule: u8) -> Result<Mistakes, Mem
     })
 }
 
-/// The mistakes that were found, but for those of rules below this one, by which the text is refused; one
+/// The diagnostics that were found, but for those of rules below this one, by which the text is refused; one
 /// in general words in front, where none of this rule was found.
-fn told(alloc: Global, found: &[Mistake], rule: u8) -> Result<Vec<Mistake>, Memory>
+fn told(alloc: Global, found: &[Diagnostic], rule: u8) -> Result<Vec<Diagnostic>, Memory>
     ensures { IfOk result (λ list. IsLeastRule rule list.items) }
 {
     let list = from_rule(alloc, found, rule)?;
@@ -48,8 +48,8 @@ fn told(alloc: Global, found: &[Mistake], rule: u8) -> Result<Vec<Mistake>, Memo
     }
 }
 
-/// Mistakes of rules from this one on, and one in general words in front of them.
-fn led(list: Vec<Mistake>, rule: u8) -> Result<Vec<Mistake>, Memory>
+/// Diagnostics of rules from this one on, and one in general words in front of them.
+fn led(list: Vec<Diagnostic>, rule: u8) -> Result<Vec<Diagnostic>, Memory>
     requires { are_from rule list.items ≡ true }
     ensures { IfOk result (λ list. IsLeastRule rule list.items) }
 {
@@ -58,39 +58,39 @@ fn led(list: Vec<Mistake>, rule: u8) -> Result<Vec<Mistake>, Memory>
     Ok(list)
 }
 
-/// The mistakes but for those of rules below this one.
-fn from_rule(alloc: Global, found: &[Mistake], rule: u8) -> Result<Vec<Mistake>, Memory>
+/// The diagnostics but for those of rules below this one.
+fn from_rule(alloc: Global, found: &[Diagnostic], rule: u8) -> Result<Vec<Diagnostic>, Memory>
     ensures { IfOk result (λ list. are_from rule list.items ≡ true) }
 {
     let mut list = Vec::new(alloc);
-    for mistake in found {
-        push_from(&mut list, mistake, rule)?;
+    for diagnostic in found {
+        push_from(&mut list, diagnostic, rule)?;
     }
     Ok(list)
 }
 
-/// Adds a mistake, unless it is of a rule below this one.
-fn push_from(list: &mut Vec<Mistake>, mistake: &Mistake, rule: u8) -> Result<(), Memory>
+/// Adds a diagnostic, unless it is of a rule below this one.
+fn push_from(list: &mut Vec<Diagnostic>, diagnostic: &Diagnostic, rule: u8) -> Result<(), Memory>
     ensures { OnOk result (are_from rule list.old.items ≡ true → are_from rule list.new.items ≡ true) }
 {
-    if rule <= mistake.rule {
-        list.push(*mistake)?;
+    if rule <= diagnostic.rule {
+        list.push(*diagnostic)?;
     }
     Ok(())
 }
 
-/// Whether one of the mistakes is of this rule.
-pub fn has_rule(list: &[Mistake], rule: u8) -> bool
+/// Whether one of the diagnostics is of this rule.
+pub fn has_rule(list: &[Diagnostic], rule: u8) -> bool
     ensures { result ≡ has_rule rule list.now }
 {
-    list.iter().any(|mistake| mistake.rule == rule)
+    list.iter().any(|diagnostic| diagnostic.rule == rule)
 }
 
-/// A mistake of which the rule alone is known, at the start of the text.
-fn general(rule: u8) -> Mistake
+/// A diagnostic of which the rule alone is known, at the start of the text.
+fn general(rule: u8) -> Diagnostic
     ensures { result.rule ≡ rule }
 {
-    Mistake {
+    Diagnostic {
         rule,
         cause: Cause::General,
         span: Span { start: 0, end: 0 },

@@ -1,7 +1,7 @@
-//! The walk over the places of a text, which finds its mistakes.
+//! The walk over the places of a text, which finds its diagnostics.
 use crate::cause::{Cause, Found, Home};
 use crate::departures::judge_departures;
-use crate::list::{Mistake, Mistakes};
+use crate::list::{Diagnostic, Diagnostics};
 use crate::members::{Known, Roster};
 use crate::names::judge_names;
 use crate::shape::judge_shape;
@@ -13,19 +13,19 @@ use schema::{Absence, FormatKey, KeyRule, Kind, Section, Version};
 use std::alloc::Global;
 use toml_places::{Content, Places, Span};
 
-/// What is gone over, and the mistakes so far.
+/// What is gone over, and the diagnostics so far.
 #[derive(Drop)]
 pub(crate) struct Walk<'p> {
     pub(crate) alloc: Global,
     pub(crate) places: &'p Places,
     pub(crate) version: Version,
-    pub(crate) list: Vec<Mistake>,
+    pub(crate) list: Vec<Diagnostic>,
 }
 
 impl<'p> Walk<'p> {
-    /// Adds a mistake.
+    /// Adds a diagnostic.
     pub(crate) fn add(&mut self, rule: u8, cause: Cause, span: Span) -> Result<(), Memory> {
-        self.list.push(Mistake { rule, cause, span })?;
+        self.list.push(Diagnostic { rule, cause, span })?;
         Ok(())
     }
 
@@ -132,8 +132,12 @@ pub(crate) fn found_at(places: &Places, place: usize) -> Found {
     }
 }
 
-/// The mistakes of a text that is refused by a rule, by their places.
-pub(crate) fn find_mistakes(alloc: Global, bytes: &[u8], rule: u8) -> Result<Mistakes, Memory> {
+/// The diagnostics of a text that is refused by a rule, by their places.
+pub(crate) fn find_diagnostics(
+    alloc: Global,
+    bytes: &[u8],
+    rule: u8,
+) -> Result<Diagnostics, Memory> {
     match std::str::from_utf8(bytes) {
         Ok(text) if rule == 1 => document_fault(alloc, text),
         Ok(text) => walk_over(alloc, text, rule),
@@ -143,38 +147,43 @@ pub(crate) fn find_mistakes(alloc: Global, bytes: &[u8], rule: u8) -> Result<Mis
                 start,
                 end: bytes.len().min(start.saturating_add(1)),
             };
-            one_mistake(alloc, Cause::NoUtf8, span, "")
+            one_diagnostic(alloc, Cause::NoUtf8, span, "")
         }
     }
 }
 
-/// The mistake of a text that is no TOML document.
-fn document_fault(alloc: Global, text: &str) -> Result<Mistakes, Memory> {
+/// The diagnostic of a text that is no TOML document.
+fn document_fault(alloc: Global, text: &str) -> Result<Diagnostics, Memory> {
     match toml::table_from_str(alloc, text) {
-        Ok(_) => one_mistake(alloc, Cause::General, Span { start: 0, end: 0 }, ""),
+        Ok(_) => one_diagnostic(alloc, Cause::General, Span { start: 0, end: 0 }, ""),
         Err(error) => match error.span() {
             Some(range) => {
                 let span = Span {
                     start: range.start,
                     end: range.end,
                 };
-                one_mistake(alloc, Cause::NoDocument, span, error.message())
+                one_diagnostic(alloc, Cause::NoDocument, span, error.message())
             }
             None => Err(Memory),
         },
     }
 }
 
-/// A single mistake of rule 1.
-fn one_mistake(alloc: Global, cause: Cause, span: Span, fault: &str) -> Result<Mistakes, Memory> {
+/// A single diagnostic of rule 1.
+fn one_diagnostic(
+    alloc: Global,
+    cause: Cause,
+    span: Span,
+    fault: &str,
+) -> Result<Diagnostics, Memory> {
     let fault = String::from_str(alloc, fault)?;
-    let mistake = Mistake {
+    let diagnostic = Diagnostic {
         rule: 1,
         cause,
         span,
     };
-    Ok(Mistakes {
-        list: listed(alloc, mistake)?,
+    Ok(Diagnostics {
+        list: listed(alloc, diagnostic)?,
         rule: 1,
         version: Version::One,
         groups: IndexMap::new(alloc),
@@ -182,30 +191,30 @@ fn one_mistake(alloc: Global, cause: Cause, span: Span, fault: &str) -> Result<M
     })
 }
 
-/// A list of one mistake.
-fn listed(alloc: Global, mistake: Mistake) -> Result<Vec<Mistake>, Memory> {
+/// A list of one diagnostic.
+fn listed(alloc: Global, diagnostic: Diagnostic) -> Result<Vec<Diagnostic>, Memory> {
     let mut list = Vec::new(alloc);
-    list.push(mistake)?;
+    list.push(diagnostic)?;
     Ok(list)
 }
 
-/// The mistakes of a document that is refused by a rule.
-fn walk_over(alloc: Global, text: &str, rule: u8) -> Result<Mistakes, Memory> {
+/// The diagnostics of a document that is refused by a rule.
+fn walk_over(alloc: Global, text: &str, rule: u8) -> Result<Diagnostics, Memory> {
     let places = toml_places::read(alloc, text)?;
     walk_places(alloc, &places, rule)
 }
 
 /// The same, by the places of the document. Which keys a text has depends on its version, so a text without
-/// one has that mistake alone.
-fn walk_places(alloc: Global, places: &Places, rule: u8) -> Result<Mistakes, Memory> {
+/// one has that diagnostic alone.
+fn walk_places(alloc: Global, places: &Places, rule: u8) -> Result<Diagnostics, Memory> {
     match missing_version(places) {
-        Some(mistake) => alone(alloc, mistake, rule),
+        Some(diagnostic) => alone(alloc, diagnostic, rule),
         None => walk_all(alloc, places, rule),
     }
 }
 
-/// The mistake of a document without a version, at the start of the text.
-fn missing_version(places: &Places) -> Option<Mistake> {
+/// The diagnostic of a document without a version, at the start of the text.
+fn missing_version(places: &Places) -> Option<Diagnostic> {
     if places
         .child(Places::TOP, FormatKey::Version.text())
         .is_some()
@@ -217,17 +226,17 @@ fn missing_version(places: &Places) -> Option<Mistake> {
         section: Section::Top,
         key: None,
     };
-    Some(Mistake {
+    Some(Diagnostic {
         rule: 2,
         cause: Cause::MissingKey { home, row },
         span: Span { start: 0, end: 0 },
     })
 }
 
-/// A single mistake of a document that is refused by a rule.
-fn alone(alloc: Global, mistake: Mistake, rule: u8) -> Result<Mistakes, Memory> {
-    Ok(Mistakes {
-        list: listed(alloc, mistake)?,
+/// A single diagnostic of a document that is refused by a rule.
+fn alone(alloc: Global, diagnostic: Diagnostic, rule: u8) -> Result<Diagnostics, Memory> {
+    Ok(Diagnostics {
+        list: listed(alloc, diagnostic)?,
         rule,
         version: Version::One,
         groups: IndexMap::new(alloc),
@@ -235,8 +244,8 @@ fn alone(alloc: Global, mistake: Mistake, rule: u8) -> Result<Mistakes, Memory> 
     })
 }
 
-/// All mistakes of a document that has a version.
-fn walk_all(alloc: Global, places: &Places, rule: u8) -> Result<Mistakes, Memory> {
+/// All diagnostics of a document that has a version.
+fn walk_all(alloc: Global, places: &Places, rule: u8) -> Result<Diagnostics, Memory> {
     let mut walk = Walk {
         alloc,
         places,
@@ -246,7 +255,7 @@ fn walk_all(alloc: Global, places: &Places, rule: u8) -> Result<Mistakes, Memory
     judge_shape(&mut walk)?;
     let groups = judge_values(&mut walk)?;
     let version = walk.version;
-    Ok(Mistakes {
+    Ok(Diagnostics {
         list: sorted(walk.list)?,
         rule,
         version,
@@ -255,10 +264,10 @@ fn walk_all(alloc: Global, places: &Places, rule: u8) -> Result<Mistakes, Memory
     })
 }
 
-/// Mistakes by their places.
-fn sorted(list: Vec<Mistake>) -> Result<Vec<Mistake>, Memory> {
+/// Diagnostics by their places.
+fn sorted(list: Vec<Diagnostic>) -> Result<Vec<Diagnostic>, Memory> {
     let mut list = list;
-    list.sort_by_key(|mistake| mistake.span.start)?;
+    list.sort_by_key(|diagnostic| diagnostic.span.start)?;
     Ok(list)
 }
 

@@ -30,7 +30,7 @@ pub unprinted : (known : KnownFile) (explain : ExplainWords) (old new : Option (
     → failure ≡ Output → IsExplained known explain → ExplainFails known explain old new failure
 unprinted known explain old new failure is h = subst (ExplainFails known explain old new) (sym is) h
 
--- what a scenario means was printed, or the mistakes of one that is refused
+-- what a scenario means was printed, or the diagnostics of one that is refused
 pub meant : (known : KnownFile) (explain : ExplainWords) (old new : Option (List ℕ)) (broken : Option ℕ) (text shown : List ℕ)
     → broken ≡ None → TellsOf known explain broken text → shown ≡ text → Appends old new shown → PrintsMeaning known explain old new
 meant known explain old new broken text shown is told whole printed =

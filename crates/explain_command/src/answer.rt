@@ -1,7 +1,7 @@
 //! What is told of a text.
 ghost use Rattle.std.specs.Prelude.{◌≡◌, IfOk, None, Ok, Some, string_bytes};
 ghost use Rattle.scenario_reader.specs.Rules.{verdict};
-ghost use Rattle.explain_command.specs.Outcomes.{TellsMistakes, TellsSetup, TellsText};
+ghost use Rattle.explain_command.specs.Outcomes.{TellsDiagnostics, TellsSetup, TellsText};
 
 use crate::accepting::meaning;
 use base::Memory;
@@ -59,13 +59,13 @@ fn refused(
     bytes: &[u8],
     rule: u8,
 ) -> Result<Explained, Memory>
-    ensures { IfOk result (λ told. (told.broken ≡ Some rule) × TellsMistakes words.entry.json rule (string_bytes told.text)) }
+    ensures { IfOk result (λ told. (told.broken ≡ Some rule) × TellsDiagnostics words.entry.json rule (string_bytes told.text)) }
 {
-    let mistakes = of_refused(alloc, bytes, rule)?;
+    let diagnostics = of_refused(alloc, bytes, rule)?;
     let text = if words.json {
-        diagnostic_text::json(alloc, words.file, bytes, &mistakes)?
+        diagnostic_text::json(alloc, words.file, bytes, &diagnostics)?
     } else {
-        diagnostic_text::lines(alloc, words.file, bytes, &mistakes)?
+        diagnostic_text::lines(alloc, words.file, bytes, &diagnostics)?
     };
     Ok(Explained {
         text,

@@ -11,9 +11,9 @@ use scenario_files::load_bytes;
 use std::alloc::Global;
 use std::io::Write;
 
-/// Prints what the scenario of a file means, or all mistakes of one that is refused.
+/// Prints what the scenario of a file means, or all diagnostics of one that is refused.
 ///
-/// Failures: `Mistaken`, the least rule that the text breaks, once `out` has its mistakes; `File`; `Memory`; `Output`
+/// Failures: `Mistaken`, the least rule that the text breaks, once `out` has its diagnostics; `File`; `Memory`; `Output`
 /// where `out` takes less.
 pub fn explain_file<'a, F: Files, O: Write>(
     alloc: Global,

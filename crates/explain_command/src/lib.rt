@@ -1,4 +1,4 @@
-//! The command `explain`: all mistakes of the scenario of a file that is refused, or what one that is accepted
+//! The command `explain`: all diagnostics of the scenario of a file that is refused, or what one that is accepted
 //! means.
 #![tactic(auto)]
 

@@ -4,9 +4,9 @@ use Rattle.std.specs.Prelude.{if◌then◌else◌}
 use Rattle.std.specs.List.{flat_map, zip}
 use Rattle.std.proofs.lemmas.Bool.{eqb-true}
 use Rattle.std.proofs.lemmas.List.{take_more, length-take-le, length-map, map-append}
-use Rattle.figures.specs.declared.summary.CaseSummary.{CaseSummary}
+use Rattle.figures.specs.declared.summary.SettingSummary.{SettingSummary}
 use Rattle.figures.specs.Lines.{where_told}
-use Rattle.figures.specs.CaseLines.{padded, cells_aligned, figure_texts, figure_widths}
+use Rattle.figures.specs.SettingLines.{padded, cells_aligned, figure_texts, figure_widths}
 
 -- the parts of a line, as they were added and as they are told
 pub parts_joined : {A : Type 0} (keys first revived last : List A) → ((keys ++ first) ++ revived) ++ last ≡ keys ++ (first ++ (revived ++ last))
@@ -24,9 +24,9 @@ widths_told true = refl
 widths_told false = refl
 
 -- there are as many figures as columns
-pub as_many : (revived : Bool) (case : CaseSummary) → length (figure_texts revived case) ≡ length (figure_widths revived)
-as_many true case = refl
-as_many false case = refl
+pub as_many : (revived : Bool) (setting : SettingSummary) → length (figure_texts revived setting) ≡ length (figure_widths revived)
+as_many true setting = refl
+as_many false setting = refl
 
 -- what stands before the cell at a place
 abbrev pub gap : ℕ → List ℕ

@@ -7,7 +7,7 @@ pub mod Roots
 pub mod Bins
 pub mod Summaries
 mod Cells
-pub mod NoteWords
+pub mod MetadataWords
 pub mod SameFigures
 pub mod NoNotes
 pub mod Handing

@@ -8,8 +8,8 @@ use Rattle.std.proofs.lemmas.List.Elements.{All-head, All-tail}
 use Rattle.reports.specs.Text.{figure}
 use Rattle.decimals.specs.Numbers.{IsDecimal}
 use Rattle.figures.specs.declared.crashes.CrashTimes.{CrashTimes}
-use Rattle.figures.specs.declared.note_words.NoteFault.{NoteFault}
-use Rattle.figures.specs.declared.note_words.NoteFault.TheVariants as unread
+use Rattle.figures.specs.declared.note_words.MetadataFault.{MetadataFault}
+use Rattle.figures.specs.declared.note_words.MetadataFault.TheVariants as unread
 use Rattle.figures.specs.Notes.{Note, AreFigureWords, IsFigureWord, RefusesFigures, RefusesNote, RefusesNoteOf, RefusesTimes, note_figures, times_in_order}
 use Rattle.figures.proofs.SameFigures.{figures_cut, same_figures}
 
@@ -49,7 +49,7 @@ too_few fs few n is =
     let same : length (note_figures n) ≡ length fs = ap length is in
     omega (arith, same, few)
 
-pub no_note_of : (fs : List (Option ℕ)) (e : NoteFault) → ((n : Note) → note_figures n ≢ fs) → RefusesNoteOf fs e
+pub no_note_of : (fs : List (Option ℕ)) (e : MetadataFault) → ((n : Note) → note_figures n ≢ fs) → RefusesNoteOf fs e
 no_note_of fs unread.Word none = none
 no_note_of fs unread.Memory none = tt
 
@@ -68,7 +68,7 @@ fourth_missing fs d none n is = let there : get_or fs 3 d ≡ Some n.sent = ap (
 pub fifth_missing : (fs : List (Option ℕ)) (d : Option ℕ) → get_or fs 4 d ≡ None → (n : Note) → note_figures n ≢ fs
 fifth_missing fs d none n is = let there : get_or fs 4 d ≡ Some n.member_ticks = ap (λ l. get_or l 4 d) (sym is) in cc
 
-pub times_refused : (fs rest : List (Option ℕ)) (e : NoteFault) → rest ≡ drop 5 fs → RefusesTimes rest e → RefusesNoteOf fs e
+pub times_refused : (fs rest : List (Option ℕ)) (e : MetadataFault) → rest ≡ drop 5 fs → RefusesTimes rest e → RefusesNoteOf fs e
 times_refused fs rest unread.Memory behind none = tt
 times_refused fs rest unread.Word behind none = λ n is. none n.crashes (ap (drop 5) is ∙ sym behind)
 
@@ -77,7 +77,7 @@ pub behind_five : (fs : List (Option ℕ)) → take (length fs - 5) (drop 5 fs) 
 behind_five fs = take_all (length fs - 5) (drop 5 fs) (omega (arith, length-drop 5 fs))
 
 -- a word that says no figures, or those of no note, says no note
-pub figures_refused : (word : List ℕ) (e : NoteFault) → RefusesFigures (slice_split (λ byte. byte == 32) word) e → RefusesNote word e
+pub figures_refused : (word : List ℕ) (e : MetadataFault) → RefusesFigures (slice_split (λ byte. byte == 32) word) e → RefusesNote word e
 figures_refused word unread.Memory none = tt
 figures_refused word unread.Word none = λ n is.
     none (note_figures n) (record {
@@ -85,7 +85,7 @@ figures_refused word unread.Word none = λ n is.
       small = is.small;
     })
 
-pub note_refused : (word : List ℕ) (fs given : List (Option ℕ)) (e : NoteFault) → AreFigureWords (slice_split (λ byte. byte == 32) word) fs → given ≡ fs → RefusesNoteOf given e → RefusesNote word e
+pub note_refused : (word : List ℕ) (fs given : List (Option ℕ)) (e : MetadataFault) → AreFigureWords (slice_split (λ byte. byte == 32) word) fs → given ≡ fs → RefusesNoteOf given e → RefusesNote word e
 note_refused word fs given unread.Memory are same none = tt
 note_refused word fs given unread.Word are same none = λ n is.
     let cut : map figure (note_figures n) ≡ map figure fs =

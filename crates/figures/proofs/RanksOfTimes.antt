@@ -9,7 +9,7 @@ use Rattle.std.proofs.lemmas.List.Folds.{list_any_at}
 use Rattle.std.proofs.lemmas.List.Sums.{sum_by-cons, sum_by-take-le, sum_by-take-drop, count_by-le-length}
 use Rattle.std.proofs.lemmas.List.Sorted.{sum_by-IsPermutation, list_any-IsPermutation}
 use Rattle.std.proofs.lemmas.List.Elements.{All-head, All-tail, All-from_get_or}
-use Rattle.figures.specs.Cases.{up_to, at_rank}
+use Rattle.figures.specs.Settings.{up_to, at_rank}
 use Rattle.figures.proofs.Roots.{le_true, le_false, le_from}
 
 -- v is among the numbers, or it is the first one
@@ -18,37 +18,37 @@ IsLeastSoFar v first rest = (first ≡ v) ⊎ (list_any (λ w. w == v) rest ≡ 
 
 least_step : (v first next : ℕ) (rest : List ℕ) → v ≤ first → v ≤ next → IsLeastSoFar v first (next ∷ rest) → IsLeastSoFar v (min first next) rest
 least_step v first next rest low also (inl is) = inl (omega (arith, is, also))
-least_step v first next rest low also (inr among) = cases (next == v) refl among
+least_step v first next rest low also (inr among) = settings (next == v) refl among
   where
-    cases : (b : Bool) → (next == v) ≡ b → (b || list_any (λ w. w == v) rest) ≡ true → IsLeastSoFar v (min first next) rest
-    cases true same held = let is : next ≡ v = eqb-true next v same in inl (omega (arith, is, low))
-    cases false other held = inr held
+    settings : (b : Bool) → (next == v) ≡ b → (b || list_any (λ w. w == v) rest) ≡ true → IsLeastSoFar v (min first next) rest
+    settings true same held = let is : next ≡ v = eqb-true next v same in inl (omega (arith, is, low))
+    settings false other held = inr held
 
 module _ (test : ℕ → Bool) (v : ℕ) (passes : test v ≡ true) where
   -- the next number doesn't pass, so it isn't v
   least_past : (first next : ℕ) (rest : List ℕ) → test next ≡ false → IsLeastSoFar v first (next ∷ rest) → IsLeastSoFar v first rest
   least_past first next rest fails (inl is) = inl is
-  least_past first next rest fails (inr among) = cases (next == v) refl among
+  least_past first next rest fails (inr among) = settings (next == v) refl among
     where
-      cases : (b : Bool) → (next == v) ≡ b → (b || list_any (λ w. w == v) rest) ≡ true → IsLeastSoFar v first rest
-      cases true same held = absurd (false≢true (sym fails ∙ ap test (eqb-true next v same) ∙ passes))
-      cases false other held = inr held
+      settings : (b : Bool) → (next == v) ≡ b → (b || list_any (λ w. w == v) rest) ≡ true → IsLeastSoFar v first rest
+      settings true same held = absurd (false≢true (sym fails ∙ ap test (eqb-true next v same) ∙ passes))
+      settings false other held = inr held
 
   -- a number that passes isn't below v
   abbrev IsAbove : ℕ → Type 0
   IsAbove w = test w ≡ true → v ≤ w
 
-  folded_cases : (next : ℕ) (rest : List ℕ) (first : ℕ) (b : Bool) → test next ≡ b
+  folded_settings : (next : ℕ) (rest : List ℕ) (first : ℕ) (b : Bool) → test next ≡ b
       → (test next ≡ true → fold min (min first next) (filter test rest) ≡ v) → (test next ≡ false → fold min first (filter test rest) ≡ v)
       → fold min first (cond b (next ∷ filter test rest) (filter test rest)) ≡ v
-  folded_cases next rest first true here kept dropped = kept here
-  folded_cases next rest first false here kept dropped = dropped here
+  folded_settings next rest first true here kept dropped = kept here
+  folded_settings next rest first false here kept dropped = dropped here
 
   least_folded : (rest : List ℕ) (first : ℕ) → v ≤ first → All IsAbove rest → IsLeastSoFar v first rest → fold min first (filter test rest) ≡ v
   least_folded [] first low all (inl is) = is
   least_folded [] first low all (inr none) = absurd (false≢true none)
   least_folded (next ∷ rest) first low all least =
-      folded_cases next rest first (test next) refl
+      folded_settings next rest first (test next) refl
       (λ here. let also : v ≤ next = All-head IsAbove next rest all here in
       least_folded rest (min first next) (omega (arith, low, also)) (All-tail IsAbove next rest all) (least_step v first next rest low also least))
       (λ here. least_folded rest first low (All-tail IsAbove next rest all) (least_past first next rest here least))
@@ -61,18 +61,18 @@ module _ (test : ℕ → Bool) (v : ℕ) (passes : test v ≡ true) where
   only_later next rest fails (inl is) = absurd (false≢true (sym fails ∙ ap test is ∙ passes))
   only_later next rest fails (inr held) = held
 
-  passing_cases : (next : ℕ) (rest : List ℕ) (b : Bool) → test next ≡ b
+  passing_settings : (next : ℕ) (rest : List ℕ) (b : Bool) → test next ≡ b
       → (test next ≡ true → fold min next (filter test rest) ≡ v) → (test next ≡ false → reduce min (filter test rest) ≡ Some v)
       → reduce min (cond b (next ∷ filter test rest) (filter test rest)) ≡ Some v
-  passing_cases next rest true here kept dropped = ap Some (kept here)
-  passing_cases next rest false here kept dropped = dropped here
+  passing_settings next rest true here kept dropped = ap Some (kept here)
+  passing_settings next rest false here kept dropped = dropped here
 
   -- the least of the numbers that pass a test is one that passes and that is above none
   pub least_passing : (numbers : List ℕ) → All IsAbove numbers → list_any (λ w. w == v) numbers ≡ true → reduce min (filter test numbers) ≡ Some v
   least_passing [] all none = absurd (false≢true none)
   least_passing (next ∷ rest) all among =
       let least = first_or_later next rest (next == v) refl among in
-      passing_cases next rest (test next) refl
+      passing_settings next rest (test next) refl
       (λ here. least_folded rest next (All-head IsAbove next rest all here) (All-tail IsAbove next rest all) least)
       (λ here. least_passing rest (All-tail IsAbove next rest all) (only_later next rest here least))
 

@@ -1,4 +1,4 @@
--- One run more in a case.
+-- One run more in a setting.
 use Rattle.std.proofs.Common.{◌≡◌, ◌+◌, ◌*◌, ◌<◌, ◌==◌, ℕ, Bool, true, false, cond, not, List, [], ◌∷◌, ◌++◌, length, get_or, take, refl, sym, ap, ◌∙◌, arith, append-nil, append_assoc, length-append}
 use Rattle.std.specs.Prelude.{Option, Some, None, sum_by, if◌then◌else◌}
 use Rattle.std.specs.Option.{option_to_list}
@@ -7,10 +7,10 @@ use Rattle.std.proofs.lemmas.List.{take_more}
 use Rattle.std.proofs.lemmas.List.Elements.{filter_map-append}
 use Rattle.std.proofs.lemmas.List.Sums.{sum_by_push}
 use Rattle.std.proofs.lemmas.Grind.{flat_map-append}
-use Rattle.figures.specs.declared.case.CaseFigures.{CaseFigures}
+use Rattle.figures.specs.declared.setting.SettingFigures.{SettingFigures}
 use Rattle.figures.specs.declared.crashes.CrashTimes.{CrashTimes}
 use Rattle.figures.specs.Notes.{Note}
-use Rattle.figures.specs.Cases.{crashes_in, suspected_in, confirmed_in, last_in}
+use Rattle.figures.specs.Settings.{crashes_in, suspected_in, confirmed_in, last_in}
 use Rattle.figures.specs.Kept.{AreFiguresOf}
 
 -- ---- times
@@ -44,14 +44,14 @@ sum_push : (f : Note → ℕ) (runs : List Note) (run : Note) (old new this : �
 sum_push f runs run old new this was is same = omega (arith, was, is, same, sum_by_push f runs run)
 
 one_or_none : (n : ℕ) → ◌≡◌ {A = ℕ} (if n == 0 then 0 else 1) (cond (not (n == 0)) 1 0)
-one_or_none n = cases (n == 0)
+one_or_none n = settings (n == 0)
   where
-    cases : (b : Bool) → ◌≡◌ {A = ℕ} (if b then 0 else 1) (cond (not b) 1 0)
-    cases true = refl
-    cases false = refl
+    settings : (b : Bool) → ◌≡◌ {A = ℕ} (if b then 0 else 1) (cond (not b) 1 0)
+    settings true = refl
+    settings false = refl
 
--- what is kept of a case, with one run more
-pub one_run : (old new : CaseFigures) (this : Note) (runs : List Note) → AreFiguresOf old runs
+-- what is kept of a setting, with one run more
+pub one_run : (old new : SettingFigures) (this : Note) (runs : List Note) → AreFiguresOf old runs
     → new.suspected.items ≡ old.suspected.items ++ filter_map suspected_in this.crashes
     → new.confirmed.items ≡ old.confirmed.items ++ filter_map confirmed_in this.crashes
     → new.last.items ≡ old.last.items ++ filter_map last_in this.crashes

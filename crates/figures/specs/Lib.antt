@@ -2,6 +2,6 @@ pub mod Figures
 pub mod Lines
 pub mod Notes
 pub mod Histograms
-pub mod Cases
+pub mod Settings
 pub mod Kept
-pub mod CaseLines
+pub mod SettingLines

@@ -1,4 +1,4 @@
--- What is kept of a run for its case, and how it is written.
+-- What is kept of a run for its setting, and how it is written.
 use Rattle.std.specs.Prelude.{◌≡◌, ◌≢◌, ℕ, ◌<◌, ◌^◌, ◌*◌, List, [], ◌∷◌, ◌++◌, Option, Some, All, map}
 use Rattle.std.specs.List.{flat_map, join_with_byte}
 use Rattle.std.specs.Option.{ForSome}
@@ -11,8 +11,8 @@ use Rattle.reports.specs.FalsePositives.{ways_to_depart, false_positives}
 use Rattle.reports.specs.Revivals.{revivals}
 use Rattle.reports.specs.Text.{figure}
 use Rattle.figures.specs.declared.crashes.CrashTimes.{CrashTimes}
-use Rattle.figures.specs.declared.note_words.NoteFault.{NoteFault}
-use Rattle.figures.specs.declared.note_words.NoteFault.TheVariants.{Word, Memory}
+use Rattle.figures.specs.declared.note_words.MetadataFault.{MetadataFault}
+use Rattle.figures.specs.declared.note_words.MetadataFault.TheVariants.{Word, Memory}
 use Rattle.figures.specs.Figures.{suspected_after, last_after, thrown_out, messages_sent}
 
 -- How the crashes of a run were detected, in their order; how many suspicions were false positives, how many members were thrown out, how often
@@ -76,20 +76,20 @@ pub record AreFigureWords (words : List (List ℕ)) (fs : List (Option ℕ)) : T
   pub small : All (λ f. ForSome f (λ m. m < 2 ^ 63)) fs
 
 -- the word says no note, or memory was refused
-abbrev pub RefusesNote : List ℕ → NoteFault → Type 0
+abbrev pub RefusesNote : List ℕ → MetadataFault → Type 0
 RefusesNote word Word = (n : Note) → ¬ (IsNoteWord word n)
 RefusesNote word Memory = Unit {0}
 
 -- the same of words that say no figures, and of figures that no note has
-abbrev pub RefusesFigures : List (List ℕ) → NoteFault → Type 0
+abbrev pub RefusesFigures : List (List ℕ) → MetadataFault → Type 0
 RefusesFigures words Word = (fs : List (Option ℕ)) → ¬ (AreFigureWords words fs)
 RefusesFigures words Memory = Unit {0}
 
-abbrev pub RefusesNoteOf : List (Option ℕ) → NoteFault → Type 0
+abbrev pub RefusesNoteOf : List (Option ℕ) → MetadataFault → Type 0
 RefusesNoteOf fs Word = (n : Note) → note_figures n ≢ fs
 RefusesNoteOf fs Memory = Unit {0}
 
 -- and of figures that are no times of crashes
-abbrev pub RefusesTimes : List (Option ℕ) → NoteFault → Type 0
+abbrev pub RefusesTimes : List (Option ℕ) → MetadataFault → Type 0
 RefusesTimes fs Word = (times : List CrashTimes) → flat_map times_in_order times ≢ fs
 RefusesTimes fs Memory = Unit {0}

@@ -1,10 +1,10 @@
-//! The lines of cases, in aligned columns.
+//! The lines of settings, in aligned columns.
 ghost use Rattle.std.specs.Prelude.{◌≡◌, ◌+◌, ◌<◌, ◌++◌, ◌∷◌, ◌==◌, [], codes, decimal, map, length, OnOk, IfOk, if◌then◌else◌};
 ghost use Rattle.std.specs.String.{string_bytes};
 ghost use Rattle.figures.specs.Lines.{where_told};
-ghost use Rattle.figures.specs.CaseLines.{padded, cells_aligned, aligned, first_texts, last_texts, figure_widths, case_header, case_line};
+ghost use Rattle.figures.specs.SettingLines.{padded, cells_aligned, aligned, first_texts, last_texts, figure_widths, setting_header, setting_line};
 
-use crate::summary::CaseSummary;
+use crate::summary::SettingSummary;
 use crate::texts::{push_hundredths, push_number, push_rate, push_tenths, push_text, push_time};
 use std::alloc::{AllocError, Global};
 
@@ -33,9 +33,9 @@ const LAST_WORDS: [&str; 4] = ["runs_with", "share_low", "share_high", "messages
 /// The widths of their columns.
 const LAST_WIDTHS: [usize; 4] = [9, 9, 10, 8];
 
-/// Adds the header of the lines of cases to a text: the keys that are set, each in a column of its
+/// Adds the header of the lines of settings to a text: the keys that are set, each in a column of its
 /// width in bytes, and the words over the figures, among them `revived` where the lines tell of it.
-pub fn push_case_header(
+pub fn push_setting_header(
     alloc: Global,
     text: &mut String,
     widths: &[usize],
@@ -43,7 +43,7 @@ pub fn push_case_header(
     revived: bool,
 ) -> Result<(), AllocError>
     requires { length widths.now ≡ length keys.now }
-    ensures { OnOk result (string_bytes text.new ≡ string_bytes text.old ++ case_header revived widths.now (map (λ key. key.now) keys.now)) }
+    ensures { OnOk result (string_bytes text.new ≡ string_bytes text.old ++ setting_header revived widths.now (map (λ key. key.now) keys.now)) }
 {
     let mut words = Vec::new(alloc);
     push_texts(alloc, &mut words, keys)?;
@@ -53,18 +53,18 @@ pub fn push_case_header(
     push_columns(alloc, text, widths, revived, &words)
 }
 
-/// Adds the line of a case to a text: the values that the keys have, in the columns of the keys, and
+/// Adds the line of a setting to a text: the values that the keys have, in the columns of the keys, and
 /// the figures, as in the header; a dash stands for a figure that isn't there.
-pub fn push_case_line(
+pub fn push_setting_line(
     alloc: Global,
     text: &mut String,
     widths: &[usize],
     values: &[&str],
-    summary: &CaseSummary,
+    summary: &SettingSummary,
     revived: bool,
 ) -> Result<(), AllocError>
     requires { length widths.now ≡ length values.now }
-    ensures { OnOk result (string_bytes text.new ≡ string_bytes text.old ++ case_line revived widths.now (map (λ value. value.now) values.now) summary.now) }
+    ensures { OnOk result (string_bytes text.new ≡ string_bytes text.old ++ setting_line revived widths.now (map (λ value. value.now) values.now) summary.now) }
 {
     let mut texts = Vec::new(alloc);
     push_texts(alloc, &mut texts, values)?;
@@ -113,11 +113,11 @@ fn push_revived(
     Ok(())
 }
 
-/// Adds the texts of a case's first figures to those of a line.
+/// Adds the texts of a setting's first figures to those of a line.
 fn push_first(
     alloc: Global,
     texts: &mut Vec<String>,
-    summary: &CaseSummary,
+    summary: &SettingSummary,
 ) -> Result<(), AllocError>
     ensures { OnOk result (map string_bytes texts.new.items ≡ map string_bytes texts.old.items ++ first_texts summary.now) }
 {
@@ -136,7 +136,7 @@ fn push_first(
 fn push_last(
     alloc: Global,
     texts: &mut Vec<String>,
-    summary: &CaseSummary,
+    summary: &SettingSummary,
 ) -> Result<(), AllocError>
     ensures { OnOk result (map string_bytes texts.new.items ≡ map string_bytes texts.old.items ++ last_texts summary.now) }
 {

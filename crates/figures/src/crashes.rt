@@ -4,7 +4,7 @@ ghost use Rattle.std.specs.List.{filter_map, reduce};
 ghost use Rattle.reports.specs.Departures.{latencies_of};
 ghost use Rattle.figures.specs.Figures.{suspected_after, last_after, is_detected};
 ghost use Rattle.figures.specs.Notes.{times_of};
-ghost use Rattle.figures.specs.Cases.{suspected_in, confirmed_in, last_in};
+ghost use Rattle.figures.specs.Settings.{suspected_in, confirmed_in, last_in};
 
 use reports::Departure;
 

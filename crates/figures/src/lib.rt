@@ -1,7 +1,6 @@
-//! The figures of one run, and of a case: of many runs that belong together.
+//! The figures of one run, and of a setting: of many runs that belong together.
 #![tactic(auto)]
 
-mod case;
 mod columns;
 mod crashes;
 mod histogram;
@@ -12,6 +11,7 @@ mod note_words;
 mod notes;
 mod ranks;
 mod run;
+mod setting;
 mod shares;
 mod summary;
 mod table;
@@ -19,12 +19,12 @@ mod texts;
 mod thrown_out;
 mod times;
 
-pub use case::CaseFigures;
-pub use columns::{push_case_header, push_case_line};
+pub use columns::{push_setting_header, push_setting_line};
 pub use crashes::CrashTimes;
 pub use histogram::Histogram;
-pub use note_words::NoteFault;
-pub use notes::RunNote;
+pub use note_words::MetadataFault;
+pub use notes::RunMetadata;
 pub use run::RunFigures;
-pub use summary::CaseSummary;
-pub use table::{write_header, write_note, write_run};
+pub use setting::SettingFigures;
+pub use summary::SettingSummary;
+pub use table::{write_header, write_metadata, write_run};

@@ -5,11 +5,11 @@ ghost use Rattle.reports.specs.Text.{figure};
 ghost use Rattle.figures.specs.Notes.{note_text, note_figures, times_in_order};
 
 use crate::crashes::CrashTimes;
-use crate::notes::RunNote;
+use crate::notes::RunMetadata;
 use base::Memory;
 use std::alloc::Global;
 
-impl RunNote {
+impl RunMetadata {
     /// The note as it is written, `3 0 0 4499 4500000 2840 12840 15399`: how many suspicions were false positives, how
     /// many members were thrown out, how often members were taken for alive again, how many messages were sent, how
     /// long the members last together, and for each crash the times until it was first suspected, first confirmed and

@@ -2,17 +2,17 @@
 ghost use Rattle.std.specs.Prelude.{◌≡◌, ◌==◌, ℕ, Option, Some, None, IfOk, IfErr, IfSome, IsNone};
 ghost use Rattle.std.specs.List.{flat_map, slice_split};
 ghost use Rattle.figures.specs.Notes.{times_in_order, note_figures, IsNoteWord, IsFigureWord, AreFigureWords, RefusesNote, RefusesFigures, RefusesNoteOf, RefusesTimes};
-ghost use Rattle.figures.specs.declared.note_words.NoteFault.TheVariants as unread;
+ghost use Rattle.figures.specs.declared.note_words.MetadataFault.TheVariants as unread;
 
 use crate::crashes::CrashTimes;
-use crate::notes::RunNote;
+use crate::notes::RunMetadata;
 use decimals::number;
 use std::alloc::{AllocFailed, Global};
 use thiserror::Error;
 
 /// Why a word says no note.
 #[derive(Clone, Copy, Debug, PartialEq, Eq, Error)]
-pub enum NoteFault {
+pub enum MetadataFault {
     /// It isn't one.
     #[error("no note")]
     Word,
@@ -21,20 +21,20 @@ pub enum NoteFault {
     Memory,
 }
 
-impl<T: Drop> From<AllocFailed<T>> for NoteFault {
+impl<T: Drop> From<AllocFailed<T>> for MetadataFault {
     ghost from_gives = { λ _ e. e ≡ unread.Memory };
 
     fn from(_refused: AllocFailed<T>) -> Self {
-        NoteFault::Memory
+        MetadataFault::Memory
     }
 }
 
-impl RunNote {
+impl RunMetadata {
     /// The note that a word says, as `text` writes it.
     ///
     /// Failures: `Word` where it isn't five numbers, and then three times for each crash, with spaces between them; a number
     /// is at most 2^63 - 1. `Memory`.
-    pub fn read(alloc: Global, word: &str) -> Result<RunNote, NoteFault>
+    pub fn read(alloc: Global, word: &str) -> Result<RunMetadata, MetadataFault>
         ensures read { IfOk result (IsNoteWord word.now) }
         ensures refused { IfErr result (RefusesNote word.now) }
     {
@@ -44,14 +44,14 @@ impl RunNote {
 }
 
 /// The figures that a word says, with spaces between them.
-fn read_figures(alloc: Global, word: &str) -> Result<Vec<Option<u64>>, NoteFault>
+fn read_figures(alloc: Global, word: &str) -> Result<Vec<Option<u64>>, MetadataFault>
     ensures read { IfOk result (λ figures. AreFigureWords (slice_split (λ byte. byte == 32) word.now) figures.items) }
     ensures refused { IfErr result (RefusesFigures (slice_split (λ byte. byte == 32) word.now)) }
 {
     let mut figures = Vec::new(alloc);
     for item in word.split(' ') {
         let Some(figure) = read_figure(item) else {
-            return Err(NoteFault::Word);
+            return Err(MetadataFault::Word);
         };
         figures.push(figure)?;
     }
@@ -73,12 +73,12 @@ fn read_figure(word: &str) -> Option<Option<u64>>
 }
 
 /// The note that says these figures.
-fn note_of_figures(alloc: Global, figures: &[Option<u64>]) -> Result<RunNote, NoteFault>
+fn note_of_figures(alloc: Global, figures: &[Option<u64>]) -> Result<RunMetadata, MetadataFault>
     ensures made { IfOk result (λ note. note_figures note ≡ figures.now) }
     ensures refused { IfErr result (RefusesNoteOf figures.now) }
 {
     if figures.len() < 5 {
-        return Err(NoteFault::Word);
+        return Err(MetadataFault::Word);
     }
     let false_suspect = there(figures[0])?;
     let thrown_out = there(figures[1])?;
@@ -86,7 +86,7 @@ fn note_of_figures(alloc: Global, figures: &[Option<u64>]) -> Result<RunNote, No
     let sent = there(figures[3])?;
     let member_ticks = there(figures[4])?;
     let crashes = times_of_figures(alloc, &figures[5..])?;
-    Ok(RunNote {
+    Ok(RunMetadata {
         crashes,
         false_suspect,
         thrown_out,
@@ -97,24 +97,27 @@ fn note_of_figures(alloc: Global, figures: &[Option<u64>]) -> Result<RunNote, No
 }
 
 /// The number, which must be there.
-fn there(figure: Option<u64>) -> Result<u64, NoteFault>
+fn there(figure: Option<u64>) -> Result<u64, MetadataFault>
     ensures there { IfOk result (λ number. figure ≡ Some number) }
     ensures refused { IfErr result (λ fault. figure ≡ None) }
 {
     match figure {
         Some(number) => Ok(number),
-        None => Err(NoteFault::Word),
+        None => Err(MetadataFault::Word),
     }
 }
 
 /// The times of crashes that say these figures, three for each.
-fn times_of_figures(alloc: Global, figures: &[Option<u64>]) -> Result<Vec<CrashTimes>, NoteFault>
+fn times_of_figures(
+    alloc: Global,
+    figures: &[Option<u64>],
+) -> Result<Vec<CrashTimes>, MetadataFault>
     ensures made { IfOk result (λ times. flat_map times_in_order times.items ≡ figures.now) }
     ensures refused { IfErr result (RefusesTimes figures.now) }
 {
     let crashes = figures.len() / 3;
     if figures.len() % 3 != 0 {
-        return Err(NoteFault::Word);
+        return Err(MetadataFault::Word);
     }
     let mut times = Vec::new(alloc);
     for crash in 0..crashes {

@@ -1,4 +1,4 @@
-//! What is kept of a run for its case.
+//! What is kept of a run for its setting.
 ghost use Rattle.std.specs.Prelude.{◌≡◌, ◌<◌, ◌≤◌, ◌^◌, ◌*◌, IfOk, map};
 ghost use Rattle.scenario.specs.Setup.{member_count};
 ghost use Rattle.figures.specs.Figures.{figures_of};
@@ -12,9 +12,9 @@ use scenario::Scenario;
 use std::alloc::Global;
 use std::marker::Model;
 
-/// What is kept of a run for its case: how its crashes were detected, and what its case counts.
+/// What is kept of a run for its setting: how its crashes were detected, and what its setting counts.
 #[derive(Debug, Drop)]
-pub struct RunNote {
+pub struct RunMetadata {
     pub(crate) crashes: Vec<CrashTimes>,
     pub(crate) false_suspect: u64,
     pub(crate) thrown_out: u64,
@@ -23,7 +23,7 @@ pub struct RunNote {
     pub(crate) member_ticks: u64,
 }
 
-impl Model for RunNote {
+impl Model for RunMetadata {
     ghost use Rattle.figures.specs.Notes.{Note};
 
     ghost Value = { Note };
@@ -31,7 +31,7 @@ impl Model for RunNote {
     ghost view = { λ n. record { crashes = n.crashes.items; false_suspect = n.false_suspect; thrown_out = n.thrown_out; revived = n.revived; sent = n.sent; member_ticks = n.member_ticks } };
 }
 
-impl RunNote {
+impl RunMetadata {
     /// The note of a run of the scenario whose rows were tallied, and which has these figures.
     #[tactic(auto, unfolding(crate::specs::Figures::figures_of, crate::specs::Notes::note_of))]
     pub fn of(
@@ -39,12 +39,12 @@ impl RunNote {
         tallies: &Tallies,
         figures: &RunFigures,
         scenario: &Scenario,
-    ) -> Result<RunNote, Memory>
+    ) -> Result<RunMetadata, Memory>
         requires { figures.now ≡ figures_of scenario.now tallies.now }
         ensures { IfOk result (λ note. note ≡ note_of scenario.now tallies.now) }
     {
         let crashes = times_of_each(alloc, tallies.crashes())?;
-        Ok(RunNote {
+        Ok(RunMetadata {
             crashes,
             false_suspect: figures.false_suspect,
             thrown_out: figures.thrown_out,
@@ -55,7 +55,7 @@ impl RunNote {
     }
 }
 
-impl RunNote {
+impl RunMetadata {
     /// How the crashes were detected, in their order.
     pub(crate) fn crashes(&self) -> &[CrashTimes]
         ensures { result.now ≡ self.now.crashes }

@@ -2,7 +2,7 @@
 ghost use Rattle.std.specs.Prelude.{◌≡◌, ◌≤◌, ◌<◌, ◌^◌, ℕ, List};
 ghost use Rattle.std.specs.Ordering.{nat_cmp};
 ghost use Rattle.std.specs.List.Sorted.{IsSorted, IsPermutation};
-ghost use Rattle.figures.specs.Cases.{rank, at_rank};
+ghost use Rattle.figures.specs.Settings.{rank, at_rank};
 
 /// The time of a percentile's rank among so many crashes, of which those that were detected at all
 /// took these times, in ascending order. `None` where a crash stands there that wasn't.

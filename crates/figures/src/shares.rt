@@ -1,6 +1,6 @@
 //! The 95 % interval of a share, by Wilson.
 ghost use Rattle.std.specs.Prelude.{◌≡◌, ◌≤◌, ◌<◌, ◌^◌};
-ghost use Rattle.figures.specs.Cases.{root, spread, nearest_thousandth, share_low, share_high};
+ghost use Rattle.figures.specs.Settings.{root, spread, nearest_thousandth, share_low, share_high};
 
 /// The lower end, in thousandths, where `k` of `n` runs have something.
 pub(crate) fn share_low(k: u64, n: u64) -> u128

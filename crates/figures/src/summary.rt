@@ -1,13 +1,13 @@
-//! What is told of a case.
+//! What is told of a setting.
 
 use crate::histogram::Histogram;
 
-/// The figures of a case: of runs of one scenario that differ in their seed alone. Times are in
+/// The figures of a setting: of runs of one scenario that differ in their seed alone. Times are in
 /// ticks since the crash, by the nearest rank over all crashes of all runs, of which one that was
 /// not detected counts as later than any: `None` stands where such a crash has the rank, and where
 /// nobody crashed.
 #[derive(Clone, Copy, Debug, PartialEq, Eq)]
-pub struct CaseSummary {
+pub struct SettingSummary {
     /// How many runs there are.
     pub runs: u64,
     /// How many members crashed, each counted in each run.

@@ -6,7 +6,7 @@ ghost use Rattle.figures.specs.Lines.{header_line, run_line};
 ghost use Rattle.figures.specs.Notes.{note_cell};
 
 use crate::lines::{header_text, run_text};
-use crate::notes::RunNote;
+use crate::notes::RunMetadata;
 use crate::run::RunFigures;
 use base::Memory;
 use std::alloc::Global;
@@ -54,7 +54,11 @@ pub fn write_run<S: Sink>(
 
 /// Puts what is kept of a run, and a comma, before the run's line. Where memory is refused nothing is put, and where
 /// the sink stops it has got a beginning of that.
-pub fn write_note<S: Sink>(alloc: Global, note: &RunNote, sink: &mut S) -> Result<(), WriteError>
+pub fn write_metadata<S: Sink>(
+    alloc: Global,
+    note: &RunMetadata,
+    sink: &mut S,
+) -> Result<(), WriteError>
     requires { S.failed sink.old < 2 ^ 63 }
     ensures whole { OnOk result (Appends (S.held sink.old) (S.held sink.new) (note_cell note.now)) }
     ensures part { OnErr result (AppendsBeginning (S.held sink.old) (S.held sink.new) (note_cell note.now)) }
@@ -66,7 +70,7 @@ pub fn write_note<S: Sink>(alloc: Global, note: &RunNote, sink: &mut S) -> Resul
 }
 
 /// The text of a note, and a comma.
-fn cell_text(alloc: Global, note: &RunNote) -> Result<String, Memory>
+fn cell_text(alloc: Global, note: &RunMetadata) -> Result<String, Memory>
     ensures { IfOk result (λ text. string_bytes text ≡ note_cell note.now) }
 {
     let mut text = note.text(alloc)?;

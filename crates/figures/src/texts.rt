@@ -3,7 +3,7 @@ ghost use Rattle.std.specs.Prelude.{◌≡◌, ◌++◌, ◌∷◌, [], OnOk, co
 ghost use Rattle.std.specs.String.{string_bytes};
 ghost use Rattle.std.specs.Option.{option_map_or};
 ghost use Rattle.reports.specs.Text.{figure};
-ghost use Rattle.figures.specs.CaseLines.{tenths, hundredths};
+ghost use Rattle.figures.specs.SettingLines.{tenths, hundredths};
 
 use std::alloc::{AllocError, Global};
 

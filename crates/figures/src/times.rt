@@ -2,7 +2,7 @@
 ghost use Rattle.std.specs.Prelude.{◌≡◌, ◌++◌, OnOk};
 ghost use Rattle.std.specs.List.{filter_map};
 ghost use Rattle.std.specs.Option.{option_to_list};
-ghost use Rattle.figures.specs.Cases.{suspected_in, confirmed_in, last_in};
+ghost use Rattle.figures.specs.Settings.{suspected_in, confirmed_in, last_in};
 
 use crate::crashes::{CrashTimes, confirmed_in, last_in, suspected_in};
 use base::Memory;

@@ -1,7 +1,7 @@
--- Which cases of a sweep no other beats, and how their lines are marked.
+-- Which settings of a sweep no other beats, and how their lines are marked.
 use Rattle.std.specs.Prelude.{ℕ, ◌*◌, Bool, true, false, not, ◌&&◌, ◌||◌, nat_le, nat_lt, if◌then◌else◌, List, Option, Some, None, codes}
 use Rattle.std.specs.List.{list_any}
-use Rattle.figures.specs.declared.summary.CaseSummary.{CaseSummary}
+use Rattle.figures.specs.declared.summary.SettingSummary.{SettingSummary}
 
 -- a time, or a number of messages, is no greater than another; none is greater than any
 abbrev pub no_later : Option ℕ → Option ℕ → Bool
@@ -11,31 +11,31 @@ no_later None (Some b) = false
 no_later None None = true
 
 -- some run of the sweep has a crash
-abbrev pub has_crash : List CaseSummary → Bool
-has_crash all = list_any (λ case. nat_lt 0 case.crashes) all
+abbrev pub has_crash : List SettingSummary → Bool
+has_crash all = list_any (λ setting. nat_lt 0 setting.crashes) all
 
--- what a case costs, beside the share of its runs with a false death: the median time until a crash was confirmed; where no run of the sweep has a
+-- what a setting costs, beside the share of its runs with a false death: the median time until a crash was confirmed; where no run of the sweep has a
 -- crash, its messages
-abbrev pub cost : Bool → CaseSummary → Option ℕ
-cost crashed case = if crashed then case.confirm_p50 else case.messages
+abbrev pub cost : Bool → SettingSummary → Option ℕ
+cost crashed setting = if crashed then setting.confirm_p50 else setting.messages
 
--- one case costs no more than another
-abbrev pub costs_no_more : Bool → CaseSummary → CaseSummary → Bool
+-- one setting costs no more than another
+abbrev pub costs_no_more : Bool → SettingSummary → SettingSummary → Bool
 costs_no_more crashed a b = no_later (cost crashed a) (cost crashed b)
 
 -- the share of the runs in which members were thrown out is no greater: fractions, compared by their products
-abbrev pub is_no_more_often : CaseSummary → CaseSummary → Bool
+abbrev pub is_no_more_often : SettingSummary → SettingSummary → Bool
 is_no_more_often a b = nat_le (a.runs_with * b.runs) (b.runs_with * a.runs)
 
 -- the one beats the other: it is at most as great in both, and less in one
-abbrev pub beats : Bool → CaseSummary → CaseSummary → Bool
+abbrev pub beats : Bool → SettingSummary → SettingSummary → Bool
 beats crashed a b = costs_no_more crashed a b && (is_no_more_often a b && (not (costs_no_more crashed b a) || not (is_no_more_often b a)))
 
--- no case of these beats it
-abbrev pub is_on_front : CaseSummary → List CaseSummary → Bool
-is_on_front case all = not (list_any (λ other. beats (has_crash all) other case) all)
+-- no setting of these beats it
+abbrev pub is_on_front : SettingSummary → List SettingSummary → Bool
+is_on_front setting all = not (list_any (λ other. beats (has_crash all) other setting) all)
 
--- the last cell of a case's line, and the word over these cells: a star for a case on the front, a dash for another
+-- the last cell of a setting's line, and the word over these cells: a star for a setting on the front, a dash for another
 abbrev pub mark_word : List ℕ
 mark_word = codes "  front\n"
 

@@ -1,6 +1,6 @@
--- The statistics of a case of which something may be wanted, by the names of the columns of its line.
+-- The statistics of a setting of which something may be wanted, by the names of the columns of its line.
 use Rattle.std.specs.Prelude.{ℕ, List, Option, Some, None, codes}
-use Rattle.figures.specs.declared.summary.CaseSummary.{CaseSummary}
+use Rattle.figures.specs.declared.summary.SettingSummary.{SettingSummary}
 use Rattle.goals.specs.declared.statistic.Statistic.{Statistic}
 use Rattle.goals.specs.declared.statistic.Statistic.TheVariants.{Out, SuspectP50, ConfirmP50, ConfirmP99, ConfirmGreatest, LastP50, LastGreatest, FalseSuspect, ThrownOut, Messages}
 
@@ -16,19 +16,19 @@ word_of FalseSuspect = codes "false_suspect"
 word_of ThrownOut = codes "thrown_out"
 word_of Messages = codes "messages"
 
--- The figure of a case: times in ticks and members as they are, rates in hundredths. `out`, the share of the runs in which members were
+-- The figure of a setting: times in ticks and members as they are, rates in hundredths. `out`, the share of the runs in which members were
 -- thrown out, has an interval in place of one.
-abbrev pub figure_of : Statistic → CaseSummary → Option ℕ
-figure_of Out case = None
-figure_of SuspectP50 case = case.suspect_p50
-figure_of ConfirmP50 case = case.confirm_p50
-figure_of ConfirmP99 case = case.confirm_p99
-figure_of ConfirmGreatest case = case.confirm_greatest
-figure_of LastP50 case = case.last_p50
-figure_of LastGreatest case = case.last_greatest
-figure_of FalseSuspect case = Some case.false_suspect
-figure_of ThrownOut case = Some case.thrown_out
-figure_of Messages case = case.messages
+abbrev pub figure_of : Statistic → SettingSummary → Option ℕ
+figure_of Out setting = None
+figure_of SuspectP50 setting = setting.suspect_p50
+figure_of ConfirmP50 setting = setting.confirm_p50
+figure_of ConfirmP99 setting = setting.confirm_p99
+figure_of ConfirmGreatest setting = setting.confirm_greatest
+figure_of LastP50 setting = setting.last_p50
+figure_of LastGreatest setting = setting.last_greatest
+figure_of FalseSuspect setting = Some setting.false_suspect
+figure_of ThrownOut setting = Some setting.thrown_out
+figure_of Messages setting = setting.messages
 
 -- how many of its parts make one
 abbrev pub parts_of : Statistic → ℕ

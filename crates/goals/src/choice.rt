@@ -1,4 +1,4 @@
-//! Which cases meet what is wanted, and which of them is best.
+//! Which settings meet what is wanted, and which of them is best.
 ghost use Rattle.std.specs.Prelude.{◌≡◌, ◌-◌, ◌&&◌, All};
 ghost use Rattle.std.specs.List.{list_any};
 ghost use Rattle.std.specs.Option.{option_map};
@@ -10,16 +10,16 @@ use crate::bounds::runs_that_tell;
 use crate::front::{has_crash, is_no_more_often, no_later};
 use crate::statistic::ticks;
 use crate::want::{Want, refutes, shows};
-use figures::CaseSummary;
+use figures::SettingSummary;
 
-/// Whether a case shows that it meets all that is wanted.
-pub fn meets(wants: &[Want], case: &CaseSummary) -> bool
+/// Whether a setting shows that it meets all that is wanted.
+pub fn meets(wants: &[Want], setting: &SettingSummary) -> bool
     requires bounded { All IsBounded wants.now }
-    requires few { HasFewRuns case.now }
-    ensures { result ≡ meets wants.now case.now }
+    requires few { HasFewRuns setting.now }
+    ensures { result ≡ meets wants.now setting.now }
 {
     for want in wants {
-        if !shows(want.statistic, want.most, case) {
+        if !shows(want.statistic, want.most, setting) {
             return false;
         }
     }
@@ -27,107 +27,117 @@ pub fn meets(wants: &[Want], case: &CaseSummary) -> bool
 }
 
 /// Whether it may meet all, but doesn't show it yet.
-pub fn may_meet(wants: &[Want], case: &CaseSummary) -> bool
+pub fn may_meet(wants: &[Want], setting: &SettingSummary) -> bool
     requires bounded { All IsBounded wants.now }
-    requires few { HasFewRuns case.now }
-    ensures { result ≡ may_meet wants.now case.now }
+    requires few { HasFewRuns setting.now }
+    ensures { result ≡ may_meet wants.now setting.now }
 {
-    !meets(wants, case) && !is_refuted(wants, case)
+    !meets(wants, setting) && !is_refuted(wants, setting)
 }
 
 /// Whether it shows that it doesn't meet one of them.
-fn is_refuted(wants: &[Want], case: &CaseSummary) -> bool
+fn is_refuted(wants: &[Want], setting: &SettingSummary) -> bool
     requires bounded { All IsBounded wants.now }
-    requires few { HasFewRuns case.now }
-    ensures { result ≡ list_any (λ want. refutes want.statistic want.most case.now) wants.now }
+    requires few { HasFewRuns setting.now }
+    ensures { result ≡ list_any (λ want. refutes want.statistic want.most setting.now) wants.now }
 {
     for want in wants {
-        if refutes(want.statistic, want.most, case) {
+        if refutes(want.statistic, want.most, setting) {
             return true;
         }
     }
     false
 }
 
-/// How many more runs would tell whether a case meets all, if the share of runs in which members were thrown out stays: by the
+/// How many more runs would tell whether a setting meets all, if the share of runs in which members were thrown out stays: by the
 /// first that isn't shown. None where no number of them would.
-pub fn more_runs(wants: &[Want], case: &CaseSummary) -> Option<u128>
+pub fn more_runs(wants: &[Want], setting: &SettingSummary) -> Option<u128>
     requires bounded { All IsBounded wants.now }
-    requires few { HasFewRuns case.now }
-    ensures { result ≡ more_runs wants.now case.now }
+    requires few { HasFewRuns setting.now }
+    ensures { result ≡ more_runs wants.now setting.now }
 {
     for want in wants {
-        if !shows(want.statistic, want.most, case) {
-            return more_of(want.most, case);
+        if !shows(want.statistic, want.most, setting) {
+            return more_of(want.most, setting);
         }
     }
     None
 }
 
-/// How many more runs put a share beyond the interval of a case.
-fn more_of(share: u128, case: &CaseSummary) -> Option<u128>
-    requires { HasFewRuns case.now }
-    ensures { result ≡ option_map (λ runs. runs - case.now.runs) (runs_that_tell share case.now.runs_with case.now.runs) }
+/// How many more runs put a share beyond the interval of a setting.
+fn more_of(share: u128, setting: &SettingSummary) -> Option<u128>
+    requires { HasFewRuns setting.now }
+    ensures { result ≡ option_map (λ runs. runs - setting.now.runs) (runs_that_tell share setting.now.runs_with setting.now.runs) }
 {
-    match runs_that_tell(share, case.runs_with, case.runs) {
-        Some(runs) => Some(runs.saturating_sub(u128::from(case.runs))),
+    match runs_that_tell(share, setting.runs_with, setting.runs) {
+        Some(runs) => Some(runs.saturating_sub(u128::from(setting.runs))),
         None => None,
     }
 }
 
-/// The place of the first case that meets all that is wanted, and that no other which does is better than; none where no
-/// case is so.
-pub fn best_of(wants: &[Want], cases: &[CaseSummary]) -> Option<usize>
+/// The place of the first setting that meets all that is wanted, and that no other which does is better than; none where no
+/// setting is so.
+pub fn best_of(wants: &[Want], settings: &[SettingSummary]) -> Option<usize>
     requires bounded { All IsBounded wants.now }
-    requires few { All HasFewRuns cases.now }
-    ensures { IsBestOf wants.now cases.now result }
+    requires few { All HasFewRuns settings.now }
+    ensures { IsBestOf wants.now settings.now result }
 {
-    let crashed = has_crash(cases);
-    for (place, case) in cases.iter().enumerate() {
-        if is_best(wants, cases, case, crashed) {
+    let crashed = has_crash(settings);
+    for (place, setting) in settings.iter().enumerate() {
+        if is_best(wants, settings, setting, crashed) {
             return Some(place);
         }
     }
     None
 }
 
-/// Whether a case meets all that is wanted, and none of the others that do is better. `crashed` is whether a run of them has
+/// Whether a setting meets all that is wanted, and none of the others that do is better. `crashed` is whether a run of them has
 /// a crash.
-fn is_best(wants: &[Want], cases: &[CaseSummary], case: &CaseSummary, crashed: bool) -> bool
+fn is_best(
+    wants: &[Want],
+    settings: &[SettingSummary],
+    setting: &SettingSummary,
+    crashed: bool,
+) -> bool
     requires bounded { All IsBounded wants.now }
-    requires few { All HasFewRuns cases.now }
-    requires case { HasFewRuns case.now }
-    requires crashed { crashed ≡ has_crash cases.now }
-    ensures { result ≡ is_best wants.now cases.now case.now }
+    requires few { All HasFewRuns settings.now }
+    requires setting { HasFewRuns setting.now }
+    requires crashed { crashed ≡ has_crash settings.now }
+    ensures { result ≡ is_best wants.now settings.now setting.now }
 {
-    meets(wants, case) && !is_outdone(wants, cases, case, crashed)
+    meets(wants, setting) && !is_outdone(wants, settings, setting, crashed)
 }
 
-/// Whether some case that meets all is better than this one.
-fn is_outdone(wants: &[Want], cases: &[CaseSummary], case: &CaseSummary, crashed: bool) -> bool
+/// Whether some setting that meets all is better than this one.
+fn is_outdone(
+    wants: &[Want],
+    settings: &[SettingSummary],
+    setting: &SettingSummary,
+    crashed: bool,
+) -> bool
     requires bounded { All IsBounded wants.now }
-    requires few { All HasFewRuns cases.now }
-    ensures { result ≡ list_any (λ other. meets wants.now other && is_better crashed other case.now) cases.now }
+    requires few { All HasFewRuns settings.now }
+    ensures { result ≡ list_any (λ other. meets wants.now other && is_better crashed other setting.now) settings.now }
 {
-    for other in cases {
-        if is_rival(wants, other, case, crashed) {
+    for other in settings {
+        if is_rival(wants, other, setting, crashed) {
             return true;
         }
     }
     false
 }
 
-/// Whether a case meets all, and is better than another.
-fn is_rival(wants: &[Want], other: &CaseSummary, case: &CaseSummary, crashed: bool) -> bool
+/// Whether a setting meets all, and is better than another.
+fn is_rival(wants: &[Want], other: &SettingSummary, setting: &SettingSummary, crashed: bool) -> bool
     requires bounded { All IsBounded wants.now }
     requires few { HasFewRuns other.now }
-    ensures { result ≡ (meets wants.now other.now && is_better crashed other.now case.now) }
+    ensures { result ≡ (meets wants.now other.now && is_better crashed other.now setting.now) }
 {
-    is_better(other, case, crashed) && meets(wants, other)
+    is_better(other, setting, crashed) && meets(wants, other)
 }
 
-/// Whether the first case is better: it is sooner, or safer where no run has a crash.
-fn is_better(first: &CaseSummary, second: &CaseSummary, crashed: bool) -> bool
+/// Whether the first setting is better: it is sooner, or safer where no run has a crash.
+fn is_better(first: &SettingSummary, second: &SettingSummary, crashed: bool) -> bool
     ensures { result ≡ is_better crashed first.now second.now }
 {
     if crashed {
@@ -137,8 +147,8 @@ fn is_better(first: &CaseSummary, second: &CaseSummary, crashed: bool) -> bool
     }
 }
 
-/// Whether the first case confirms sooner, or as soon with fewer messages.
-fn is_sooner(first: &CaseSummary, second: &CaseSummary) -> bool
+/// Whether the first setting confirms sooner, or as soon with fewer messages.
+fn is_sooner(first: &SettingSummary, second: &SettingSummary) -> bool
     ensures { result ≡ is_sooner first.now second.now }
 {
     let as_soon = no_later(ticks(first.confirm_p50), ticks(second.confirm_p50));
@@ -147,7 +157,7 @@ fn is_sooner(first: &CaseSummary, second: &CaseSummary) -> bool
 }
 
 /// Whether a lesser share of the runs of the first has a false death, or as great a one with fewer messages.
-fn is_safer(first: &CaseSummary, second: &CaseSummary) -> bool
+fn is_safer(first: &SettingSummary, second: &SettingSummary) -> bool
     ensures { result ≡ is_safer first.now second.now }
 {
     let as_seldom = is_no_more_often(first, second);

@@ -1,4 +1,4 @@
-//! What the cases of a sweep answer: which of them no other beats, which meet what is wanted, and which of these is best.
+//! What the settings of a sweep answer: which of them no other beats, which meet what is wanted, and which of these is best.
 #![tactic(auto)]
 
 mod bounds;

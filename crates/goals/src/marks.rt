@@ -1,10 +1,10 @@
-//! The marks of the cases that no other beats.
+//! The marks of the settings that no other beats.
 ghost use Rattle.std.specs.Prelude.{◌≡◌, ◌++◌, List, OnOk, codes, string_bytes, ℕ};
 ghost use Rattle.goals.specs.Front.{mark_text, mark_word};
 
 use std::alloc::AllocError;
 
-/// Adds the header of the lines of cases to a text, with the word over the marks as its last cell.
+/// Adds the header of the lines of settings to a text, with the word over the marks as its last cell.
 pub fn push_header(text: &mut String, line: &str) -> Result<(), AllocError>
     ensures { OnOk result ((cells : List ℕ) → line.now ≡ cells ++ codes "\n" → string_bytes text.new ≡ string_bytes text.old ++ (cells ++ mark_word)) }
 {
@@ -12,7 +12,7 @@ pub fn push_header(text: &mut String, line: &str) -> Result<(), AllocError>
     text.push_str("  front\n")
 }
 
-/// Adds the line of a case to a text, with its mark as the last cell: `*` where it is on the front, else `-`.
+/// Adds the line of a setting to a text, with its mark as the last cell: `*` where it is on the front, else `-`.
 pub fn push_marked(text: &mut String, line: &str, is_on_front: bool) -> Result<(), AllocError>
     ensures { OnOk result ((cells : List ℕ) → line.now ≡ cells ++ codes "\n" → string_bytes text.new ≡ string_bytes text.old ++ (cells ++ mark_text is_on_front)) }
 {

@@ -1,4 +1,4 @@
-//! The words by which something is wanted of cases.
+//! The words by which something is wanted of settings.
 ghost use Rattle.std.specs.Prelude.{IfErr, IfOk, map};
 ghost use Rattle.goals.specs.Words.{AreWants, RefusesWants};
 

@@ -1,11 +1,11 @@
-//! The statistics of a case of which something may be wanted.
+//! The statistics of a setting of which something may be wanted.
 ghost use Rattle.std.specs.Prelude.{◌≡◌, ◌≤◌, ◌++◌, IfSome, IsNone, codes};
 ghost use Rattle.goals.specs.Statistics.{word_of, figure_of, parts_of};
 ghost use Rattle.goals.specs.declared.statistic.Statistic.{Statistic as AnyStatistic};
 
-use figures::CaseSummary;
+use figures::SettingSummary;
 
-/// A statistic of a case, with the name of its column among the lines of cases; `out` is the share of the runs in which
+/// A statistic of a setting, with the name of its column among the lines of settings; `out` is the share of the runs in which
 /// members were thrown out, from 0 to 1.
 #[derive(Clone, Copy, Debug, PartialEq, Eq)]
 pub enum Statistic {
@@ -42,21 +42,21 @@ impl Statistic {
         }
     }
 
-    /// The figure of a case: times in ticks and members as they are, rates in hundredths. `out` has none.
-    pub(crate) fn figure(self, case: &CaseSummary) -> Option<u128>
-        ensures { result ≡ figure_of self case.now }
+    /// The figure of a setting: times in ticks and members as they are, rates in hundredths. `out` has none.
+    pub(crate) fn figure(self, setting: &SettingSummary) -> Option<u128>
+        ensures { result ≡ figure_of self setting.now }
     {
         match self {
             Statistic::Out => None,
-            Statistic::SuspectP50 => ticks(case.suspect_p50),
-            Statistic::ConfirmP50 => ticks(case.confirm_p50),
-            Statistic::ConfirmP99 => ticks(case.confirm_p99),
-            Statistic::ConfirmGreatest => ticks(case.confirm_greatest),
-            Statistic::LastP50 => ticks(case.last_p50),
-            Statistic::LastGreatest => ticks(case.last_greatest),
-            Statistic::FalseSuspect => Some(case.false_suspect),
-            Statistic::ThrownOut => Some(case.thrown_out),
-            Statistic::Messages => case.messages,
+            Statistic::SuspectP50 => ticks(setting.suspect_p50),
+            Statistic::ConfirmP50 => ticks(setting.confirm_p50),
+            Statistic::ConfirmP99 => ticks(setting.confirm_p99),
+            Statistic::ConfirmGreatest => ticks(setting.confirm_greatest),
+            Statistic::LastP50 => ticks(setting.last_p50),
+            Statistic::LastGreatest => ticks(setting.last_greatest),
+            Statistic::FalseSuspect => Some(setting.false_suspect),
+            Statistic::ThrownOut => Some(setting.thrown_out),
+            Statistic::Messages => setting.messages,
         }
     }
 

@@ -1,41 +1,41 @@
-//! What the cases of a sweep answer to what is wanted, in words.
+//! What the settings of a sweep answer to what is wanted, in words.
 ghost use Rattle.std.specs.Prelude.{◌≡◌, ◌≤◌, ◌<◌, ◌++◌, All, List, OnOk, Some, codes, flat_map, get_or, length, slice_get, string_bytes};
 ghost use Rattle.std.specs.List.{zip};
 ghost use Rattle.std.specs.Option.{ForSome};
-ghost use Rattle.sweep_plan.specs.Sweep.{case_count};
-ghost use Rattle.sweep_plan.specs.Cases.{cases_of};
+ghost use Rattle.sweep_plan.specs.Sweep.{setting_count};
+ghost use Rattle.sweep_plan.specs.Settings.{settings_of};
 ghost use Rattle.sweep_plan.specs.declared.choice.Choice.{Choice as AnyChoice};
 ghost use Rattle.goals.specs.Wants.{HasFewRuns, IsBounded};
-ghost use Rattle.goals.specs.Answers.{AddsAnswer, best_line, case_told, more_text, refuting, settings_told, showing, want_line};
+ghost use Rattle.goals.specs.Answers.{AddsAnswer, best_line, setting_told, more_text, refuting, swept_keys_told, showing, want_line};
 
 use crate::choice::{best_of, may_meet, meets, more_runs};
 use crate::want::{Want, refutes, shows};
 use base::Memory;
-use figures::CaseSummary;
+use figures::SettingSummary;
 use std::alloc::Global;
-use sweep_plan::{Choice, Plan, settings_text};
+use sweep_plan::{Choice, Plan, choices_text};
 
-/// Adds what the cases answer to what is wanted: a line for each that is wanted, one for each case that shows that it meets
-/// all, or may meet all, and one for the best. Nothing where nothing is wanted. There must be a summary for each case, in
+/// Adds what the settings answer to what is wanted: a line for each that is wanted, one for each setting that shows that it meets
+/// all, or may meet all, and one for the best. Nothing where nothing is wanted. There must be a summary for each setting, in
 /// their order.
 pub fn push_answer(
     alloc: Global,
     text: &mut String,
     plan: &Plan,
     wants: &[Want],
-    cases: &[CaseSummary],
+    settings: &[SettingSummary],
 ) -> Result<(), Memory>
     requires bounded { All IsBounded wants.now }
-    requires few { All HasFewRuns cases.now }
-    requires all { length cases.now ≡ case_count plan.now.settings }
-    ensures { OnOk result (AddsAnswer plan.now.settings wants.now cases.now (string_bytes text.old) (string_bytes text.new)) }
+    requires few { All HasFewRuns settings.now }
+    requires all { length settings.now ≡ setting_count plan.now.swept_keys }
+    ensures { OnOk result (AddsAnswer plan.now.swept_keys wants.now settings.now (string_bytes text.old) (string_bytes text.new)) }
 {
-    let best = best_of(wants, cases);
+    let best = best_of(wants, settings);
     if wants.is_empty() {
         return Ok(());
     }
-    push_wants(alloc, text, wants, cases)?;
-    push_cases(alloc, text, plan, wants, cases)?;
+    push_wants(alloc, text, wants, settings)?;
+    push_settings(alloc, text, plan, wants, settings)?;
     push_best(alloc, text, plan, best)
 }
 
@@ -44,14 +44,14 @@ fn push_wants(
     alloc: Global,
     text: &mut String,
     wants: &[Want],
-    cases: &[CaseSummary],
+    settings: &[SettingSummary],
 ) -> Result<(), Memory>
     requires bounded { All IsBounded wants.now }
-    requires few { All HasFewRuns cases.now }
-    ensures { OnOk result (string_bytes text.new ≡ string_bytes text.old ++ flat_map (want_line cases.now) wants.now) }
+    requires few { All HasFewRuns settings.now }
+    ensures { OnOk result (string_bytes text.new ≡ string_bytes text.old ++ flat_map (want_line settings.now) wants.now) }
 {
     for want in wants {
-        push_want(alloc, text, want, cases)?;
+        push_want(alloc, text, want, settings)?;
     }
     Ok(())
 }
@@ -61,30 +61,30 @@ fn push_want(
     alloc: Global,
     text: &mut String,
     want: &Want,
-    cases: &[CaseSummary],
+    settings: &[SettingSummary],
 ) -> Result<(), Memory>
     requires bounded { IsBounded want.now }
-    requires few { All HasFewRuns cases.now }
-    ensures { OnOk result (string_bytes text.new ≡ string_bytes text.old ++ want_line cases.now want.now) }
+    requires few { All HasFewRuns settings.now }
+    ensures { OnOk result (string_bytes text.new ≡ string_bytes text.old ++ want_line settings.now want.now) }
 {
-    let shown = showing(want, cases);
-    let refuted = refuting(want, cases);
-    let left = cases.len().saturating_sub(shown).saturating_sub(refuted);
+    let shown = showing(want, settings);
+    let refuted = refuting(want, settings);
+    let left = settings.len().saturating_sub(shown).saturating_sub(refuted);
     let word = want.word;
     let line = format!(in alloc; "wanted: {word} shown={shown} open={left} refuted={refuted}\n")?;
     text.push_str(line.as_str())?;
     Ok(())
 }
 
-/// How many cases show what is wanted.
-fn showing(want: &Want, cases: &[CaseSummary]) -> usize
+/// How many settings show what is wanted.
+fn showing(want: &Want, settings: &[SettingSummary]) -> usize
     requires bounded { IsBounded want.now }
-    requires few { All HasFewRuns cases.now }
-    ensures { result ≡ showing cases.now want.now }
+    requires few { All HasFewRuns settings.now }
+    ensures { result ≡ showing settings.now want.now }
 {
     let mut count = 0;
-    for case in cases {
-        if shows(want.statistic, want.most, case) {
+    for setting in settings {
+        if shows(want.statistic, want.most, setting) {
             count += 1;
         }
     }
@@ -92,81 +92,81 @@ fn showing(want: &Want, cases: &[CaseSummary]) -> usize
 }
 
 /// How many show that it isn't so.
-fn refuting(want: &Want, cases: &[CaseSummary]) -> usize
+fn refuting(want: &Want, settings: &[SettingSummary]) -> usize
     requires bounded { IsBounded want.now }
-    requires few { All HasFewRuns cases.now }
-    ensures { result ≡ refuting cases.now want.now }
+    requires few { All HasFewRuns settings.now }
+    ensures { result ≡ refuting settings.now want.now }
 {
     let mut count = 0;
-    for case in cases {
-        if refutes(want.statistic, want.most, case) {
+    for setting in settings {
+        if refutes(want.statistic, want.most, setting) {
             count += 1;
         }
     }
     count
 }
 
-/// Adds the lines of the cases that meet all, or may.
-fn push_cases(
+/// Adds the lines of the settings that meet all, or may.
+fn push_settings(
     alloc: Global,
     text: &mut String,
     plan: &Plan,
     wants: &[Want],
-    cases: &[CaseSummary],
+    settings: &[SettingSummary],
 ) -> Result<(), Memory>
     requires bounded { All IsBounded wants.now }
-    requires few { All HasFewRuns cases.now }
-    requires all { length cases.now ≡ case_count plan.now.settings }
+    requires few { All HasFewRuns settings.now }
+    requires all { length settings.now ≡ setting_count plan.now.swept_keys }
     ensures { OnOk result (string_bytes text.new
-        ≡ string_bytes text.old ++ flat_map (λ told. case_told wants.now told.0 told.1) (zip (cases_of plan.now.settings) cases.now)) }
+        ≡ string_bytes text.old ++ flat_map (λ told. setting_told wants.now told.0 told.1) (zip (settings_of plan.now.swept_keys) settings.now)) }
 {
-    for (number, case) in cases.iter().enumerate() {
-        push_case(alloc, text, plan, wants, number, case)?;
+    for (number, setting) in settings.iter().enumerate() {
+        push_setting(alloc, text, plan, wants, number, setting)?;
     }
     Ok(())
 }
 
-/// Adds the line of the case of this number, where it meets all or may.
-fn push_case(
+/// Adds the line of the setting of this number, where it meets all or may.
+fn push_setting(
     alloc: Global,
     text: &mut String,
     plan: &Plan,
     wants: &[Want],
     number: usize,
-    case: &CaseSummary,
+    setting: &SettingSummary,
 ) -> Result<(), Memory>
     requires bounded { All IsBounded wants.now }
-    requires few { HasFewRuns case.now }
-    requires within { number < case_count plan.now.settings }
-    ensures { OnOk result ((chosen : List AnyChoice) → slice_get (cases_of plan.now.settings) number ≡ Some chosen
-        → string_bytes text.new ≡ string_bytes text.old ++ case_told wants.now chosen case.now) }
+    requires few { HasFewRuns setting.now }
+    requires within { number < setting_count plan.now.swept_keys }
+    ensures { OnOk result ((chosen : List AnyChoice) → slice_get (settings_of plan.now.swept_keys) number ≡ Some chosen
+        → string_bytes text.new ≡ string_bytes text.old ++ setting_told wants.now chosen setting.now) }
 {
-    let chosen = plan.case_at(alloc, number)?;
-    push_told(alloc, text, wants, &chosen, case)
+    let chosen = plan.setting_at(alloc, number)?;
+    push_told(alloc, text, wants, &chosen, setting)
 }
 
-/// Adds the line of a case with these settings, likewise.
+/// Adds the line of a setting with these choices, likewise.
 fn push_told(
     alloc: Global,
     text: &mut String,
     wants: &[Want],
     chosen: &[Choice],
-    case: &CaseSummary,
+    setting: &SettingSummary,
 ) -> Result<(), Memory>
     requires bounded { All IsBounded wants.now }
-    requires few { HasFewRuns case.now }
-    ensures { OnOk result (string_bytes text.new ≡ string_bytes text.old ++ case_told wants.now chosen.now case.now) }
+    requires few { HasFewRuns setting.now }
+    ensures { OnOk result (string_bytes text.new ≡ string_bytes text.old ++ setting_told wants.now chosen.now setting.now) }
 {
-    if meets(wants, case) {
+    if meets(wants, setting) {
         text.push_str("meets: ")?;
-        push_settings(alloc, text, chosen)?;
+        push_swept_keys(alloc, text, chosen)?;
         text.push_str("\n")?;
         return Ok(());
     }
-    if may_meet(wants, case) {
+    if may_meet(wants, setting) {
         text.push_str("may: ")?;
-        push_settings(alloc, text, chosen)?;
-        push_more(alloc, text, more_runs(wants, case))?;
+        push_swept_keys(alloc, text, chosen)?;
+        push_more(alloc, text, more_runs(wants, setting))?;
         text.push_str("\n")?;
     }
     Ok(())
@@ -186,31 +186,31 @@ fn push_more(alloc: Global, text: &mut String, more: Option<u128>) -> Result<(),
     Ok(())
 }
 
-/// Adds the settings of a case.
-fn push_settings(alloc: Global, text: &mut String, chosen: &[Choice]) -> Result<(), Memory>
-    ensures { OnOk result (string_bytes text.new ≡ string_bytes text.old ++ settings_told chosen.now) }
+/// Adds the choices of a setting.
+fn push_swept_keys(alloc: Global, text: &mut String, chosen: &[Choice]) -> Result<(), Memory>
+    ensures { OnOk result (string_bytes text.new ≡ string_bytes text.old ++ swept_keys_told chosen.now) }
 {
     if chosen.is_empty() {
         text.push_str("the scenario as it is")?;
         return Ok(());
     }
-    let settings = settings_text(alloc, chosen)?;
-    text.push_str(settings.as_str())?;
+    let swept_keys = choices_text(alloc, chosen)?;
+    text.push_str(swept_keys.as_str())?;
     Ok(())
 }
 
-/// Adds the line of the best case.
+/// Adds the line of the best setting.
 fn push_best(
     alloc: Global,
     text: &mut String,
     plan: &Plan,
     best: Option<usize>,
 ) -> Result<(), Memory>
-    requires { ForSome best (λ place. place < case_count plan.now.settings) }
-    ensures { OnOk result (string_bytes text.new ≡ string_bytes text.old ++ best_line (cases_of plan.now.settings) best) }
+    requires { ForSome best (λ place. place < setting_count plan.now.swept_keys) }
+    ensures { OnOk result (string_bytes text.new ≡ string_bytes text.old ++ best_line (settings_of plan.now.swept_keys) best) }
 {
     match best {
-        Some(place) => push_best_case(alloc, text, plan, place),
+        Some(place) => push_best_setting(alloc, text, plan, place),
         None => {
             text.push_str("best: none\n")?;
             Ok(())
@@ -218,15 +218,20 @@ fn push_best(
     }
 }
 
-/// Adds the line that names the case at a place as the best.
-fn push_best_case(alloc: Global, text: &mut String, plan: &Plan, place: usize) -> Result<(), Memory>
-    requires { place < case_count plan.now.settings }
-    ensures { OnOk result ((chosen : List AnyChoice) → slice_get (cases_of plan.now.settings) place ≡ Some chosen
-        → string_bytes text.new ≡ string_bytes text.old ++ (codes "best: " ++ settings_told chosen ++ codes "\n")) }
+/// Adds the line that names the setting at a place as the best.
+fn push_best_setting(
+    alloc: Global,
+    text: &mut String,
+    plan: &Plan,
+    place: usize,
+) -> Result<(), Memory>
+    requires { place < setting_count plan.now.swept_keys }
+    ensures { OnOk result ((chosen : List AnyChoice) → slice_get (settings_of plan.now.swept_keys) place ≡ Some chosen
+        → string_bytes text.new ≡ string_bytes text.old ++ (codes "best: " ++ swept_keys_told chosen ++ codes "\n")) }
 {
-    let chosen = plan.case_at(alloc, place)?;
+    let chosen = plan.setting_at(alloc, place)?;
     text.push_str("best: ")?;
-    push_settings(alloc, text, &chosen)?;
+    push_swept_keys(alloc, text, &chosen)?;
     text.push_str("\n")?;
     Ok(())
 }

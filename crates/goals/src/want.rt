@@ -1,4 +1,4 @@
-//! What is wanted of a case.
+//! What is wanted of a setting.
 ghost use Rattle.std.specs.Prelude.{◌≡◌, ◌<◌, ◌^◌, IfSome, IsNone};
 ghost use Rattle.goals.specs.declared.want.Want.{Want as Wanted};
 ghost use Rattle.goals.specs.Words.{IsWantWord};
@@ -7,9 +7,9 @@ ghost use Rattle.goals.specs.Wants.{HasFewRuns, IsBounded, is_figure_up_to, refu
 use crate::bounds::{is_past, is_up_to};
 use crate::numbers::millionths;
 use crate::statistic::Statistic;
-use figures::CaseSummary;
+use figures::SettingSummary;
 
-/// What is wanted of a case: that a statistic is at most a bound.
+/// What is wanted of a setting: that a statistic is at most a bound.
 #[derive(Clone, Copy, Debug, PartialEq, Eq)]
 pub struct Want<'a> {
     /// The word that says it, as `out<=0.01`.
@@ -44,36 +44,36 @@ impl<'a> Want<'a> {
     }
 }
 
-/// Whether a case shows that a statistic is at most a bound in millionths: of `out` the whole 95 % interval, else its figure.
-pub(crate) fn shows(statistic: Statistic, most: u128, case: &CaseSummary) -> bool
-    requires few { HasFewRuns case.now }
+/// Whether a setting shows that a statistic is at most a bound in millionths: of `out` the whole 95 % interval, else its figure.
+pub(crate) fn shows(statistic: Statistic, most: u128, setting: &SettingSummary) -> bool
+    requires few { HasFewRuns setting.now }
     requires bound { most < 2 ^ 100 }
-    ensures { result ≡ shows statistic most case.now }
+    ensures { result ≡ shows statistic most setting.now }
 {
     match statistic {
-        Statistic::Out => is_up_to(most, case.runs_with, case.runs),
-        _ => is_figure_up_to(statistic, most, case),
+        Statistic::Out => is_up_to(most, setting.runs_with, setting.runs),
+        _ => is_figure_up_to(statistic, most, setting),
     }
 }
 
 /// Whether it shows that the statistic is more.
-pub(crate) fn refutes(statistic: Statistic, most: u128, case: &CaseSummary) -> bool
-    requires few { HasFewRuns case.now }
+pub(crate) fn refutes(statistic: Statistic, most: u128, setting: &SettingSummary) -> bool
+    requires few { HasFewRuns setting.now }
     requires bound { most < 2 ^ 100 }
-    ensures { result ≡ refutes statistic most case.now }
+    ensures { result ≡ refutes statistic most setting.now }
 {
     match statistic {
-        Statistic::Out => most < 1_000_000 && is_past(most, case.runs_with, case.runs),
-        _ => !is_figure_up_to(statistic, most, case),
+        Statistic::Out => most < 1_000_000 && is_past(most, setting.runs_with, setting.runs),
+        _ => !is_figure_up_to(statistic, most, setting),
     }
 }
 
 /// Whether a figure is up to a bound.
-fn is_figure_up_to(statistic: Statistic, most: u128, case: &CaseSummary) -> bool
+fn is_figure_up_to(statistic: Statistic, most: u128, setting: &SettingSummary) -> bool
     requires { most < 2 ^ 100 }
-    ensures { result ≡ is_figure_up_to statistic most case.now }
+    ensures { result ≡ is_figure_up_to statistic most setting.now }
 {
-    match statistic.figure(case) {
+    match statistic.figure(setting) {
         Some(figure) => figure <= most * statistic.parts() / 1_000_000,
         None => false,
     }

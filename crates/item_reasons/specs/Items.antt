@@ -4,13 +4,13 @@ use Rattle.std.specs.Fmt.{decimal}
 use Rattle.toml.specs.Data.{Data}
 use Rattle.sweep_plan.specs.Keys.{IsKeyNamed}
 use Rattle.sweep_plan.specs.Missing.{meant_count}
-use Rattle.sweep_plan.specs.declared.keys.SettingKey.{SettingKey}
+use Rattle.sweep_plan.specs.declared.keys.SweptKey.{SweptKey}
 use Rattle.reasons.specs.declared.items.ItemReason.{ItemReason}
 use Rattle.reasons.specs.declared.items.ItemReason.TheVariants.{Absent, Many, PastLast}
 
 -- the word is the name of a key that means so many items
 pub record Means (tree : Data) (word : List ℕ) (count : ℕ) : Type 0 where
-  pub key : SettingKey
+  pub key : SweptKey
   pub named : IsKeyNamed word key
   pub counted : count ≡ meant_count tree key.table key.item
 

@@ -9,7 +9,7 @@ use base::Memory;
 use decimals::number;
 use reasons::ItemReason;
 use std::alloc::Global;
-use sweep_plan::{SettingKey, items_meant};
+use sweep_plan::{SweptKey, items_meant};
 use toml::Value;
 
 /// Why a key, as a word says it, means no one item of a document: several have its name, or so many that its number is past the
@@ -42,7 +42,7 @@ fn absent(alloc: Global, word: &str) -> Result<ItemReason, Memory>
 fn count_of(alloc: Global, word: &str, document: &Value) -> Result<usize, Memory>
     ensures { IfOk result (λ count. 1 ≤ count → Means (view document.now) word.now count) }
 {
-    match SettingKey::named(word) {
+    match SweptKey::named(word) {
         Some(key) => items_meant(alloc, key, document),
         None => Ok(0),
     }

@@ -10,7 +10,7 @@ use Rattle.files.specs.Files.{HoldsNow, ClosesAs, KeepsOthers, KeepsAllOthers, A
 use Rattle.command_line.specs.declared.failure.Failure.{Failure}
 use Rattle.command_line.specs.declared.failure.Failure.TheVariants.{Run}
 use Rattle.scenario_files.specs.Shelves.{Shelf, HoldsBeginning}
-use Rattle.scenario_files.specs.Told.{run_told}
+use Rattle.scenario_files.specs.Told.{run_result}
 use Rattle.scenario_files.proofs.Held.{holds_beginning, holds_text}
 use Rattle.scenario_files.proofs.Pairs.{first_begins, first_holds, others_kept, second_begins, second_holds}
 use Rattle.join_command.specs.Outcomes.{AppendsBoth, BeginsBoth, FailsToStore, FailsToStoreBoth, Stores, StoresBoth}
@@ -26,10 +26,10 @@ each_on_err (Ok x) a turn = tt
 each_on_err (Err e) a turn = turn a
 
 -- what holds where a run was done holds where it is told as done
-pub told_on_ok : {T : Type 0} (P : Type 0) (outcome : Result T Fault) (told : Result T Failure) → told ≡ run_told outcome → OnOk outcome P → OnOk told P
+pub told_on_ok : {T : Type 0} (P : Type 0) (outcome : Result T Fault) (told : Result T Failure) → told ≡ run_result outcome → OnOk outcome P → OnOk told P
 told_on_ok {T} P outcome told is done = subst (λ r. OnOk r P) (sym is) (go outcome done)
   where
-    go : (r : Result T Fault) → OnOk r P → OnOk (run_told r) P
+    go : (r : Result T Fault) → OnOk r P → OnOk (run_result r) P
     go (Ok x) h = h
     go (Err e) h = tt
 

@@ -1,9 +1,9 @@
-//! The pieces of a sweep in files, put together into the table of the whole.
+//! The shards of a sweep in files, put together into the table of the whole.
 ghost use Rattle.std.specs.Prelude.{◌≡◌, ◌<◌, All, Some, [], IfOk, IfErr, OnOk, length, string_bytes};
 ghost use Rattle.goals.specs.Wants.{HasFewRuns, IsBounded};
-ghost use Rattle.sweep_plan.specs.Sweep.{case_count};
-ghost use Rattle.sweep_output.specs.Telling.{TellsCases};
-ghost use Rattle.join_command.specs.Outcomes.{FailsToGather, FailsToStoreAsked, FailsToStorePaged, GathersCases, JoinFails, JoinsAll, StoresAsked, StoresPaged};
+ghost use Rattle.sweep_plan.specs.Sweep.{setting_count};
+ghost use Rattle.sweep_output.specs.Telling.{TellsSettings};
+ghost use Rattle.join_command.specs.Outcomes.{FailsToGather, FailsToStoreAsked, FailsToStorePaged, GathersSettings, JoinFails, JoinsAll, StoresAsked, StoresPaged};
 
 use crate::paging::page_of;
 use crate::reading::{gather, name_at};
@@ -13,11 +13,11 @@ use command_line::{Failure, JoinWords, Release};
 use files::Files;
 use shard_merge::Joined;
 use std::alloc::Global;
-use sweep_output::cases_told;
+use sweep_output::settings_printed;
 use trace::Put;
 
-/// Puts the pieces in the files of the words together, and writes the table of the whole to a file, and a page of the cases to
-/// another where one is asked for; they are made once the pieces are put together. Answers what is told of the cases.
+/// Puts the shards in the files of the words together, and writes the table of the whole to a file, and a page of the settings to
+/// another where one is asked for; they are made once the shards are put together. Answers what is told of the settings.
 /// `release` is what the page tells of the program.
 pub fn join_files<'a, F: Files>(
     alloc: Global,
@@ -36,23 +36,23 @@ pub fn join_files<'a, F: Files>(
     Ok(lines)
 }
 
-/// The table of a whole sweep, and what its cases came to.
+/// The table of a whole sweep, and what its settings came to.
 #[derive(Drop)]
 struct Whole {
     table: Vec<u8>,
     joined: Joined,
 }
 
-/// The pieces in the files of the words, put together.
+/// The shards in the files of the words, put together.
 fn gather_whole<'a, F: Files>(
     alloc: Global,
     words: &JoinWords<'a>,
     files: &mut F,
 ) -> Result<Whole, Failure<'a>>
     ensures gathered { IfOk result
-        (λ whole. GathersCases (F.known files.old) words.now.files.items (Some []) (Some whole.table.items)
-        whole.joined.plan whole.joined.revived whole.joined.cases.items) }
-    ensures few { IfOk result (λ whole. All HasFewRuns whole.joined.cases.items) }
+        (λ whole. GathersSettings (F.known files.old) words.now.files.items (Some []) (Some whole.table.items)
+        whole.joined.plan whole.joined.revived whole.joined.settings.items) }
+    ensures few { IfOk result (λ whole. All HasFewRuns whole.joined.settings.items) }
     ensures failed { IfErr result (FailsToGather (F.known files.old) words.now.files.items words.now.table) }
     ensures same { F.known files.new ≡ F.known files.old }
     ensures making { F.making files.new ≡ F.making files.old }
@@ -72,29 +72,29 @@ fn gather_whole<'a, F: Files>(
     })
 }
 
-/// What is told of the cases.
+/// What is told of the settings.
 fn tell(alloc: Global, words: &JoinWords<'_>, joined: &Joined) -> Result<String, Failure<'static>>
     requires wants { All IsBounded words.now.wants.items }
-    requires few { All HasFewRuns joined.now.cases.items }
-    requires all { length joined.now.cases.items ≡ case_count joined.now.plan.settings }
+    requires few { All HasFewRuns joined.now.settings.items }
+    requires all { length joined.now.settings.items ≡ setting_count joined.now.plan.swept_keys }
     ensures told { IfOk result
-        (λ lines. TellsCases words.now.jsonl joined.now.revived joined.now.plan words.now.wants.items joined.now.cases.items (string_bytes lines)) }
+        (λ lines. TellsSettings words.now.jsonl joined.now.revived joined.now.plan words.now.wants.items joined.now.settings.items (string_bytes lines)) }
     ensures refused { IfErr result (λ failure. failure ≡ Failure.Memory) }
 {
-    match cases_told(
+    match settings_printed(
         alloc,
         &joined.plan,
         words.wants.as_slice(),
         words.jsonl,
         joined.revived,
-        joined.cases.as_slice(),
+        joined.settings.as_slice(),
     ) {
         Ok(lines) => Ok(lines),
         Err(Memory) => Err(Failure::Memory),
     }
 }
 
-/// Writes the table to the file that the words name, and a page of the cases to another where one is asked for.
+/// Writes the table to the file that the words name, and a page of the settings to another where one is asked for.
 fn store_asked<'a, F: Files>(
     alloc: Global,
     release: &Release<'_>,
@@ -103,13 +103,13 @@ fn store_asked<'a, F: Files>(
     files: &mut F,
 ) -> Result<(), Failure<'a>>
     requires wants { All IsBounded words.now.wants.items }
-    requires few { All HasFewRuns whole.now.joined.cases.items }
-    requires all { length whole.now.joined.cases.items ≡ case_count whole.now.joined.plan.settings }
+    requires few { All HasFewRuns whole.now.joined.settings.items }
+    requires all { length whole.now.joined.settings.items ≡ setting_count whole.now.joined.plan.swept_keys }
     ensures done { OnOk result (StoresAsked words.now.page release.now.version.now (F.known files.old) (F.known files.new) (F.making files.old) words.now
-        whole.now.joined.plan whole.now.joined.cases.items whole.now.table.items) }
+        whole.now.joined.plan whole.now.joined.settings.items whole.now.table.items) }
     ensures failed { IfErr result (FailsToStoreAsked words.now.page (F.refused files.old < F.refused files.new) release.now.version.now
         (F.known files.old) (F.known files.new) (F.making files.old) words.now
-        whole.now.joined.plan whole.now.joined.cases.items whole.now.table.items) }
+        whole.now.joined.plan whole.now.joined.settings.items whole.now.table.items) }
 {
     match words.page {
         Some(page) => store_paged(alloc, release, words, whole, page, files),
@@ -120,7 +120,7 @@ fn store_asked<'a, F: Files>(
     }
 }
 
-/// Writes the table and a page of the cases to files of these names. Either both are made or neither is.
+/// Writes the table and a page of the settings to files of these names. Either both are made or neither is.
 fn store_paged<'a, F: Files>(
     alloc: Global,
     release: &Release<'_>,
@@ -130,13 +130,13 @@ fn store_paged<'a, F: Files>(
     files: &mut F,
 ) -> Result<(), Failure<'a>>
     requires wants { All IsBounded words.now.wants.items }
-    requires few { All HasFewRuns whole.now.joined.cases.items }
-    requires all { length whole.now.joined.cases.items ≡ case_count whole.now.joined.plan.settings }
+    requires few { All HasFewRuns whole.now.joined.settings.items }
+    requires all { length whole.now.joined.settings.items ≡ setting_count whole.now.joined.plan.swept_keys }
     ensures done { OnOk result (StoresPaged release.now.version.now page.entry.now (F.known files.old) (F.known files.new) (F.making files.old) words.now
-        whole.now.joined.plan whole.now.joined.cases.items whole.now.table.items) }
+        whole.now.joined.plan whole.now.joined.settings.items whole.now.table.items) }
     ensures failed { IfErr result (FailsToStorePaged (F.refused files.old < F.refused files.new) release.now.version.now page.entry.now
         (F.known files.old) (F.known files.new) (F.making files.old) words.now
-        whole.now.joined.plan whole.now.joined.cases.items whole.now.table.items) }
+        whole.now.joined.plan whole.now.joined.settings.items whole.now.table.items) }
 {
     let source = name_at(words.files.as_slice(), words.table, 0);
     let text = page_of(

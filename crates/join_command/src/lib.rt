@@ -1,5 +1,5 @@
-//! The commands `join` and `page`: the pieces of a sweep in files, and the files that take the table of the whole and a page
-//! of its cases.
+//! The commands `join` and `page`: the shards of a sweep in files, and the files that take the table of the whole and a page
+//! of its settings.
 #![tactic(auto)]
 
 mod joining;

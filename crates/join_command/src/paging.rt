@@ -1,7 +1,7 @@
-//! A page of the cases that the pieces of a sweep came to.
+//! A page of the settings that the shards of a sweep came to.
 ghost use Rattle.std.specs.Prelude.{◌≡◌, All, ◌<◌, IfOk, IfErr, OnOk, length, string_bytes};
 ghost use Rattle.goals.specs.Wants.{HasFewRuns, IsBounded};
-ghost use Rattle.sweep_plan.specs.Sweep.{case_count};
+ghost use Rattle.sweep_plan.specs.Sweep.{setting_count};
 ghost use Rattle.sweep_output.specs.Telling.{IsSweepPage};
 ghost use Rattle.join_command.specs.Outcomes.{FailsToStorePage, PageFails, PagesAll, StoresPage, scenario_name};
 
@@ -14,10 +14,10 @@ use goals::Want;
 use shard_merge::Joined;
 use std::alloc::Global;
 use std::io;
-use sweep_output::{SweepShown, cases_page};
+use sweep_output::{SweepShown, settings_page};
 use trace::Put;
 
-/// Puts the pieces in the files of the words together, and writes a page of the cases to a file, which is made once they are.
+/// Puts the shards in the files of the words together, and writes a page of the settings to a file, which is made once they are.
 /// `release` is what the page tells of the program.
 pub fn page_files<'a, F: Files>(
     alloc: Global,
@@ -39,7 +39,7 @@ pub fn page_files<'a, F: Files>(
     store_page(alloc, release, words, &joined, files)
 }
 
-/// Writes a page of the cases to the file that the words name.
+/// Writes a page of the settings to the file that the words name.
 fn store_page<'a, F: Files>(
     alloc: Global,
     release: &Release<'_>,
@@ -47,20 +47,20 @@ fn store_page<'a, F: Files>(
     joined: &Joined,
     files: &mut F,
 ) -> Result<(), Failure<'a>>
-    requires few { All HasFewRuns joined.now.cases.items }
-    requires all { length joined.now.cases.items ≡ case_count joined.now.plan.settings }
+    requires few { All HasFewRuns joined.now.settings.items }
+    requires all { length joined.now.settings.items ≡ setting_count joined.now.plan.swept_keys }
     ensures done { OnOk result (StoresPage release.now.version.now (F.known files.old) (F.known files.new) (F.making files.old) words.now
-        joined.now.plan joined.now.cases.items) }
+        joined.now.plan joined.now.settings.items) }
     ensures failed { IfErr result (FailsToStorePage (F.refused files.old < F.refused files.new) release.now.version.now
         (F.known files.old) (F.known files.new) (F.making files.old) words.now
-        joined.now.plan joined.now.cases.items) }
+        joined.now.plan joined.now.settings.items) }
 {
     let source = name_at(words.files.as_slice(), words.page, 0);
     let text = page_of(alloc, release, words.name, source, &[], joined)?;
     store(source, words.page, text.as_bytes(), files)
 }
 
-/// The page of the cases, which calls the scenario by a name, or as its source where none is given, and answers what is wanted.
+/// The page of the settings, which calls the scenario by a name, or as its source where none is given, and answers what is wanted.
 pub(crate) fn page_of(
     alloc: Global,
     release: &Release<'_>,
@@ -70,17 +70,23 @@ pub(crate) fn page_of(
     joined: &Joined,
 ) -> Result<String, Failure<'static>>
     requires wants { All IsBounded wants.now }
-    requires few { All HasFewRuns joined.now.cases.items }
-    requires all { length joined.now.cases.items ≡ case_count joined.now.plan.settings }
+    requires few { All HasFewRuns joined.now.settings.items }
+    requires all { length joined.now.settings.items ≡ setting_count joined.now.plan.swept_keys }
     ensures page { IfOk result
-        (λ text. IsSweepPage (scenario_name name.entry source.entry).now release.now.version.now joined.now.plan wants.now joined.now.cases.items (string_bytes text)) }
+        (λ text. IsSweepPage (scenario_name name.entry source.entry).now release.now.version.now joined.now.plan wants.now joined.now.settings.items (string_bytes text)) }
     ensures refused { IfErr result (λ failure. failure ≡ Failure.Memory) }
 {
     let shown = SweepShown {
         name: name.unwrap_or(source),
         release: release.version,
     };
-    match cases_page(alloc, &shown, &joined.plan, wants, joined.cases.as_slice()) {
+    match settings_page(
+        alloc,
+        &shown,
+        &joined.plan,
+        wants,
+        joined.settings.as_slice(),
+    ) {
         Ok(text) => Ok(text),
         Err(Memory) => Err(Failure::Memory),
     }

@@ -1,17 +1,17 @@
-//! The pieces in files, put together.
+//! The shards in files, put together.
 ghost use Rattle.std.specs.Prelude.{◌≡◌, ◌<◌, ◌^◌, All, IfOk, IfErr};
 ghost use Rattle.goals.specs.Wants.{HasFewRuns};
 ghost use Rattle.shard_merge.specs.Joined.{Joins};
-ghost use Rattle.join_command.specs.Outcomes.{FailsToGather, FailsToRead, GathersCases, HoldTexts, RefusesPieces, name_at, piece_failure};
+ghost use Rattle.join_command.specs.Outcomes.{FailsToGather, FailsToRead, GathersSettings, HoldTexts, RefusesShards, name_at, shard_failure};
 
-use command_line::{Failure, PieceFault};
+use command_line::{Failure, ShardFault};
 use files::Files;
 use scenario_files::load_bytes;
 use shard_merge::{JoinFault, Joined, join};
 use std::alloc::Global;
 use trace::Sink;
 
-/// Puts the pieces in the files of these names together: the table of the whole goes to the sink, and what the cases came to
+/// Puts the shards in the files of these names together: the table of the whole goes to the sink, and what the settings came to
 /// is given. Where there is no name, `otherwise` is told in its place.
 pub(crate) fn gather<'a, F: Files, S: Sink>(
     alloc: Global,
@@ -22,8 +22,8 @@ pub(crate) fn gather<'a, F: Files, S: Sink>(
 ) -> Result<Joined, Failure<'a>>
     requires countable { S.failed table.old < 2 ^ 63 }
     ensures gathered { IfOk result
-        (λ joined. GathersCases (F.known files.old) names.now (S.held table.old) (S.held table.new) joined.plan joined.revived joined.cases.items) }
-    ensures few { IfOk result (λ joined. All HasFewRuns joined.cases.items) }
+        (λ joined. GathersSettings (F.known files.old) names.now (S.held table.old) (S.held table.new) joined.plan joined.revived joined.settings.items) }
+    ensures few { IfOk result (λ joined. All HasFewRuns joined.settings.items) }
     ensures failed { IfErr result (FailsToGather (F.known files.old) names.now otherwise.entry) }
     ensures same { F.known files.new ≡ F.known files.old }
     ensures making { F.making files.new ≡ F.making files.old }
@@ -55,7 +55,7 @@ fn load_texts<'a, F: Files>(
     Ok(texts)
 }
 
-/// The pieces put together.
+/// The shards put together.
 fn join_texts<'a, S: Sink>(
     alloc: Global,
     names: &[&'a str],
@@ -65,9 +65,9 @@ fn join_texts<'a, S: Sink>(
 ) -> Result<Joined, Failure<'a>>
     requires countable { S.failed table.old < 2 ^ 63 }
     ensures joined { IfOk result
-        (λ joined. Joins texts.now (S.held table.old) (S.held table.new) joined.plan joined.revived joined.cases.items) }
-    ensures few { IfOk result (λ joined. All HasFewRuns joined.cases.items) }
-    ensures refused { IfErr result (RefusesPieces names.now otherwise.entry texts.now) }
+        (λ joined. Joins texts.now (S.held table.old) (S.held table.new) joined.plan joined.revived joined.settings.items) }
+    ensures few { IfOk result (λ joined. All HasFewRuns joined.settings.items) }
+    ensures refused { IfErr result (RefusesShards names.now otherwise.entry texts.now) }
 {
     match join(alloc, texts, table) {
         Ok(joined) => Ok(joined),
@@ -77,25 +77,25 @@ fn join_texts<'a, S: Sink>(
 
 /// The failure that a fault is told by. A table in memory fails by want of that, and one that is thrown away never.
 fn failure_of<'a>(names: &[&'a str], otherwise: &'a str, fault: JoinFault) -> Failure<'a>
-    ensures { result ≡ piece_failure names.now otherwise.entry fault }
+    ensures { result ≡ shard_failure names.now otherwise.entry fault }
 {
     match fault {
-        JoinFault::NoPiece(place) => {
-            Failure::Pieces(PieceFault::NoPiece(name_at(names, otherwise, place)))
+        JoinFault::NoShard(place) => {
+            Failure::Shards(ShardFault::NoShard(name_at(names, otherwise, place)))
         }
         JoinFault::Other(place) => {
-            Failure::Pieces(PieceFault::Other(name_at(names, otherwise, place)))
+            Failure::Shards(ShardFault::Other(name_at(names, otherwise, place)))
         }
         JoinFault::Doubled(place) => {
-            Failure::Pieces(PieceFault::Doubled(name_at(names, otherwise, place)))
+            Failure::Shards(ShardFault::Doubled(name_at(names, otherwise, place)))
         }
         JoinFault::Torn(place) => {
-            Failure::Pieces(PieceFault::Torn(name_at(names, otherwise, place)))
+            Failure::Shards(ShardFault::Torn(name_at(names, otherwise, place)))
         }
         JoinFault::Older(place) => {
-            Failure::Pieces(PieceFault::Older(name_at(names, otherwise, place)))
+            Failure::Shards(ShardFault::Older(name_at(names, otherwise, place)))
         }
-        JoinFault::Missing(number) => Failure::Pieces(PieceFault::Missing(number)),
+        JoinFault::Missing(number) => Failure::Shards(ShardFault::Missing(number)),
         JoinFault::Write | JoinFault::Memory => Failure::Memory,
     }
 }

@@ -1,4 +1,4 @@
-//! The files that take the table of a whole sweep and a page of its cases.
+//! The files that take the table of a whole sweep and a page of its settings.
 ghost use Rattle.std.specs.Prelude.{◌≡◌, ◌<◌, ◌^◌, ◌+◌, IfErr, OnErr, OnOk};
 ghost use Rattle.std.specs.Io.KnownBytes.{Appends};
 ghost use Rattle.base.specs.declared.fault.Fault.TheVariants as cause;
@@ -9,7 +9,7 @@ ghost use Rattle.join_command.specs.Outcomes.{AppendsBoth, BeginsBoth, FailsToSt
 use base::Fault;
 use command_line::Failure;
 use files::{Files, PairFault};
-use scenario_files::{file_failure, run_told};
+use scenario_files::{file_failure, run_result};
 use std::io::Write;
 use sweep_output::put_text;
 use trace::{Put, Sink, Stopped};
@@ -30,7 +30,7 @@ pub(crate) fn store<'a, F: Files>(
     };
     let (made, outcome) = fill(made, text);
     files.close(name, made);
-    run_told(outcome)
+    run_result(outcome)
 }
 
 /// Writes a table and then a page to the files of these names, none of which is that of the source. Either both are made or
@@ -57,7 +57,7 @@ pub(crate) fn store_both<'a, F: Files>(
     let (made, made_page, outcome) = fill_both(made, table, made_page, shown);
     files.close(name, made);
     files.close(page, made_page);
-    run_told(outcome)
+    run_result(outcome)
 }
 
 /// Writes a text to a writer, and gives it back.

@@ -59,7 +59,7 @@ pub fn run_with_page<A: Sink, B: Sink, C: Sink, W: Write, R: Threads + Wait + Sy
 {
     let _end = scenario.end();
     the_run_is_one();
-    let (trace, outcome) = run_told(rt, alloc, scenario, division, workers, watch, trace, report);
+    let (trace, outcome) = run_result(rt, alloc, scenario, division, workers, watch, trace, report);
     match outcome {
         Ok(told) => (trace, write_page(alloc, scenario, shown, &told, page)),
         Err(cause) => (trace, Err(cause)),
@@ -67,7 +67,7 @@ pub fn run_with_page<A: Sink, B: Sink, C: Sink, W: Write, R: Threads + Wait + Sy
 }
 
 /// Runs the scenario, writes its trace and its report, and tells what its page goes by.
-fn run_told<A: Sink, B: Sink, W: Write, R: Threads + Wait + Sync>(
+fn run_result<A: Sink, B: Sink, W: Write, R: Threads + Wait + Sync>(
     rt: &R,
     alloc: Global,
     scenario: &Scenario,

@@ -1,2 +1,2 @@
-mod CutCases
+mod CutSettings
 mod Standing

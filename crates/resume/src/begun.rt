@@ -1,58 +1,58 @@
-//! What stands of the table of a piece of whole cases in a text.
+//! What stands of the table of a shard of whole settings in a text.
 ghost use Rattle.std.specs.Prelude.{◌≡◌, ◌≤◌, ◌+◌, ◌-◌, List, ℕ, Some, IfOk, IfErr, length, take};
 ghost use Rattle.std.specs.Str.{IsValidUpTo};
 ghost use Rattle.toml.specs.View.{view};
-ghost use Rattle.shards.specs.Pieces.{IsPiece};
+ghost use Rattle.shards.specs.Shards.{IsShard};
 ghost use Rattle.sweep.specs.Runs.{IsAskedFor};
-ghost use Rattle.sweep.specs.Table.{tells_revived};
-ghost use Rattle.resume.specs.Begun.{IsBegunCases, IsRead, RefusesBegunCases};
+ghost use Rattle.sweep.specs.Table.{counts_revived};
+ghost use Rattle.resume.specs.Begun.{IsBegunSettings, IsRead, RefusesBegunSettings};
 
-use shards::Piece;
+use shards::Shard;
 use std::alloc::Global;
 use std::str::from_utf8;
 use sweep::{BegunFault, lines_behind, sweep_key};
 use sweep_plan::Plan;
-use sweep_until::BegunCases;
-use table_rows::cases_of_runs;
+use sweep_until::BegunSettings;
+use table_rows::settings_of_runs;
 use toml::Value;
 
-/// What stands of a piece's table in a text, where a case has as many runs as make its interval so many hundredths wide at
-/// most: its first line or a beginning of that, and behind it the lines of its first cases, as many as are whole. Each line has
-/// its checksum, and the values and the seed that the plan asks for at its place. From the first case that isn't so on nothing
+/// What stands of a shard's table in a text, where a setting has as many runs as make its interval so many hundredths wide at
+/// most: its first line or a beginning of that, and behind it the lines of its first settings, as many as are whole. Each line has
+/// its checksum, and the values and the seed that the plan asks for at its place. From the first setting that isn't so on nothing
 /// counts.
 ///
 /// Faults: `Other` where the text begins otherwise; `Older` where it goes on with a line without a checksum; `Memory`.
-pub fn begun_cases_of(
+pub fn begun_settings_of(
     alloc: Global,
     plan: &Plan,
-    piece: Piece,
+    shard: Shard,
     mark: &str,
     width: u64,
     document: &Value,
     text: &[u8],
-) -> Result<BegunCases, BegunFault>
+) -> Result<BegunSettings, BegunFault>
     requires asked { IsAskedFor plan.now }
-    requires piece { IsPiece piece }
+    requires shard { IsShard shard }
     requires wanted { plan.now.until ≡ Some width }
-    ensures begun { IfOk result (λ begun. IsBegunCases (tells_revived (view document.now)) mark.now plan.now width piece text.now begun.kept begun.cases) }
-    ensures refused { IfErr result (RefusesBegunCases (tells_revived (view document.now)) mark.now plan.now piece text.now) }
+    ensures begun { IfOk result (λ begun. IsBegunSettings (counts_revived (view document.now)) mark.now plan.now width shard text.now begun.kept begun.settings) }
+    ensures refused { IfErr result (RefusesBegunSettings (counts_revived (view document.now)) mark.now plan.now shard text.now) }
 {
-    let Some(lines) = lines_behind(alloc, plan, piece, mark, document, text)? else {
-        return Ok(BegunCases {
+    let Some(lines) = lines_behind(alloc, plan, shard, mark, document, text)? else {
+        return Ok(BegunSettings {
             kept: text.len(),
-            cases: 0,
+            settings: 0,
         });
     };
     let key = sweep_key(alloc, plan, mark)?;
-    let count = plan.cases();
-    let first = piece.first(count);
-    let most = piece.past(count) - first;
+    let count = plan.settings();
+    let first = shard.first(count);
+    let most = shard.past(count) - first;
     let words = read_front(lines);
-    let stood = cases_of_runs(alloc, plan, &key, width, first, most, words)?;
+    let stood = settings_of_runs(alloc, plan, &key, width, first, most, words)?;
     let kept = kept_of(text, lines, words, stood.left);
-    Ok(BegunCases {
+    Ok(BegunSettings {
         kept,
-        cases: stood.count,
+        settings: stood.count,
     })
 }
 

@@ -3,7 +3,7 @@ use Rattle.std.proofs.Common.{◌≡◌, ◌⊎◌, ◌+◌, ◌<◌, ℕ, Optio
 use Rattle.base.specs.declared.fault.Fault.{Fault}
 use Rattle.command_line.specs.declared.failure.Failure.{Failure}
 use Rattle.files.specs.Files.{KnownFile}
-use Rattle.scenario_files.specs.Told.{run_told}
+use Rattle.scenario_files.specs.Told.{run_result}
 
 -- a sink that takes everything has not failed
 pub not_nowhere : {P : Type 0} → P ⊎ (0 < 0) → P
@@ -43,7 +43,7 @@ three_kept before made one two after first second third same closed closed_too c
     omega (arith, same, closed, closed_too, closed_last, none.0, none.1, none.2)
 
 -- what holds where a run was done holds where it is told as done
-pub told_whole : {T : Type 0} (P Q : Type 0) (outcome : Result T Fault) (told : Result T Failure) → told ≡ run_told outcome → OnOk outcome P → (P → Q) → OnOk told Q
+pub told_whole : {T : Type 0} (P Q : Type 0) (outcome : Result T Fault) (told : Result T Failure) → told ≡ run_result outcome → OnOk outcome P → (P → Q) → OnOk told Q
 told_whole P Q (Ok x) told is whole then = subst (λ r. OnOk r Q) (sym is) (then whole)
 told_whole P Q (Err cause) told is whole then = subst (λ r. OnOk r Q) (sym is) tt
 

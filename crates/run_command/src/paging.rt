@@ -10,7 +10,7 @@ use command_line::{Failure, Release, RunWords};
 use files::{Files, PairFault, TripleFault};
 use page_runs::RunShown;
 use run_output::Summary;
-use scenario_files::{PreparedRun, run_told};
+use scenario_files::{PreparedRun, run_result};
 use std::alloc::Global;
 use std::io::Write;
 use trace::Put;
@@ -94,7 +94,7 @@ fn store_two<'a, M: Simulator, F: Files, P: Write>(
     );
     files.close(words.trace, made_trace);
     files.close(page, made_page);
-    run_told(outcome)
+    run_result(outcome)
 }
 
 /// The same with a report.
@@ -147,5 +147,5 @@ fn store_three<'a, M: Simulator, F: Files, P: Write>(
     files.close(words.trace, made_trace);
     files.close(report, made_report);
     files.close(page, made_page);
-    run_told(outcome)
+    run_result(outcome)
 }

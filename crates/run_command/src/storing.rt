@@ -9,7 +9,7 @@ use crate::simulator::Simulator;
 use command_line::{Failure, RunWords};
 use files::{Files, PairFault};
 use run_output::Summary;
-use scenario_files::{PreparedRun, file_failure, run_told};
+use scenario_files::{PreparedRun, file_failure, run_result};
 use std::alloc::Global;
 use std::io::Write;
 use trace::Put;
@@ -75,7 +75,7 @@ fn store_trace<'a, M: Simulator, F: Files, P: Write>(
         Nowhere,
     );
     files.close(words.trace, made);
-    run_told(outcome)
+    run_result(outcome)
 }
 
 /// Runs a scenario, and writes its trace to the file that the words name and its report to another. Either both
@@ -118,5 +118,5 @@ fn store_both<'a, M: Simulator, F: Files, P: Write>(
     );
     files.close(words.trace, made_trace);
     files.close(report, made_report);
-    run_told(outcome)
+    run_result(outcome)
 }

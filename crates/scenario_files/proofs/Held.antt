@@ -7,7 +7,7 @@ use Rattle.files.specs.Files.{KnownFile, HoldsNow, ClosesAs}
 use Rattle.base.specs.declared.fault.Fault.{Fault}
 use Rattle.command_line.specs.declared.failure.Failure.{Failure}
 use Rattle.command_line.specs.declared.failure.Failure.TheVariants as failure
-use Rattle.scenario_files.specs.Told.{run_told}
+use Rattle.scenario_files.specs.Told.{run_result}
 use Rattle.scenario_files.specs.Shelves.{HoldsBeginning}
 
 -- an empty file, closed after a text was written to it, holds the text
@@ -32,18 +32,18 @@ holds_beginning before made after old new text empty fresh written closed = reco
 }
 
 -- a run's answer is told as done where it is, and as its own fault where it isn't
-pub told_done : {T : Type 0} (Q : T → Type 0) (outcome : Result T Fault) (told : Result T Failure) → told ≡ run_told outcome → IfOk outcome Q → IfOk told Q
+pub told_done : {T : Type 0} (Q : T → Type 0) (outcome : Result T Fault) (told : Result T Failure) → told ≡ run_result outcome → IfOk outcome Q → IfOk told Q
 told_done {T} Q outcome told is done = subst (λ r. IfOk r Q) (sym is) (go outcome done)
   where
-    go : (r : Result T Fault) → IfOk r Q → IfOk (run_told r) Q
+    go : (r : Result T Fault) → IfOk r Q → IfOk (run_result r) Q
     go (Ok x) h = h
     go (Err e) h = tt
 
-pub told_failed : {T : Type 0} (Q : Failure → Type 0) (outcome : Result T Fault) (told : Result T Failure) → told ≡ run_told outcome
+pub told_failed : {T : Type 0} (Q : Failure → Type 0) (outcome : Result T Fault) (told : Result T Failure) → told ≡ run_result outcome
     → IfErr outcome (λ cause. Q (failure.Run cause)) → IfErr told Q
 told_failed {T} Q outcome told is failed = subst (λ r. IfErr r Q) (sym is) (go outcome failed)
   where
-    go : (r : Result T Fault) → IfErr r (λ cause. Q (failure.Run cause)) → IfErr (run_told r) Q
+    go : (r : Result T Fault) → IfErr r (λ cause. Q (failure.Run cause)) → IfErr (run_result r) Q
     go (Ok x) h = tt
     go (Err e) h = h
 

@@ -9,6 +9,6 @@ abbrev pub text_failure : ℕ → Failure
 text_failure rule = if rule == 11 then Memory else Rule rule
 
 -- a run is told by its own fault
-abbrev pub run_told : {T : Type 0} → Result T Fault → Result T Failure
-run_told (Ok summary) = Ok summary
-run_told (Err cause) = Err (Run cause)
+abbrev pub run_result : {T : Type 0} → Result T Fault → Result T Failure
+run_result (Ok summary) = Ok summary
+run_result (Err cause) = Err (Run cause)

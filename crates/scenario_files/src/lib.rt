@@ -7,4 +7,4 @@ mod texts;
 
 pub use checks::{PreparedRun, prepare};
 pub use loading::{MarkedDocument, file_failure, load, load_bytes, load_document};
-pub use texts::{check, run_told};
+pub use texts::{check, run_result};

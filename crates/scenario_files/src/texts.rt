@@ -2,7 +2,7 @@
 ghost use Rattle.std.specs.Prelude.{◌≡◌, Ok, IfOk, IfErr};
 ghost use Rattle.scenario_reader.specs.Rules.{verdict};
 ghost use Rattle.command_line.specs.Failures.{RefusesText};
-ghost use Rattle.scenario_files.specs.Told.{run_told, text_failure};
+ghost use Rattle.scenario_files.specs.Told.{run_result, text_failure};
 
 use base::Fault;
 use command_line::Failure;
@@ -36,8 +36,8 @@ pub(crate) fn text_failure(rule: u8) -> Failure<'static>
 }
 
 /// What came of runs, their fault as a failure.
-pub fn run_told<T>(outcome: Result<T, Fault>) -> Result<T, Failure<'static>>
-    ensures { result ≡ run_told outcome }
+pub fn run_result<T>(outcome: Result<T, Fault>) -> Result<T, Failure<'static>>
+    ensures { result ≡ run_result outcome }
 {
     match outcome {
         Ok(told) => Ok(told),

@@ -1,4 +1,4 @@
--- What the name of a piece tells is that piece, of that sweep.
+-- What the name of a shard tells is that shard, of that sweep.
 use Rattle.std.proofs.Common.{◌≡◌, ◌<◌, ◌≤◌, ◌==◌, ◌^◌, ℕ, Bool, true, false, suc, List, [], ◌∷◌, ◌++◌, map, length, length-drop, get_or, take, drop, ◌-◌, codes, decimal, lit<, arith, refl, sym, ap, subst, ◌∙◌}
 use Rattle.std.specs.Prelude.{Option, Some, None, Result, Ok, Err, IfOk, IfErr, bytes_eq, if◌then◌else◌}
 use Rattle.std.specs.Borrow.{Bor}
@@ -9,7 +9,7 @@ use Rattle.std.proofs.lemmas.Fmt.{decimal_injective}
 use Rattle.std.proofs.lemmas.List.{append_cancel_left, length-map, take_all}
 use Rattle.decimals.specs.Numbers.{IsDecimal}
 use Rattle.sweep_plan.specs.Sweep.{Sweep}
-use Rattle.sweep_plan.specs.Asked.{AsksForSeeds, IsSweepOf, IsWidth, RefusesSweep, seeds_text, setting_words}
+use Rattle.sweep_plan.specs.Asked.{AsksForSeeds, IsSweepOf, IsWidth, RefusesSweep, seeds_text, swept_words}
 use Rattle.sweep_plan.specs.Axes.{axes_of}
 use Rattle.sweep_plan.proofs.Gathered.{axes_in}
 use Rattle.sweep_plan.specs.declared.fault.PlanFault.{PlanFault}
@@ -17,18 +17,18 @@ use Rattle.sweep_plan.specs.declared.fault.PlanFault.TheVariants as unread
 use Rattle.sweep_plan.specs.declared.seeds.Seeds.{Seeds}
 use Rattle.sweep_plan.proofs.Names.{bytes_eq_false}
 use Rattle.sweep_plan.proofs.Words.{cut_once, decimal_lacks, joined_split, unlike, lacks_from_test}
-use Rattle.shards.specs.declared.piece.Piece.{Piece}
-use Rattle.shards.specs.Pieces.{IsPiece, IsPieceWord, piece_text}
+use Rattle.shards.specs.declared.shard.Shard.{Shard}
+use Rattle.shards.specs.Shards.{IsShard, IsShardWord, shard_text}
 use Rattle.shards.specs.Names.{plan_text, seeds_word}
 use Rattle.sweep.specs.Runs.{IsAskedFor}
-use Rattle.sweep.specs.Pieces.{piece_header}
+use Rattle.sweep.specs.Shards.{shard_header}
 use Rattle.shard_merge.specs.Joined.{IsMark}
 use Rattle.shard_merge.specs.Reasons.{BeginsAs, BeginsAsNone, RefusesName, SaysWidth}
-use Rattle.shard_merge.proofs.SameSweep.{asked_axes, joined_is, no_dash, no_setting_says, same_rest, same_seeds, same_settings, until_words, words_lack, words_of}
+use Rattle.shard_merge.proofs.SameSweep.{asked_axes, joined_is, no_dash, no_swept_says, same_rest, same_seeds, same_swept_keys, until_words, words_lack, words_of}
 
--- the piece of a word is one
-pub same_piece : (word : List ℕ) (q p : Piece) → IsPieceWord word q → word ≡ piece_text p → IsPiece p → q ≡ p
-same_piece word q p is same sound =
+-- the shard of a word is one
+pub same_shard : (word : List ℕ) (q p : Shard) → IsShardWord word q → word ≡ shard_text p → IsShard p → q ≡ p
+same_shard word q p is same sound =
     let one = is.sound.most in
     let two = is.sound.few in
     let three = sound.most in
@@ -45,20 +45,20 @@ name_refused text unread.Words none = none refl
 name_refused text unread.Memory none = tt
 
 -- a text that begins with the first line that its name tells of, and one that doesn't
-pub begun : (text mark : List ℕ) (revived : Bool) (sweep : Sweep) (p : Piece) → IsAskedFor sweep → IsMark mark → IsPiece p
-    → (rest : List ℕ) × (text ≡ piece_header revived mark sweep p ++ rest) → BeginsAs text mark revived sweep p
+pub begun : (text mark : List ℕ) (revived : Bool) (sweep : Sweep) (p : Shard) → IsAskedFor sweep → IsMark mark → IsShard p
+    → (rest : List ℕ) × (text ≡ shard_header revived mark sweep p ++ rest) → BeginsAs text mark revived sweep p
 begun text mark revived sweep p asked marked sound front = record { asked = asked; marked = marked; sound = sound; rest = front.0; written = front.1 }
 
-pub not_begun : (text m : List ℕ) (r revived : Bool) (s : Sweep) (q : Piece) → r ≡ revived
-    → ((mark : List ℕ) (told : Bool) (sweep : Sweep) (p : Piece) → BeginsAs text mark told sweep p → (m ≡ mark) × (s ≡ sweep) × (q ≡ p))
-    → ((rest : List ℕ) → ¬ (text ≡ piece_header r m s q ++ rest)) → (mark : List ℕ) (sweep : Sweep) (p : Piece) → ¬ (BeginsAs text mark revived sweep p)
+pub not_begun : (text m : List ℕ) (r revived : Bool) (s : Sweep) (q : Shard) → r ≡ revived
+    → ((mark : List ℕ) (told : Bool) (sweep : Sweep) (p : Shard) → BeginsAs text mark told sweep p → (m ≡ mark) × (s ≡ sweep) × (q ≡ p))
+    → ((rest : List ℕ) → ¬ (text ≡ shard_header r m s q ++ rest)) → (mark : List ℕ) (sweep : Sweep) (p : Shard) → ¬ (BeginsAs text mark revived sweep p)
 not_begun text m r revived s q same only none mark sweep p begins =
     let its = only mark revived sweep p begins in
-    none begins.rest (begins.written ∙ (λ i. piece_header (sym same i) (sym its.0 i) (sym its.1 i) (sym its.2 i) ++ begins.rest))
+    none begins.rest (begins.written ∙ (λ i. shard_header (sym same i) (sym its.0 i) (sym its.1 i) (sym its.2 i) ++ begins.rest))
 
 -- one that begins so with neither table begins as none
-pub neither : (text : List ℕ) → ((mark : List ℕ) (sweep : Sweep) (p : Piece) → ¬ (BeginsAs text mark false sweep p))
-    → ((mark : List ℕ) (sweep : Sweep) (p : Piece) → ¬ (BeginsAs text mark true sweep p)) → BeginsAsNone text
+pub neither : (text : List ℕ) → ((mark : List ℕ) (sweep : Sweep) (p : Shard) → ¬ (BeginsAs text mark false sweep p))
+    → ((mark : List ℕ) (sweep : Sweep) (p : Shard) → ¬ (BeginsAs text mark true sweep p)) → BeginsAsNone text
 neither text untold told mark false sweep p = untold mark sweep p
 neither text untold told mark true sweep p = told mark sweep p
 
@@ -91,16 +91,16 @@ one_seeds (Some word) None s asks also = absurd asks
 one_seeds (Some word) (Some r) None asks also = absurd also
 one_seeds (Some word) (Some r) (Some s) asks also = same_seeds (Some word) (Some word) (Some r) (Some s) asks also (asks.written ∙ sym also.written)
 
--- the words behind the first are those of a width, or none, and of settings, none of which says a width where none is read
-pub record AreParted (rest : List (List ℕ)) (until : Option ℕ) (settings : List (List ℕ)) : Type 0 where
-  pub words : rest ≡ until_words until ++ settings
+-- the words behind the first are those of a width, or none, and of swept keys, none of which says a width where none is read
+pub record AreParted (rest : List (List ℕ)) (until : Option ℕ) (swept_keys : List (List ℕ)) : Type 0 where
+  pub words : rest ≡ until_words until ++ swept_keys
   pub low : ForSome until (λ w. w < 2 ^ 64)
-  pub apart : until ≡ None → (value : List ℕ) (more : List (List ℕ)) → ¬ (settings ≡ (codes "until=" ++ value) ∷ more)
+  pub apart : until ≡ None → (value : List ℕ) (more : List (List ℕ)) → ¬ (swept_keys ≡ (codes "until=" ++ value) ∷ more)
 
 -- the plan that was read of the words of a sweep is that sweep
 module _ (words : List ℕ) (sweep : Sweep) (asked : IsAskedFor sweep) (is : words ≡ plan_text sweep) (first : List ℕ) (rest : List (List ℕ)) (seeds : Option (List ℕ))
     (cut : slice_split (λ byte. byte == 32) words ≡ first ∷ rest) (given : seeds ≡ seeds_given first) where
-  parts : first ∷ rest ≡ seeds_word sweep.seeds ∷ (until_words sweep.until ++ setting_words sweep.settings)
+  parts : first ∷ rest ≡ seeds_word sweep.seeds ∷ (until_words sweep.until ++ swept_words sweep.swept_keys)
   parts = sym cut ∙ words_are words sweep asked is
 
   seeds_asked : AsksForSeeds seeds sweep.seeds
@@ -108,27 +108,27 @@ module _ (words : List ℕ) (sweep : Sweep) (asked : IsAskedFor sweep) (is : wor
       let same : first ≡ seeds_word sweep.seeds = (let all = parts in cc) in
       subst (λ o. AsksForSeeds o sweep.seeds) (sym (given ∙ ap seeds_given same)) (seeds_again asked.seeds sweep.seeds asked.asked.seeded)
 
-  rest_is : until_words sweep.until ++ setting_words sweep.settings ≡ rest
+  rest_is : until_words sweep.until ++ swept_words sweep.swept_keys ≡ rest
   rest_is = let all = parts in cc
 
-  module _ (until : Option ℕ) (settings : List (List ℕ)) (parted : AreParted rest until settings) where
-    both_are : (sweep.until ≡ until) × (setting_words sweep.settings ≡ settings)
-    both_are = same_rest sweep.until until (axes_of sweep.settings) settings asked.asked.width parted.low (asked_axes sweep asked) parted.apart (rest_is ∙ parted.words)
+  module _ (until : Option ℕ) (swept_keys : List (List ℕ)) (parted : AreParted rest until swept_keys) where
+    both_are : (sweep.until ≡ until) × (swept_words sweep.swept_keys ≡ swept_keys)
+    both_are = same_rest sweep.until until (axes_of sweep.swept_keys) swept_keys asked.asked.width parted.low (asked_axes sweep asked) parted.apart (rest_is ∙ parted.words)
 
-    pub plan_is : (plan : Sweep) → IsSweepOf settings seeds until plan → plan ≡ sweep
+    pub plan_is : (plan : Sweep) → IsSweepOf swept_keys seeds until plan → plan ≡ sweep
     plan_is plan read =
-        let sets = same_settings plan.settings sweep.settings (axes_in settings plan.settings read.settings.axes) (asked_axes sweep asked) (read.settings.axes.written ∙ sym both_are.1) in
+        let sets = same_swept_keys plan.swept_keys sweep.swept_keys (axes_in swept_keys plan.swept_keys read.swept_keys.axes) (asked_axes sweep asked) (read.swept_keys.axes.written ∙ sym both_are.1) in
         let one = one_seeds seeds plan.seeds sweep.seeds read.seeded seeds_asked in
         let wide : plan.until ≡ sweep.until = read.wanted ∙ sym both_are.0 in
-        (λ i. record { settings = sets i; seeds = one i; until = wide i })
+        (λ i. record { swept_keys = sets i; seeds = one i; until = wide i })
 
-    pub plan_there : (e : PlanFault) → RefusesSweep settings seeds until e → e ≡ unread.Words → ⊥
+    pub plan_there : (e : PlanFault) → RefusesSweep swept_keys seeds until e → e ≡ unread.Words → ⊥
     plan_there unread.Memory refused same = cc
     plan_there unread.Words refused same =
         refused sweep (record {
-          settings = record {
-            axes = record { written = both_are.1; begins = asked.asked.settings.axes.begins; level = asked.asked.settings.axes.level; sound = asked.asked.settings.axes.sound };
-            once = asked.asked.settings.once;
+          swept_keys = record {
+            axes = record { written = both_are.1; begins = asked.asked.swept_keys.axes.begins; level = asked.asked.swept_keys.axes.level; sound = asked.asked.swept_keys.axes.sound };
+            once = asked.asked.swept_keys.once;
           };
           seeded = seeds_asked;
           few = asked.asked.few;
@@ -140,8 +140,8 @@ module _ (words : List ℕ) (sweep : Sweep) (asked : IsAskedFor sweep) (is : wor
   pub width_told : (value : List ℕ) (more : List (List ℕ)) → rest ≡ (codes "until=" ++ value) ∷ more → ((n : ℕ) → ¬ (IsDecimal value n)) → ⊥
   width_told value more says none = by sweep.until asked.asked.width (rest_is ∙ says)
     where
-      by : (until : Option ℕ) → ForSome until IsWidth → until_words until ++ setting_words sweep.settings ≡ (codes "until=" ++ value) ∷ more → ⊥
-      by None sound same = no_setting_says (axes_of sweep.settings) value more (asked_axes sweep asked) same
+      by : (until : Option ℕ) → ForSome until IsWidth → until_words until ++ swept_words sweep.swept_keys ≡ (codes "until=" ++ value) ∷ more → ⊥
+      by None sound same = no_swept_says (axes_of sweep.swept_keys) value more (asked_axes sweep asked) same
       by (Some w) sound same =
           let most = (sound w refl).most in
           let head : codes "until=" ++ decimal w ≡ codes "until=" ++ value = cc in
@@ -151,18 +151,18 @@ module _ (words : List ℕ) (sweep : Sweep) (asked : IsAskedFor sweep) (is : wor
 abbrev pub AreCut : List ℕ → List ℕ → List (List ℕ) → Type 0
 AreCut words first rest = (sweep : Sweep) → IsAskedFor sweep → words ≡ plan_text sweep → slice_split (λ byte. byte == 32) words ≡ first ∷ rest
 
-pub plans_are : {E : Type 0} (words first : List ℕ) (rest : List (List ℕ)) (seeds : Option (List ℕ)) (until : Option ℕ) (settings : List (List ℕ)) (r : Result Sweep E)
-    → seeds ≡ seeds_given first → AreCut words first rest → AreParted rest until settings → IfOk r (IsSweepOf settings seeds until)
+pub plans_are : {E : Type 0} (words first : List ℕ) (rest : List (List ℕ)) (seeds : Option (List ℕ)) (until : Option ℕ) (swept_keys : List (List ℕ)) (r : Result Sweep E)
+    → seeds ≡ seeds_given first → AreCut words first rest → AreParted rest until swept_keys → IfOk r (IsSweepOf swept_keys seeds until)
     → IfOk r (λ plan. (sweep : Sweep) → IsAskedFor sweep → words ≡ plan_text sweep → plan ≡ sweep)
-plans_are words first rest seeds until settings (Ok plan) given cut parted read = λ sweep asked is. plan_is words sweep asked is first rest seeds (cut sweep asked is) given until settings parted plan read
-plans_are words first rest seeds until settings (Err e) given cut parted read = tt
+plans_are words first rest seeds until swept_keys (Ok plan) given cut parted read = λ sweep asked is. plan_is words sweep asked is first rest seeds (cut sweep asked is) given until swept_keys parted plan read
+plans_are words first rest seeds until swept_keys (Err e) given cut parted read = tt
 
-pub no_plans_are : {T : Type 0} (words first : List ℕ) (rest : List (List ℕ)) (seeds : Option (List ℕ)) (until : Option ℕ) (settings : List (List ℕ)) (r : Result T PlanFault)
-    → seeds ≡ seeds_given first → AreCut words first rest → AreParted rest until settings → IfErr r (RefusesSweep settings seeds until)
+pub no_plans_are : {T : Type 0} (words first : List ℕ) (rest : List (List ℕ)) (seeds : Option (List ℕ)) (until : Option ℕ) (swept_keys : List (List ℕ)) (r : Result T PlanFault)
+    → seeds ≡ seeds_given first → AreCut words first rest → AreParted rest until swept_keys → IfErr r (RefusesSweep swept_keys seeds until)
     → IfErr r (λ fault. fault ≡ unread.Words → (sweep : Sweep) → IsAskedFor sweep → ¬ (words ≡ plan_text sweep))
-no_plans_are words first rest seeds until settings (Ok x) given cut parted refused = tt
-no_plans_are words first rest seeds until settings (Err e) given cut parted refused =
-    λ word sweep asked is. plan_there words sweep asked is first rest seeds (cut sweep asked is) given until settings parted e refused word
+no_plans_are words first rest seeds until swept_keys (Ok x) given cut parted refused = tt
+no_plans_are words first rest seeds until swept_keys (Err e) given cut parted refused =
+    λ word sweep asked is. plan_there words sweep asked is first rest seeds (cut sweep asked is) given until swept_keys parted e refused word
 
 -- the first of the words, and those behind it
 pub split_first : (items : List (Bor (List ℕ))) (d : Bor (List ℕ)) (words : List ℕ) → 0 < length items
@@ -177,14 +177,14 @@ behind_first items = take_all (length items - 1) (drop 1 items) (omega (arith, l
 
 -- words that ask for a sweep
 pub asked_by : (words : List (List ℕ)) (seeds : Option (List ℕ)) (until : Option ℕ) (plan : Sweep) → IsSweepOf words seeds until plan → IsAskedFor plan
-asked_by words seeds until plan is = record { settings = words; seeds = seeds; until = until; asked = is }
+asked_by words seeds until plan is = record { swept_keys = words; seeds = seeds; until = until; asked = is }
 
 -- no words at all are those of no sweep
 pub none_split : (items : List (Bor (List ℕ))) (words : List ℕ) (sweep : Sweep) → IsAskedFor sweep → words ≡ plan_text sweep → length items ≡ 0
     → map (λ (word : Bor (List ℕ)). word.now) items ≡ slice_split (λ byte. byte == 32) words → ⊥
 none_split items words sweep asked is none same =
     let all = same ∙ words_are words sweep asked is in
-    let long : length (map (λ (word : Bor (List ℕ)). word.now) items) ≡ suc (length (until_words sweep.until ++ setting_words sweep.settings)) = ap length all in
+    let long : length (map (λ (word : Bor (List ℕ)). word.now) items) ≡ suc (length (until_words sweep.until ++ swept_words sweep.swept_keys)) = ap length all in
     omega (arith, long, length-map items (λ (word : Bor (List ℕ)). word.now), none)
 
 pub some_split : (items : List (Bor (List ℕ))) (words : List ℕ) (sweep : Sweep) → IsAskedFor sweep → words ≡ plan_text sweep
@@ -205,7 +205,7 @@ words_cut items listed first d words same is all sweep asked text =
 
 -- ---- the words behind the first
 
--- none says a width: all are settings
+-- none says a width: all are swept keys
 pub none_parted : (items : List (Bor (List ℕ))) → ((value : List ℕ) → ¬ (SaysWidth (map (λ (word : Bor (List ℕ)). word.now) items) value))
     → AreParted (map (λ (word : Bor (List ℕ)). word.now) (take (length items - 1) (drop 1 items))) None (map (λ (word : Bor (List ℕ)). word.now) (take (length items - 1) (drop 1 items)))
 none_parted items none = record { words = refl; low = (λ w is. cc); apart = (λ same value more says. by items none value more says) }
@@ -216,7 +216,7 @@ none_parted items none = record { words = refl; low = (λ w is. cc); apart = (λ
     by (x ∷ xs) none value more says =
         none value (x.now, more, ap (λ l. x.now ∷ l) (sym (ap (map (λ (word : Bor (List ℕ)). word.now)) (behind_first (x ∷ xs))) ∙ says))
 
--- the second says this width: those behind it are settings
+-- the second says this width: those behind it are swept keys
 pub one_parted : (items : List (Bor (List ℕ))) (value : List ℕ) (width : ℕ) → SaysWidth (map (λ (word : Bor (List ℕ)). word.now) items) value → IsDecimal value width
     → AreParted (map (λ (word : Bor (List ℕ)). word.now) (take (length items - 1) (drop 1 items))) (Some width) (map (λ (word : Bor (List ℕ)). word.now) (take (length items - 2) (drop 2 items)))
 one_parted [] value width says is = let none : 0 ≡ suc (suc (length says.1)) = ap length says.2 in absurd (omega arith)

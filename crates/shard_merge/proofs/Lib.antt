@@ -5,9 +5,9 @@ pub mod Heads
 pub mod Numbered
 pub mod PlacesMore
 pub mod Shares
-pub mod PiecesMore
+pub mod ShardsMore
 pub mod Wholes
 pub mod GenuineHeads
 pub mod GenuineWhole
 pub mod Again
-pub mod CutPieces
+pub mod CutShards

@@ -1,4 +1,4 @@
--- The name with which a text begins that is a piece.
+-- The name with which a text begins that is a shard.
 use Rattle.std.proofs.Common.{◌≡◌, ◌<◌, ◌==◌, ℕ, Bool, false, List, [], ◌∷◌, ◌++◌, length, decimal, lit<, arith, refl, sym, ap, subst, ◌∙◌, append_assoc, take, drop, take_at, is_some}
 use Rattle.std.specs.Prelude.{Option, Some, None, IfSome}
 use Rattle.std.specs.Borrow.{Bor}
@@ -9,9 +9,9 @@ use Rattle.std.proofs.lemmas.Str.Pattern.{IsSplitOnceResult, split_after, split_
 use Rattle.sweep_plan.specs.Sweep.{Sweep}
 use Rattle.sweep_plan.proofs.Words.{Lacks, decimal_lacks, lacks_each, unlike}
 use Rattle.figures.specs.Lines.{header_line}
-use Rattle.shards.specs.declared.piece.Piece.{Piece}
-use Rattle.shards.specs.Pieces.{IsPiece, piece_text}
-use Rattle.shards.specs.Names.{head_cell, piece_name, plan_text}
+use Rattle.shards.specs.declared.shard.Shard.{Shard}
+use Rattle.shards.specs.Shards.{IsShard, shard_text}
+use Rattle.shards.specs.Names.{head_cell, shard_name, plan_text}
 use Rattle.sweep.specs.Table.{names_of}
 use Rattle.shard_merge.specs.Joined.{IsMark}
 use Rattle.shard_merge.specs.Reasons.{BeginsAs}
@@ -40,29 +40,29 @@ lacks_behind c xs ys all is lacks =
 behind : (x : ℕ) (xs ys : List ℕ) → x ∷ xs ≡ x ∷ ys → xs ≡ ys
 behind x xs ys same = cc
 
-piece_lacks : (c : ℕ) (p : Piece) → IsPiece p → (47 == c) ≡ false → c < 48 → Lacks c (piece_text p)
-piece_lacks c p sound slash small =
+shard_lacks : (c : ℕ) (p : Shard) → IsShard p → (47 == c) ≡ false → c < 48 → Lacks c (shard_text p)
+shard_lacks c p sound slash small =
     let most = sound.most in
     let few = sound.few in
     lacks_both c (decimal p.number) (47 ∷ decimal p.of) (decimal_lacks p.number c (omega arith) small)
     (lacks_cons c 47 (decimal p.of) slash (decimal_lacks p.of c (omega arith) small))
 
-module _ (text mark : List ℕ) (revived : Bool) (sweep : Sweep) (p : Piece) (b : BeginsAs text mark revived sweep p) where
+module _ (text mark : List ℕ) (revived : Bool) (sweep : Sweep) (p : Shard) (b : BeginsAs text mark revived sweep p) where
   abbrev name : List ℕ
-  name = piece_name mark sweep p
+  name = shard_name mark sweep p
 
   abbrev tail : List ℕ
-  tail = 44 ∷ (header_line revived (names_of sweep.settings) ++ b.rest)
+  tail = 44 ∷ (header_line revived (names_of sweep.swept_keys) ++ b.rest)
 
   pub laid : text ≡ 34 ∷ (name ++ 34 ∷ tail)
   laid =
-      b.written ∙ append_assoc (head_cell mark sweep p) (header_line revived (names_of sweep.settings)) b.rest
-      ∙ ap (λ l. 34 ∷ l) (append_assoc name (34 ∷ 44 ∷ []) (header_line revived (names_of sweep.settings) ++ b.rest))
+      b.written ∙ append_assoc (head_cell mark sweep p) (header_line revived (names_of sweep.swept_keys)) b.rest
+      ∙ ap (λ l. 34 ∷ l) (append_assoc name (34 ∷ 44 ∷ []) (header_line revived (names_of sweep.swept_keys) ++ b.rest))
 
   name_lacks : Lacks 34 name
   name_lacks =
-      lacks_both 34 (piece_text p ++ 32 ∷ mark) (32 ∷ plan_text sweep)
-      (lacks_both 34 (piece_text p) (32 ∷ mark) (piece_lacks 34 p b.sound refl (lit< tt)) (lacks_cons 34 32 mark refl b.marked.quoteless))
+      lacks_both 34 (shard_text p ++ 32 ∷ mark) (32 ∷ plan_text sweep)
+      (lacks_both 34 (shard_text p) (32 ∷ mark) (shard_lacks 34 p b.sound refl (lit< tt)) (lacks_cons 34 32 mark refl b.marked.quoteless))
       (lacks_cons 34 32 (plan_text sweep) refl (plan_lacks sweep b.asked))
 
   -- what stands before the second quote
@@ -71,10 +71,10 @@ module _ (text mark : List ℕ) (revived : Bool) (sweep : Sweep) (p : Piece) (b 
 
   -- and before the first space, and behind it
   pub spaced : (given : List ℕ) (parted : Parted) → given ≡ name → IsSplitOnceResult 32 given parted
-      → MatchOption parted ⊥ (λ x. (x.0.now ≡ piece_text p) × (x.1.now ≡ mark ++ 32 ∷ plan_text sweep))
+      → MatchOption parted ⊥ (λ x. (x.0.now ≡ shard_text p) × (x.1.now ≡ mark ++ 32 ∷ plan_text sweep))
   spaced given parted is cut =
-      split_after 32 given (piece_text p) (mark ++ 32 ∷ plan_text sweep) parted cut (lit< tt)
-      (is ∙ append_assoc (piece_text p) (32 ∷ mark) (32 ∷ plan_text sweep)) (unlike 32 (piece_text p) (piece_lacks 32 p b.sound refl (lit< tt)))
+      split_after 32 given (shard_text p) (mark ++ 32 ∷ plan_text sweep) parted cut (lit< tt)
+      (is ∙ append_assoc (shard_text p) (32 ∷ mark) (32 ∷ plan_text sweep)) (unlike 32 (shard_text p) (shard_lacks 32 p b.sound refl (lit< tt)))
 
 -- a mark and the words behind it
 pub marked_words : (rest mark words : List ℕ) (parted : Parted) → rest ≡ mark ++ 32 ∷ words → IsMark mark → IsSplitOnceResult 32 rest parted

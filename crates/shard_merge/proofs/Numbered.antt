@@ -1,43 +1,43 @@
--- The piece of a sweep that a text is, by the number that it says.
+-- The shard of a sweep that a text is, by the number that it says.
 use Rattle.std.proofs.Common.{◌≡◌, ◌<◌, ◌≤◌, ◌+◌, ◌-◌, ℕ, Bool, List, ◌++◌, sym, subst, ◌∙◌, arith}
 use Rattle.sweep_plan.specs.Sweep.{Sweep}
-use Rattle.shards.specs.declared.piece.Piece.{Piece}
-use Rattle.sweep.specs.Pieces.{piece_header}
+use Rattle.shards.specs.declared.shard.Shard.{Shard}
+use Rattle.sweep.specs.Shards.{shard_header}
 use Rattle.sweep.specs.Runs.{IsAskedFor}
 use Rattle.shard_merge.specs.declared.fault.JoinFault.{JoinFault}
 use Rattle.shard_merge.specs.declared.fault.JoinFault.TheVariants as fault
-use Rattle.shard_merge.specs.Among.{piece_at}
+use Rattle.shard_merge.specs.Among.{shard_at}
 use Rattle.shard_merge.specs.Joined.{IsMark}
 use Rattle.shard_merge.specs.Reasons.{BeginsAs, RefusesText}
 
 pub memory_text : (text mark : List ℕ) (revived : Bool) (sweep : Sweep) (of place : ℕ) (f : JoinFault) → f ≡ fault.Memory → RefusesText text mark revived sweep of place f
 memory_text text mark revived sweep of place f is = subst (RefusesText text mark revived sweep of place) (sym is) tt
 
-module _ (text mark : List ℕ) (revived : Bool) (sweep : Sweep) (of number : ℕ) (only : (m : List ℕ) (r : Bool) (s : Sweep) (p : Piece) → BeginsAs text m r s p → p.number ≡ number) where
-  -- no piece of so many has a number past them
-  pub past_all : of < number → (q : Piece) → q.of ≡ of → ¬ (BeginsAs text mark revived sweep q)
+module _ (text mark : List ℕ) (revived : Bool) (sweep : Sweep) (of number : ℕ) (only : (m : List ℕ) (r : Bool) (s : Sweep) (p : Shard) → BeginsAs text m r s p → p.number ≡ number) where
+  -- no shard of so many has a number past them
+  pub past_all : of < number → (q : Shard) → q.of ≡ of → ¬ (BeginsAs text mark revived sweep q)
   past_all high q same begins =
       let at = only mark revived sweep q begins in
       let most = begins.sound.most in
       omega (arith, high, same, at, most)
 
-  -- a text that doesn't begin as the piece of its number begins as none
-  pub none_of_these : (p : Piece) → p.number ≡ number → p.of ≡ of → ((rest : List ℕ) → ¬ (text ≡ piece_header revived mark sweep p ++ rest)) → (q : Piece) → q.of ≡ of → ¬ (BeginsAs text mark revived sweep q)
+  -- a text that doesn't begin as the shard of its number begins as none
+  pub none_of_these : (p : Shard) → p.number ≡ number → p.of ≡ of → ((rest : List ℕ) → ¬ (text ≡ shard_header revived mark sweep p ++ rest)) → (q : Shard) → q.of ≡ of → ¬ (BeginsAs text mark revived sweep q)
   none_of_these p at many none q same begins =
       let number_is = only mark revived sweep q begins in
       let is : q ≡ p = (λ i. record { number = (number_is ∙ sym at) i; of = (same ∙ sym many) i }) in
-      none begins.rest (subst (λ r. text ≡ piece_header revived mark sweep r ++ begins.rest) is begins.written)
+      none begins.rest (subst (λ r. text ≡ shard_header revived mark sweep r ++ begins.rest) is begins.written)
 
--- one that does is that piece
-pub begins_so : (text mark : List ℕ) (revived : Bool) (sweep : Sweep) (p : Piece) (of number : ℕ) → IsAskedFor sweep → IsMark mark → 1 ≤ number → number ≤ of → of ≤ 10000 → p.number ≡ number → p.of ≡ of
-    → (rest : List ℕ) × (text ≡ piece_header revived mark sweep p ++ rest) → (at : ℕ) → at ≡ number - 1 → BeginsAs text mark revived sweep (piece_at at of)
+-- one that does is that shard
+pub begins_so : (text mark : List ℕ) (revived : Bool) (sweep : Sweep) (p : Shard) (of number : ℕ) → IsAskedFor sweep → IsMark mark → 1 ≤ number → number ≤ of → of ≤ 10000 → p.number ≡ number → p.of ≡ of
+    → (rest : List ℕ) × (text ≡ shard_header revived mark sweep p ++ rest) → (at : ℕ) → at ≡ number - 1 → BeginsAs text mark revived sweep (shard_at at of)
 begins_so text mark revived sweep p of number asked marked low high few is many front at place =
     let next : p.number ≡ at + 1 = omega (arith, is, place, low) in
-    let same : p ≡ piece_at at of = (λ i. record { number = next i; of = many i }) in
+    let same : p ≡ shard_at at of = (λ i. record { number = next i; of = many i }) in
     record {
       asked = asked;
       marked = marked;
       sound = record { least = omega arith; most = omega (arith, place, low, high); few = few };
       rest = front.0;
-      written = subst (λ r. text ≡ piece_header revived mark sweep r ++ front.0) same front.1;
+      written = subst (λ r. text ≡ shard_header revived mark sweep r ++ front.0) same front.1;
     }

@@ -1,4 +1,4 @@
--- Which text is which piece, one text more at a time, and why texts aren't the pieces of a sweep.
+-- Which text is which shard, one text more at a time, and why texts aren't the shards of a sweep.
 use Rattle.std.proofs.Common.{◌≡◌, ◌≢◌, ◌<◌, ◌≤◌, ◌+◌, ℕ, Bool, true, false, List, ◌++◌, length, get_or, set, replicate, inr, refl, sym, ap, subst, ◌∙◌, append_assoc, arith}
 use Rattle.std.specs.Prelude.{Option, Some, None, Vec, nat_eq, nat_lt}
 use Rattle.std.specs.declared.alloc.Global.{Global}
@@ -7,22 +7,22 @@ use Rattle.std.proofs.lemmas.List.{get_or-replicate, get_or-set_same, get_or-set
 use Rattle.std.proofs.lemmas.Option.{none-some, same_Some, slice_get_within}
 use Rattle.sweep_plan.specs.Sweep.{Sweep}
 use Rattle.figures.specs.Lines.{header_line}
-use Rattle.shards.specs.declared.piece.Piece.{Piece}
+use Rattle.shards.specs.declared.shard.Shard.{Shard}
 use Rattle.shards.specs.Names.{head_cell}
 use Rattle.sweep.specs.Table.{names_of}
 use Rattle.shard_merge.specs.declared.fault.JoinFault.{JoinFault}
 use Rattle.shard_merge.specs.declared.fault.JoinFault.TheVariants as fault
 use Rattle.sweep.specs.Sums.{IsOlder, sweep_key}
-use Rattle.shard_merge.specs.Among.{IsAmongTexts, piece_at}
-use Rattle.shard_merge.specs.Reasons.{AreIts, ArePlaces, BeginsAs, IsBehind, IsDoubled, IsFirst, IsMissing, IsOlderAt, IsNoPiece, IsOfSink, IsOther, IsReason, IsTextAt, IsTorn, RefusesPlace, RefusesText}
+use Rattle.shard_merge.specs.Among.{IsAmongTexts, shard_at}
+use Rattle.shard_merge.specs.Reasons.{AreIts, ArePlaces, BeginsAs, IsBehind, IsDoubled, IsFirst, IsMissing, IsOlderAt, IsNoShard, IsOfSink, IsOther, IsReason, IsTextAt, IsTorn, RefusesPlace, RefusesText}
 use Rattle.shard_merge.proofs.SameSweep.{same_heads}
 
--- a text begins as one piece of a sweep
-pub one_piece : (text mark : List ℕ) (revived : Bool) (sweep : Sweep) (p q : Piece) → BeginsAs text mark revived sweep p → BeginsAs text mark revived sweep q → p ≡ q
-one_piece text mark revived sweep p q a b =
-    (same_heads mark mark sweep sweep p q (header_line revived (names_of sweep.settings) ++ a.rest) (header_line revived (names_of sweep.settings) ++ b.rest) a.marked b.marked a.asked b.asked a.sound b.sound
-    (sym (append_assoc (head_cell mark sweep p) (header_line revived (names_of sweep.settings)) a.rest) ∙ sym a.written ∙ b.written
-    ∙ append_assoc (head_cell mark sweep q) (header_line revived (names_of sweep.settings)) b.rest)).piece
+-- a text begins as one shard of a sweep
+pub one_shard : (text mark : List ℕ) (revived : Bool) (sweep : Sweep) (p q : Shard) → BeginsAs text mark revived sweep p → BeginsAs text mark revived sweep q → p ≡ q
+one_shard text mark revived sweep p q a b =
+    (same_heads mark mark sweep sweep p q (header_line revived (names_of sweep.swept_keys) ++ a.rest) (header_line revived (names_of sweep.swept_keys) ++ b.rest) a.marked b.marked a.asked b.asked a.sound b.sound
+    (sym (append_assoc (head_cell mark sweep p) (header_line revived (names_of sweep.swept_keys)) a.rest) ∙ sym a.written ∙ b.written
+    ∙ append_assoc (head_cell mark sweep q) (header_line revived (names_of sweep.swept_keys)) b.rest)).shard
 
 -- one text stands at a place
 pub one_text : (texts : List (Vec ℕ Global)) (place : ℕ) (text other : List ℕ) → IsTextAt texts place text → IsTextAt texts place other → other ≡ text
@@ -55,7 +55,7 @@ no_places texts mark revived sweep of places is = record {
 -- one text more
 pub place_more : (texts : List (Vec ℕ Global)) (mark : List ℕ) (revived : Bool) (sweep : Sweep) (of number place : ℕ) (text : List ℕ) (places more : List (Option ℕ)) → number < length places
     → get_or places number None ≡ None → more ≡ set places number (Some place) → ArePlaces texts mark revived sweep of places place → IsTextAt texts place text
-    → BeginsAs text mark revived sweep (piece_at number of) → ArePlaces texts mark revived sweep of more (place + 1)
+    → BeginsAs text mark revived sweep (shard_at number of) → ArePlaces texts mark revived sweep of more (place + 1)
 place_more texts mark revived sweep of number place text places more inside free is are there begins = record {
   size = ap length is ∙ length-set places number (Some place) ∙ are.size;
   held = λ n k here. held n k (subst (λ (l : List (Option ℕ)). get_or l n None ≡ Some k) is here) (nat_eq n number) refl;
@@ -63,24 +63,24 @@ place_more texts mark revived sweep of number place text places more inside free
 }
   where
     held : (n k : ℕ) → get_or (set places number (Some place)) n None ≡ Some k → (b : Bool) → nat_eq n number ≡ b
-        → (k < place + 1) × ((other : List ℕ) × IsTextAt texts k other × BeginsAs other mark revived sweep (piece_at n of))
+        → (k < place + 1) × ((other : List ℕ) × IsTextAt texts k other × BeginsAs other mark revived sweep (shard_at n of))
     held n k here true e =
         let same : n ≡ number = grind (arith, nat_tests) in
         let set_here : get_or (set places number (Some place)) number None ≡ Some place = get_or-set_same places number (Some place) None inside in
         let its : k ≡ place = same_Some k place (sym here ∙ ap (λ m. get_or (set places number (Some place)) m None) same ∙ set_here) in
-        (omega (arith, its), (text, subst (λ m. IsTextAt texts m text) (sym its) there, subst (λ m. BeginsAs text mark revived sweep (piece_at m of)) (sym same) begins))
+        (omega (arith, its), (text, subst (λ m. IsTextAt texts m text) (sym its) there, subst (λ m. BeginsAs text mark revived sweep (shard_at m of)) (sym same) begins))
     held n k here false e =
         let other : n ≢ number = λ same. let yes : nat_eq n number ≡ true = grind (arith, nat_tests) in cc in
         let old = are.held n k (sym (get_or-set_other places number n (Some place) None other) ∙ here) in
         (omega (arith, old.0), old.1)
 
     kept : (k : ℕ) (other : List ℕ) → k < place + 1 → IsTextAt texts k other → (b : Bool) → nat_eq k place ≡ b
-        → (n : ℕ) × (get_or more n None ≡ Some k) × BeginsAs other mark revived sweep (piece_at n of)
+        → (n : ℕ) × (get_or more n None ≡ Some k) × BeginsAs other mark revived sweep (shard_at n of)
     kept k other before at true e =
         let same : k ≡ place = grind (arith, nat_tests) in
         let set_here : get_or (set places number (Some place)) number None ≡ Some place = get_or-set_same places number (Some place) None inside in
         let text_is : other ≡ text = one_text texts place text other there (subst (λ m. IsTextAt texts m other) same at) in
-        (number, ap (λ l. get_or l number None) is ∙ set_here ∙ ap Some (sym same), subst (λ t. BeginsAs t mark revived sweep (piece_at number of)) (sym text_is) begins)
+        (number, ap (λ l. get_or l number None) is ∙ set_here ∙ ap Some (sym same), subst (λ t. BeginsAs t mark revived sweep (shard_at number of)) (sym text_is) begins)
     kept k other before at false e =
         let differs : k ≢ place = λ same. let yes : nat_eq k place ≡ true = grind (arith, nat_tests) in cc in
         let old = are.kept k other (omega (arith, before, differs)) at in
@@ -91,7 +91,7 @@ place_more texts mark revived sweep of number place text places more inside free
 pub of_sink : (texts : List (Vec ℕ Global)) (f : JoinFault) → IsOfSink f → IsReason texts f
 of_sink texts fault.Write h = tt
 of_sink texts fault.Memory h = tt
-of_sink texts (fault.NoPiece at) h = absurd h
+of_sink texts (fault.NoShard at) h = absurd h
 of_sink texts (fault.Other at) h = absurd h
 of_sink texts (fault.Doubled at) h = absurd h
 of_sink texts (fault.Torn at) h = absurd h
@@ -101,10 +101,10 @@ of_sink texts (fault.Missing number) h = absurd h
 pub memory_reason : (texts : List (Vec ℕ Global)) (f : JoinFault) → f ≡ fault.Memory → IsReason texts f
 memory_reason texts f is = subst (IsReason texts) (sym is) tt
 
-module _ (texts : List (Vec ℕ Global)) (mark : List ℕ) (revived : Bool) (sweep : Sweep) (p : Piece) (first : IsFirst texts mark revived sweep p) where
-  -- a text that isn't a piece of the sweep
+module _ (texts : List (Vec ℕ Global)) (mark : List ℕ) (revived : Bool) (sweep : Sweep) (p : Shard) (first : IsFirst texts mark revived sweep p) where
+  -- a text that isn't a shard of the sweep
   pub text_reason : (text : List ℕ) (place : ℕ) (f : JoinFault) → IsTextAt texts place text → RefusesText text mark revived sweep p.of place f → IsReason texts f
-  text_reason text place (fault.NoPiece at) there h = subst (IsNoPiece texts) (sym h.0) (inr (text, there, h.1))
+  text_reason text place (fault.NoShard at) there h = subst (IsNoShard texts) (sym h.0) (inr (text, there, h.1))
   text_reason text place (fault.Other at) there h =
       subst (IsOther texts) (sym h.0) (record { mark = mark; revived = revived; sweep = sweep; p = p; first = first; text = text; there = there; none = h.1 })
   text_reason text place fault.Memory there h = tt
@@ -114,16 +114,16 @@ module _ (texts : List (Vec ℕ Global)) (mark : List ℕ) (revived : Bool) (swe
   text_reason text place (fault.Older at) there h = absurd h
   text_reason text place (fault.Missing number) there h = absurd h
 
-  -- one that is a piece which another is
+  -- one that is a shard which another is
   pub place_reason : (text : List ℕ) (places : List (Option ℕ)) (number place : ℕ) (f : JoinFault) → ArePlaces texts mark revived sweep p.of places place → IsTextAt texts place text
-      → BeginsAs text mark revived sweep (piece_at number p.of) → RefusesPlace places number place f → IsReason texts f
+      → BeginsAs text mark revived sweep (shard_at number p.of) → RefusesPlace places number place f → IsReason texts f
   place_reason text places number place (fault.Doubled at) are there begins h =
       let its = are.held number h.1.0 h.1.1 in
       subst (IsDoubled texts) (sym h.0) (record {
         mark = mark;
         revived = revived;
         sweep = sweep;
-        p = piece_at number p.of;
+        p = shard_at number p.of;
         earlier = h.1.0;
         before = its.0;
         text = text;
@@ -135,14 +135,14 @@ module _ (texts : List (Vec ℕ Global)) (mark : List ℕ) (revived : Bool) (swe
       })
   place_reason text places number place fault.Memory are there begins h = tt
   place_reason text places number place fault.Write are there begins h = tt
-  place_reason text places number place (fault.NoPiece at) are there begins h = absurd h
+  place_reason text places number place (fault.NoShard at) are there begins h = absurd h
   place_reason text places number place (fault.Other at) are there begins h = absurd h
   place_reason text places number place (fault.Torn at) are there begins h = absurd h
   place_reason text places number place (fault.Older at) are there begins h = absurd h
   place_reason text places number place (fault.Missing n) are there begins h = absurd h
 
   module _ (places : List (Option ℕ)) (are : ArePlaces texts mark revived sweep p.of places (length texts)) where
-    -- a piece that no text is
+    -- a shard that no text is
     pub missing : (number : ℕ) → number < p.of → get_or places number None ≡ None → IsMissing texts (number + 1)
     missing number within empty = record {
       mark = mark;
@@ -154,17 +154,17 @@ module _ (texts : List (Vec ℕ Global)) (mark : List ℕ) (revived : Bool) (swe
       high = omega (arith, within);
       none = λ place text q there same of begins.
           let kept = are.kept place text (slice_get_within texts place there.0 there.1) there in
-          let one : piece_at kept.0 p.of ≡ q = one_piece text mark revived sweep (piece_at kept.0 p.of) q kept.2 begins in
-          let next : kept.0 + 1 ≡ q.number = ap (λ (r : Piece). r.number) one in
+          let one : shard_at kept.0 p.of ≡ q = one_shard text mark revived sweep (shard_at kept.0 p.of) q kept.2 begins in
+          let next : kept.0 + 1 ≡ q.number = ap (λ (r : Shard). r.number) one in
           let at : kept.0 ≡ number = omega (arith, next, same) in
           let free : get_or places kept.0 None ≡ None = ap (λ n. get_or places n None) at ∙ empty in
           let found = kept.1 in
           cc;
     }
 
-    -- a text whose lines aren't those of its piece
+    -- a text whose lines aren't those of its shard
     module _ (number place : ℕ) (rest : List ℕ) (behind : IsBehind texts mark revived sweep p.of places number place rest) where
-      pub torn : (at : ℕ) → at ≡ place → ¬ (AreIts sweep.until (sweep_key mark sweep) sweep (piece_at number p.of) rest) → IsTorn texts at
+      pub torn : (at : ℕ) → at ≡ place → ¬ (AreIts sweep.until (sweep_key mark sweep) sweep (shard_at number p.of) rest) → IsTorn texts at
       torn at same not =
           let held = are.held number place behind.found in
           let its = held.1.2 in
@@ -172,7 +172,7 @@ module _ (texts : List (Vec ℕ Global)) (mark : List ℕ) (revived : Bool) (swe
             mark = mark;
             revived = revived;
             sweep = sweep;
-            p = piece_at number p.of;
+            p = shard_at number p.of;
             text = behind.text;
             there = behind.there;
             begins = record { asked = its.asked; marked = its.marked; sound = its.sound; rest = rest; written = behind.written };
@@ -187,16 +187,16 @@ module _ (texts : List (Vec ℕ Global)) (mark : List ℕ) (revived : Bool) (swe
             mark = mark;
             revived = revived;
             sweep = sweep;
-            p = piece_at number p.of;
+            p = shard_at number p.of;
             text = behind.text;
             there = behind.there;
             begins = record { asked = its.asked; marked = its.marked; sound = its.sound; rest = rest; written = behind.written };
             older = older;
           }
 
-    -- the text of a piece begins with its first line
+    -- the text of a shard begins with its first line
     pub begins_there : (number place : ℕ) (text : List ℕ) → get_or places number None ≡ Some place → IsTextAt texts place text
-        → BeginsAs text mark revived sweep (piece_at number p.of)
+        → BeginsAs text mark revived sweep (shard_at number p.of)
     begins_there number place text found there =
         let held = are.held number place found in
-        subst (λ t. BeginsAs t mark revived sweep (piece_at number p.of)) (sym (one_text texts place held.1.0 text held.1.1 there)) held.1.2
+        subst (λ t. BeginsAs t mark revived sweep (shard_at number p.of)) (sym (one_text texts place held.1.0 text held.1.1 there)) held.1.2

@@ -1,4 +1,4 @@
--- First lines of pieces that are one text name the same piece of the same sweep.
+-- First lines of shards that are one text name the same shard of the same sweep.
 use Rattle.std.proofs.Common.{◌≡◌, ◌<◌, ◌^◌, ◌==◌, ℕ, suc, true, false, List, [], ◌∷◌, ◌++◌, map, length, get_or, codes, decimal, inl, inr, is_some, lit<, arith, refl, sym, ap, subst, ◌∙◌, append_assoc, append-nil}
 use Rattle.std.specs.Prelude.{Option, Some, None, All}
 use Rattle.std.specs.List.{AllByRecursion, flat_map, join_with_byte, list_any, slice_split}
@@ -13,10 +13,10 @@ use Rattle.schema.specs.declared.schema.FormatKey.{FormatKey}
 use Rattle.sweep_plan.specs.Items.{is_letter, kept_name}
 use Rattle.sweep_plan.specs.Keys.{MaySet, item_part, key_name, key_named, listed, settable}
 use Rattle.sweep_plan.specs.Sweep.{KeyValues, Sweep}
-use Rattle.sweep_plan.specs.Asked.{AsksForSeeds, IsRange, IsWidth, axis_text, names_text, seeds_text, setting_words}
+use Rattle.sweep_plan.specs.Asked.{AsksForSeeds, IsRange, IsWidth, axis_text, names_text, seeds_text, swept_words}
 use Rattle.sweep_plan.specs.Axes.{axes_of}
 use Rattle.sweep_plan.specs.declared.items.ItemName.{ItemName}
-use Rattle.sweep_plan.specs.declared.keys.SettingKey.{SettingKey}
+use Rattle.sweep_plan.specs.declared.keys.SweptKey.{SweptKey}
 use Rattle.sweep_plan.specs.declared.seeds.Seeds.{Seeds}
 use Rattle.sweep_plan.proofs.Apart.{named_itself, not_within}
 use Rattle.sweep_plan.proofs.Letters.{is_key_byte, name_lacks}
@@ -24,18 +24,18 @@ use Rattle.sweep_plan.proofs.Words.{Lacks, cut_once, decimal_lacks, joined_split
 use Rattle.sweep_plan.proofs.Columns.{axis_lacks, names_lack, one_name, rows_of}
 use Rattle.sweep_plan.proofs.Gathered.{axes_in, same_axes}
 use Rattle.sweep_plan.proofs.Grouped.{axes_flat, together, IsAxis}
-use Rattle.shards.specs.declared.piece.Piece.{Piece}
-use Rattle.shards.specs.Pieces.{IsPiece, piece_text}
-use Rattle.shards.specs.Names.{head_cell, piece_name, plan_text, seeds_word, until_text}
+use Rattle.shards.specs.declared.shard.Shard.{Shard}
+use Rattle.shards.specs.Shards.{IsShard, shard_text}
+use Rattle.shards.specs.Names.{head_cell, shard_name, plan_text, seeds_word, until_text}
 use Rattle.sweep.specs.Runs.{IsAskedFor}
 use Rattle.shard_merge.specs.Joined.{IsMark}
 use Rattle.table_rows.proofs.Bytes.{lacks_both, lacks_cons, lacks_joined, value_lacks}
 
 -- ---- which bytes the words of a sweep don't have
 
-setting_lacks : (c : ℕ) → is_key_byte c ≡ false → is_letter c ≡ false → (61 == c) ≡ false → (44 == c) ≡ false → (43 == c) ≡ false → c < 48
+swept_lacks : (c : ℕ) → is_key_byte c ≡ false → is_letter c ≡ false → (61 == c) ≡ false → (44 == c) ≡ false → (43 == c) ≡ false → c < 48
     → (axis : List KeyValues) → IsAxis axis → Lacks c (axis_text axis)
-setting_lacks c out also equals comma plus small axis is = axis_lacks c plus comma equals (name_lacks c out also) (λ v fits. value_lacks c v fits small) axis is
+swept_lacks c out also equals comma plus small axis is = axis_lacks c plus comma equals (name_lacks c out also) (λ v fits. value_lacks c v fits small) axis is
 
 seeds_lack : (c : ℕ) → (45 == c) ≡ false → (46 == c) ≡ false → c < 48 → (word : Option (List ℕ)) (seeds : Option Seeds) → AsksForSeeds word seeds → Lacks c (seeds_word seeds)
 seeds_lack c dash dot small None None asks = lacks_cons c 45 [] dash (All-nil (λ y. (y == c) ≡ false))
@@ -49,9 +49,9 @@ seeds_lack c dash dot small (Some word) (Some r) asks =
 
 -- ---- the words of a sweep, with spaces between them
 
-settings_joined : (first : List ℕ) (axes : List (List KeyValues)) → join_with_byte 32 (first ∷ map axis_text axes) ≡ first ++ flat_map (λ axis. 32 ∷ axis_text axis) axes
-settings_joined first [] = sym (append-nil first)
-settings_joined first (axis ∷ axes) = ap (λ l. first ++ 32 ∷ l) (settings_joined (axis_text axis) axes)
+swept_keys_joined : (first : List ℕ) (axes : List (List KeyValues)) → join_with_byte 32 (first ∷ map axis_text axes) ≡ first ++ flat_map (λ axis. 32 ∷ axis_text axis) axes
+swept_keys_joined first [] = sym (append-nil first)
+swept_keys_joined first (axis ∷ axes) = ap (λ l. first ++ 32 ∷ l) (swept_keys_joined (axis_text axis) axes)
 
 -- the word of a width, and the words that there are of it
 abbrev pub until_word : ℕ → List ℕ
@@ -63,19 +63,19 @@ until_words (Some width) = until_word width ∷ []
 
 all_joined : (first : List ℕ) (until : Option ℕ) (axes : List (List KeyValues))
     → join_with_byte 32 (first ∷ (until_words until ++ map axis_text axes)) ≡ first ++ until_text until ++ flat_map (λ axis. 32 ∷ axis_text axis) axes
-all_joined first None axes = settings_joined first axes ∙ ap (λ l. l ++ flat_map (λ axis. 32 ∷ axis_text axis) axes) (sym (append-nil first))
+all_joined first None axes = swept_keys_joined first axes ∙ ap (λ l. l ++ flat_map (λ axis. 32 ∷ axis_text axis) axes) (sym (append-nil first))
 all_joined first (Some width) axes =
-    ap (λ l. first ++ 32 ∷ l) (settings_joined (until_word width) axes) ∙ sym (append_assoc first (32 ∷ until_word width) (flat_map (λ axis. 32 ∷ axis_text axis) axes))
+    ap (λ l. first ++ 32 ∷ l) (swept_keys_joined (until_word width) axes) ∙ sym (append_assoc first (32 ∷ until_word width) (flat_map (λ axis. 32 ∷ axis_text axis) axes))
 
 abbrev pub words_of : Sweep → List (List ℕ)
-words_of sweep = seeds_word sweep.seeds ∷ (until_words sweep.until ++ setting_words sweep.settings)
+words_of sweep = seeds_word sweep.seeds ∷ (until_words sweep.until ++ swept_words sweep.swept_keys)
 
 pub joined_is : (sweep : Sweep) → join_with_byte 32 (words_of sweep) ≡ plan_text sweep
-joined_is sweep = all_joined (seeds_word sweep.seeds) sweep.until (axes_of sweep.settings)
+joined_is sweep = all_joined (seeds_word sweep.seeds) sweep.until (axes_of sweep.swept_keys)
 
 -- the axes of a sweep that is asked for
-pub asked_axes : (sweep : Sweep) → IsAskedFor sweep → All IsAxis (axes_of sweep.settings)
-asked_axes sweep asked = axes_in asked.settings sweep.settings asked.asked.settings.axes
+pub asked_axes : (sweep : Sweep) → IsAskedFor sweep → All IsAxis (axes_of sweep.swept_keys)
+asked_axes sweep asked = axes_in asked.swept_keys sweep.swept_keys asked.asked.swept_keys.axes
 
 until_lack : (c : ℕ) → c < 48 → list_any (λ byte. byte == c) (codes "until=") ≡ false → (until : Option ℕ) → ForSome until IsWidth → All (Lacks c) (until_words until)
 until_lack c small none None sound = All-nil (Lacks c)
@@ -86,10 +86,10 @@ until_lack c small none (Some width) sound =
 all_lack : (c : ℕ) → is_key_byte c ≡ false → is_letter c ≡ false → (61 == c) ≡ false → (44 == c) ≡ false → (43 == c) ≡ false → (45 == c) ≡ false → (46 == c) ≡ false → c < 48
     → list_any (λ byte. byte == c) (codes "until=") ≡ false → (sweep : Sweep) → IsAskedFor sweep → All (Lacks c) (words_of sweep)
 all_lack c out also equals comma plus dash dot small none sweep asked =
-    All-cons (Lacks c) (seeds_word sweep.seeds) (until_words sweep.until ++ setting_words sweep.settings) (seeds_lack c dash dot small asked.seeds sweep.seeds asked.asked.seeded)
-    (All-append (Lacks c) (until_words sweep.until) (setting_words sweep.settings) (until_lack c small none sweep.until asked.asked.width)
-    (All-map (Lacks c) axis_text (axes_of sweep.settings)
-    (All-weaker IsAxis (λ axis. Lacks c (axis_text axis)) (setting_lacks c out also equals comma plus small) (axes_of sweep.settings) (asked_axes sweep asked))))
+    All-cons (Lacks c) (seeds_word sweep.seeds) (until_words sweep.until ++ swept_words sweep.swept_keys) (seeds_lack c dash dot small asked.seeds sweep.seeds asked.asked.seeded)
+    (All-append (Lacks c) (until_words sweep.until) (swept_words sweep.swept_keys) (until_lack c small none sweep.until asked.asked.width)
+    (All-map (Lacks c) axis_text (axes_of sweep.swept_keys)
+    (All-weaker IsAxis (λ axis. Lacks c (axis_text axis)) (swept_lacks c out also equals comma plus small) (axes_of sweep.swept_keys) (asked_axes sweep asked))))
 
 pub words_lack : (sweep : Sweep) → IsAskedFor sweep → All (Lacks 32) (words_of sweep)
 words_lack = all_lack 32 refl refl refl refl refl refl refl (lit< tt) refl
@@ -134,7 +134,7 @@ same_seeds (Some a) (Some b) (Some r) (Some s) asks also same =
     let last = decimal_injective r.last s.last (omega arith) (omega arith) lasts in
     ap Some (λ i. record { first = first i; last = last i })
 
--- ---- no word of a setting says a width
+-- ---- no word of a swept key says a width
 
 unnamed : key_named (codes "until") ≡ None
 unfolding settable key_named key_rules_of spelling_of
@@ -151,44 +151,44 @@ not_of_table (Some t) item k some same =
     not_within 46 (spelling_of t ++ item_part item) (spelling_of k)
     (subst (Lacks 46) (sym same ∙ sym (append_assoc (spelling_of t) (item_part item) (46 ∷ spelling_of k))) (lacks_from_test 46 (codes "until") refl))
 
-not_until : (k : SettingKey) → MaySet k → key_name k ≡ codes "until" → ⊥
+not_until : (k : SweptKey) → MaySet k → key_name k ≡ codes "until" → ⊥
 not_until k (inl known) same =
     let one : None ≡ Some k = sym unnamed ∙ ap key_named (sym same) ∙ named_itself k known in
     cc
 not_until k (inr is) same =
     not_of_table is.key.table (Some (kept_name is.name)) is.key.key
-    (All-contains (λ (j : SettingKey). is_some j.table ≡ true) listed is.key (All-from_recursion (λ (j : SettingKey). is_some j.table ≡ true) listed tabled_each) is.known)
+    (All-contains (λ (j : SweptKey). is_some j.table ≡ true) listed is.key (All-from_recursion (λ (j : SweptKey). is_some j.table ≡ true) listed tabled_each) is.known)
     (sym (ap key_name is.is) ∙ same)
 
-pub setting_says_none : (axis : List KeyValues) (value : List ℕ) → IsAxis axis → axis_text axis ≡ codes "until=" ++ value → ⊥
-setting_says_none axis value is same =
+pub swept_says_none : (axis : List KeyValues) (value : List ℕ) → IsAxis axis → axis_text axis ≡ codes "until=" ++ value → ⊥
+swept_says_none axis value is same =
     let parts = cut_once 61 (names_text axis) (codes "until") (join_with_byte 44 (rows_of axis)) value (names_lack axis) (lacks_from_test 61 (codes "until") refl) same in
     let one = one_name axis is (codes "until") (lacks_from_test 43 (codes "until") refl) parts.0 in
     not_until one.0 one.1 one.2
 
-pub no_setting_says : (axes : List (List KeyValues)) (value : List ℕ) (more : List (List ℕ)) → All IsAxis axes → map axis_text axes ≡ (codes "until=" ++ value) ∷ more → ⊥
-no_setting_says [] value more sound same = let none : 0 ≡ suc (length more) = ap length same in absurd (omega arith)
-no_setting_says (axis ∷ axes) value more sound same =
+pub no_swept_says : (axes : List (List KeyValues)) (value : List ℕ) (more : List (List ℕ)) → All IsAxis axes → map axis_text axes ≡ (codes "until=" ++ value) ∷ more → ⊥
+no_swept_says [] value more sound same = let none : 0 ≡ suc (length more) = ap length same in absurd (omega arith)
+no_swept_says (axis ∷ axes) value more sound same =
     let first : axis_text axis ≡ codes "until=" ++ value = cc in
-    setting_says_none axis value (All-head IsAxis axis axes sound) first
+    swept_says_none axis value (All-head IsAxis axis axes sound) first
 
--- so the words behind that of the seeds are those of one width, or none, and of settings
-pub same_rest : (v u : Option ℕ) (axes : List (List KeyValues)) (settings : List (List ℕ)) → ForSome v IsWidth → ForSome u (λ w. w < 2 ^ 64) → All IsAxis axes
-    → (u ≡ None → (value : List ℕ) (more : List (List ℕ)) → ¬ (settings ≡ (codes "until=" ++ value) ∷ more)) → until_words v ++ map axis_text axes ≡ until_words u ++ settings
-    → (v ≡ u) × (map axis_text axes ≡ settings)
-same_rest None None axes settings sound low all none same = (refl, same)
-same_rest (Some a) None axes settings sound low all none same = absurd (none refl (decimal a) (map axis_text axes) (sym same))
-same_rest None (Some w) axes settings sound low all none same = absurd (no_setting_says axes (decimal w) settings all same)
-same_rest (Some a) (Some w) axes settings sound low all none same =
+-- so the words behind that of the seeds are those of one width, or none, and of swept keys
+pub same_rest : (v u : Option ℕ) (axes : List (List KeyValues)) (swept_keys : List (List ℕ)) → ForSome v IsWidth → ForSome u (λ w. w < 2 ^ 64) → All IsAxis axes
+    → (u ≡ None → (value : List ℕ) (more : List (List ℕ)) → ¬ (swept_keys ≡ (codes "until=" ++ value) ∷ more)) → until_words v ++ map axis_text axes ≡ until_words u ++ swept_keys
+    → (v ≡ u) × (map axis_text axes ≡ swept_keys)
+same_rest None None axes swept_keys sound low all none same = (refl, same)
+same_rest (Some a) None axes swept_keys sound low all none same = absurd (none refl (decimal a) (map axis_text axes) (sym same))
+same_rest None (Some w) axes swept_keys sound low all none same = absurd (no_swept_says axes (decimal w) swept_keys all same)
+same_rest (Some a) (Some w) axes swept_keys sound low all none same =
     let most = (sound a refl).most in
     let first : until_word a ≡ until_word w = cc in
-    let rest : map axis_text axes ≡ settings = cc in
+    let rest : map axis_text axes ≡ swept_keys = cc in
     let digits : decimal a ≡ decimal w = append_cancel_left (codes "until=") (decimal a) (decimal w) first in
     (ap Some (decimal_injective a w (omega (arith, most)) (low w refl) digits), rest)
 
--- settings of one list of words are one
-pub same_settings : (s t : List KeyValues) → All IsAxis (axes_of s) → All IsAxis (axes_of t) → setting_words s ≡ setting_words t → s ≡ t
-same_settings s t sound also same = sym (axes_flat s) ∙ ap together (same_axes (axes_of s) (axes_of t) sound also same) ∙ axes_flat t
+-- swept keys of one list of words are one
+pub same_swept_keys : (s t : List KeyValues) → All IsAxis (axes_of s) → All IsAxis (axes_of t) → swept_words s ≡ swept_words t → s ≡ t
+same_swept_keys s t sound also same = sym (axes_flat s) ∙ ap together (same_axes (axes_of s) (axes_of t) sound also same) ∙ axes_flat t
 
 -- sweeps of the same words are one
 pub same_sweep : (s t : Sweep) → IsAskedFor s → IsAskedFor t → plan_text s ≡ plan_text t → s ≡ t
@@ -198,21 +198,21 @@ same_sweep s t asked also same =
     ∙ ap (slice_split (λ byte. byte == 32)) (joined_is s ∙ same ∙ sym (joined_is t))
     ∙ joined_split 32 (words_of t) (omega arith) (words_lack t also) in
     let first : seeds_word s.seeds ≡ seeds_word t.seeds = cc in
-    let rest : until_words s.until ++ setting_words s.settings ≡ until_words t.until ++ setting_words t.settings = cc in
-    let parts = same_rest s.until t.until (axes_of s.settings) (setting_words t.settings) asked.asked.width (λ w is. omega (arith, (also.asked.width w is).most)) (asked_axes s asked)
-    (λ none value more is. no_setting_says (axes_of t.settings) value more (asked_axes t also) is) rest in
+    let rest : until_words s.until ++ swept_words s.swept_keys ≡ until_words t.until ++ swept_words t.swept_keys = cc in
+    let parts = same_rest s.until t.until (axes_of s.swept_keys) (swept_words t.swept_keys) asked.asked.width (λ w is. omega (arith, (also.asked.width w is).most)) (asked_axes s asked)
+    (λ none value more is. no_swept_says (axes_of t.swept_keys) value more (asked_axes t also) is) rest in
     let seeds = same_seeds asked.seeds also.seeds s.seeds t.seeds asked.asked.seeded also.asked.seeded first in
-    let settings = same_settings s.settings t.settings (asked_axes s asked) (asked_axes t also) parts.1 in
-    (λ i. record { settings = settings i; seeds = seeds i; until = parts.0 i })
+    let swept_keys = same_swept_keys s.swept_keys t.swept_keys (asked_axes s asked) (asked_axes t also) parts.1 in
+    (λ i. record { swept_keys = swept_keys i; seeds = seeds i; until = parts.0 i })
 
--- what two texts name that begin with the first lines of pieces
-pub record AreSameHeads (mark other : List ℕ) (s t : Sweep) (p q : Piece) (x y : List ℕ) : Type 0 where
+-- what two texts name that begin with the first lines of shards
+pub record AreSameHeads (mark other : List ℕ) (s t : Sweep) (p q : Shard) (x y : List ℕ) : Type 0 where
   pub marks : mark ≡ other
   pub sweep : s ≡ t
-  pub piece : p ≡ q
+  pub shard : p ≡ q
   pub rest : x ≡ y
 
-pub same_heads : (mark other : List ℕ) (s t : Sweep) (p q : Piece) (x y : List ℕ) → IsMark mark → IsMark other → IsAskedFor s → IsAskedFor t → IsPiece p → IsPiece q
+pub same_heads : (mark other : List ℕ) (s t : Sweep) (p q : Shard) (x y : List ℕ) → IsMark mark → IsMark other → IsAskedFor s → IsAskedFor t → IsShard p → IsShard q
     → head_cell mark s p ++ x ≡ head_cell other t q ++ y → AreSameHeads mark other s t p q x y
 same_heads mark other s t p q x y marks marks_too asked also sound sound_too same =
     let one = sound.most in
@@ -230,21 +230,21 @@ same_heads mark other s t p q x y marks marks_too asked also sound sound_too sam
     let number = decimal_injective p.number q.number (omega arith) (omega arith) slash.0 in
     let of = decimal_injective p.of q.of (omega arith) (omega arith) space.0 in
     let rest : x ≡ y = cc in
-    record { marks = after.0; sweep = same_sweep s t asked also quote.0; piece = (λ i. record { number = number i; of = of i }); rest = rest }
+    record { marks = after.0; sweep = same_sweep s t asked also quote.0; shard = (λ i. record { number = number i; of = of i }); rest = rest }
   where
     behind_mark : Sweep → List ℕ → List ℕ
     behind_mark s x = plan_text s ++ 34 ∷ 44 ∷ x
 
-    behind_number : List ℕ → Sweep → Piece → List ℕ → List ℕ
+    behind_number : List ℕ → Sweep → Shard → List ℕ → List ℕ
     behind_number mark s p x = decimal p.of ++ 32 ∷ (mark ++ 32 ∷ behind_mark s x)
 
-    laid : List ℕ → Sweep → Piece → List ℕ → List ℕ
+    laid : List ℕ → Sweep → Shard → List ℕ → List ℕ
     laid mark s p x = 34 ∷ (decimal p.number ++ 47 ∷ behind_number mark s p x)
 
-    laid_is : (mark : List ℕ) (s : Sweep) (p : Piece) (x : List ℕ) → head_cell mark s p ++ x ≡ laid mark s p x
+    laid_is : (mark : List ℕ) (s : Sweep) (p : Shard) (x : List ℕ) → head_cell mark s p ++ x ≡ laid mark s p x
     laid_is mark s p x =
         ap (λ l. 34 ∷ l)
-        (append_assoc (piece_name mark s p) (34 ∷ 44 ∷ []) x
-        ∙ append_assoc (piece_text p ++ 32 ∷ mark) (32 ∷ plan_text s) (34 ∷ 44 ∷ x)
-        ∙ append_assoc (piece_text p) (32 ∷ mark) (32 ∷ behind_mark s x)
+        (append_assoc (shard_name mark s p) (34 ∷ 44 ∷ []) x
+        ∙ append_assoc (shard_text p ++ 32 ∷ mark) (32 ∷ plan_text s) (34 ∷ 44 ∷ x)
+        ∙ append_assoc (shard_text p) (32 ∷ mark) (32 ∷ behind_mark s x)
         ∙ append_assoc (decimal p.number) (47 ∷ decimal p.of) (32 ∷ (mark ++ 32 ∷ behind_mark s x)))

@@ -1,4 +1,4 @@
--- All pieces put together are the whole.
+-- All shards put together are the whole.
 use Rattle.std.proofs.Common.{◌≤◌, ℕ, Bool, List, [], ◌∷◌, arith}
 use Rattle.std.specs.Prelude.{Option, Some, None, Vec, All}
 use Rattle.std.specs.List.{AllZip}
@@ -8,22 +8,22 @@ use Rattle.std.proofs.lemmas.List.Elements.{All-cons, All-head, All-nil, All-tai
 use Rattle.trace.proofs.Beginnings.{Appends-then, Appends-kept}
 use Rattle.goals.specs.Wants.{HasFewRuns}
 use Rattle.sweep_plan.specs.Sweep.{Sweep, seed_count}
-use Rattle.figures.specs.declared.summary.CaseSummary.{CaseSummary}
-use Rattle.shards.specs.declared.piece.Piece.{Piece}
-use Rattle.shards.specs.Pieces.{whole}
-use Rattle.sweep.specs.Pieces.{piece_header}
+use Rattle.figures.specs.declared.summary.SettingSummary.{SettingSummary}
+use Rattle.shards.specs.declared.shard.Shard.{Shard}
+use Rattle.shards.specs.Shards.{whole}
+use Rattle.sweep.specs.Shards.{shard_header}
 use Rattle.sweep.specs.Runs.{IsAskedFor}
 use Rattle.sweep.proofs.Sizes.{few_of, few_runs, few_with_all}
 use Rattle.table_rows.specs.Lines.{Line, notes_of}
-use Rattle.table_rows.specs.Cases.{IsCase, SumsUpLines}
+use Rattle.table_rows.specs.Settings.{IsSetting, SumsUpLines}
 use Rattle.shard_merge.specs.Joined.{AreOf, IsMark, Joins, JoinsBehind}
 
 -- ---- behind the first line
 
 pub whole_joined : (texts : List (Vec ℕ Global)) (mark : List ℕ) (revived : Bool) (sweep : Sweep) (of : ℕ) (asked : IsAskedFor sweep) (marked : IsMark mark) (some : 1 ≤ of) (few : of ≤ 10000)
-    (old begun full new : Option (List ℕ)) (cases : List CaseSummary) → JoinsBehind [] texts mark revived sweep of begun full sweep.until cases
-    → Appends old begun (piece_header revived mark sweep whole) → Keeps full new → Joins texts old new sweep revived cases
-whole_joined texts mark revived sweep of asked marked some few old begun full new cases put head kept = record {
+    (old begun full new : Option (List ℕ)) (settings : List SettingSummary) → JoinsBehind [] texts mark revived sweep of begun full sweep.until settings
+    → Appends old begun (shard_header revived mark sweep whole) → Keeps full new → Joins texts old new sweep revived settings
+whole_joined texts mark revived sweep of asked marked some few old begun full new settings put head kept = record {
   asked = asked;
   mark = mark;
   marked = marked;
@@ -33,27 +33,27 @@ whole_joined texts mark revived sweep of asked marked some few old begun full ne
   put = record {
     body = put.body;
     there = put.there;
-    written = Appends-kept old full new _ (Appends-then old begun full (piece_header revived mark sweep whole) (put.body whole) head put.written) kept;
+    written = Appends-kept old full new _ (Appends-then old begun full (shard_header revived mark sweep whole) (put.body whole) head put.written) kept;
     each = put.each;
     are = put.are;
   };
 }
 
--- ---- how many runs cases have
+-- ---- how many runs settings have
 
-few_with_own : (width each : ℕ) (own : List (List Line)) (cases : List CaseSummary) → each ≤ 1000000 → All (IsCase width each) own → AllZip SumsUpLines own cases → All HasFewRuns cases
+few_with_own : (width each : ℕ) (own : List (List Line)) (settings : List SettingSummary) → each ≤ 1000000 → All (IsSetting width each) own → AllZip SumsUpLines own settings → All HasFewRuns settings
 few_with_own width each [] [] few sound told = All-nil HasFewRuns
-few_with_own width each [] (case ∷ cases) few sound told = absurd told
+few_with_own width each [] (setting ∷ settings) few sound told = absurd told
 few_with_own width each (lines ∷ own) [] few sound told = absurd told
-few_with_own width each (lines ∷ own) (case ∷ cases) few sound told =
-    let here = All-head (IsCase width each) lines own sound in
-    All-cons HasFewRuns case cases (few_of case (notes_of lines) (omega (arith, here.enough.few, few)) told.0)
-    (few_with_own width each own cases few (All-tail (IsCase width each) lines own sound) told.1)
+few_with_own width each (lines ∷ own) (setting ∷ settings) few sound told =
+    let here = All-head (IsSetting width each) lines own sound in
+    All-cons HasFewRuns setting settings (few_of setting (notes_of lines) (omega (arith, here.enough.few, few)) told.0)
+    (few_with_own width each own settings few (All-tail (IsSetting width each) lines own sound) told.1)
 
-few_by : (until : Option ℕ) (mark : List ℕ) (sweep : Sweep) (body : Piece → List ℕ) (cases : List CaseSummary) → seed_count sweep.seeds ≤ 1000000 → AreOf until mark sweep body cases → All HasFewRuns cases
-few_by None mark sweep body cases few are = few_with_all (seed_count sweep.seeds) (notes_of are.things) cases few are.holds.0
-few_by (Some width) mark sweep body cases few are = few_with_own width (seed_count sweep.seeds) are.things cases few are.sound are.holds.0
+few_by : (until : Option ℕ) (mark : List ℕ) (sweep : Sweep) (body : Shard → List ℕ) (settings : List SettingSummary) → seed_count sweep.seeds ≤ 1000000 → AreOf until mark sweep body settings → All HasFewRuns settings
+few_by None mark sweep body settings few are = few_with_all (seed_count sweep.seeds) (notes_of are.things) settings few are.holds.0
+few_by (Some width) mark sweep body settings few are = few_with_own width (seed_count sweep.seeds) are.things settings few are.sound are.holds.0
 
-pub few_joined : (texts : List (Vec ℕ Global)) (mark : List ℕ) (revived : Bool) (sweep : Sweep) (of : ℕ) (old new : Option (List ℕ)) (until : Option ℕ) (cases : List CaseSummary) → IsAskedFor sweep
-    → JoinsBehind [] texts mark revived sweep of old new until cases → All HasFewRuns cases
-few_joined texts mark revived sweep of old new until cases asked put = few_by until mark sweep put.body cases (few_runs sweep asked) put.are
+pub few_joined : (texts : List (Vec ℕ Global)) (mark : List ℕ) (revived : Bool) (sweep : Sweep) (of : ℕ) (old new : Option (List ℕ)) (until : Option ℕ) (settings : List SettingSummary) → IsAskedFor sweep
+    → JoinsBehind [] texts mark revived sweep of old new until settings → All HasFewRuns settings
+few_joined texts mark revived sweep of old new until settings asked put = few_by until mark sweep put.body settings (few_runs sweep asked) put.are

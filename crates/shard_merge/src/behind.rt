@@ -1,18 +1,18 @@
-//! What stands behind the first line of a piece.
+//! What stands behind the first line of a shard.
 ghost use Rattle.std.specs.Prelude.{◌≡◌, ◌<◌, ◌≤◌, IfOk, IfErr, length};
-ghost use Rattle.shards.specs.Pieces.{IsPiece};
-ghost use Rattle.shard_merge.specs.Among.{piece_at};
+ghost use Rattle.shards.specs.Shards.{IsShard};
+ghost use Rattle.shard_merge.specs.Among.{shard_at};
 ghost use Rattle.shard_merge.specs.Reasons.{ArePlaces, IsBehind, IsFirst, IsReason};
 
 use crate::fault::JoinFault;
 use crate::head::{Head, header_of};
 use crate::places::{place_of_run, text_at};
-use shards::Piece;
+use shards::Shard;
 use std::alloc::Global;
 use std::str::from_utf8;
 use sweep::is_older;
 
-/// What stands behind the first line of a piece.
+/// What stands behind the first line of a shard.
 #[derive(Drop)]
 pub(crate) struct Behind<'a> {
     /// The place of its text.
@@ -21,7 +21,7 @@ pub(crate) struct Behind<'a> {
     pub(crate) lines: &'a str,
 }
 
-/// What stands behind the first line of the piece of this number, counted from 0.
+/// What stands behind the first line of the shard of this number, counted from 0.
 pub(crate) fn lines_behind<'a>(
     alloc: Global,
     texts: &'a [Vec<u8>],
@@ -29,16 +29,16 @@ pub(crate) fn lines_behind<'a>(
     places: &[Option<usize>],
     number: usize,
 ) -> Result<Behind<'a>, JoinFault>
-    requires first { IsFirst texts.now head.now.mark.now head.now.revived head.now.plan head.now.piece }
-    requires places { ArePlaces texts.now head.now.mark.now head.now.revived head.now.plan head.now.piece.of places.now (length texts.now) }
-    requires within { number < head.now.piece.of }
-    ensures there { IfOk result (λ behind. IsBehind texts.entry.now head.now.mark.now head.now.revived head.now.plan head.now.piece.of places.now number behind.place behind.lines.now) }
+    requires first { IsFirst texts.now head.now.mark.now head.now.revived head.now.plan head.now.shard }
+    requires places { ArePlaces texts.now head.now.mark.now head.now.revived head.now.plan head.now.shard.of places.now (length texts.now) }
+    requires within { number < head.now.shard.of }
+    ensures there { IfOk result (λ behind. IsBehind texts.entry.now head.now.mark.now head.now.revived head.now.plan head.now.shard.of places.now number behind.place behind.lines.now) }
     ensures refused { IfErr result (IsReason texts.entry.now) }
 {
     let Some(place) = place_of_run(places, number) else {
         return Err(JoinFault::Missing(number as u64 + 1));
     };
-    let header = header_of(alloc, head, piece_at(number, head.piece.of))?;
+    let header = header_of(alloc, head, shard_at(number, head.shard.of))?;
     let Some(rest) = text_at(texts, place).strip_prefix(header.as_slice()) else {
         return Err(JoinFault::Other(place));
     };
@@ -52,14 +52,14 @@ pub(crate) fn lines_behind<'a>(
     Ok(Behind { place, lines })
 }
 
-/// The piece of this number, counted from 0, of so many.
-pub(crate) fn piece_at(number: usize, of: u64) -> Piece
+/// The shard of this number, counted from 0, of so many.
+pub(crate) fn shard_at(number: usize, of: u64) -> Shard
     requires within { number < of }
     requires few { of ≤ 10000 }
-    ensures same { result ≡ piece_at number of }
-    ensures sound { IsPiece result }
+    ensures same { result ≡ shard_at number of }
+    ensures sound { IsShard result }
 {
-    Piece {
+    Shard {
         number: number as u64 + 1,
         of,
     }

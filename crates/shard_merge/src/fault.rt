@@ -9,22 +9,22 @@ use thiserror::Error;
 /// Why texts weren't put together. Places are counted from 0.
 #[derive(Clone, Copy, Debug, PartialEq, Eq, Error)]
 pub enum JoinFault {
-    /// The text at this place is no piece of a sweep.
+    /// The text at this place is no shard of a sweep.
     #[error("no piece of a sweep")]
-    NoPiece(usize),
-    /// The text at this place is a piece of another sweep than the first.
+    NoShard(usize),
+    /// The text at this place is a shard of another sweep than the first.
     #[error("of another sweep")]
     Other(usize),
-    /// The text at this place is the same piece as one before it.
+    /// The text at this place is the same shard as one before it.
     #[error("there twice")]
     Doubled(usize),
-    /// The text at this place is a piece that isn't whole.
+    /// The text at this place is a shard that isn't whole.
     #[error("torn")]
     Torn(usize),
-    /// The text at this place is a piece whose lines have no checksums, as those of versions before 1.11.0.
+    /// The text at this place is a shard whose lines have no checksums, as those of versions before 1.11.0.
     #[error("without checksums")]
     Older(usize),
-    /// The piece of this number, counted from 1, isn't there.
+    /// The shard of this number, counted from 1, isn't there.
     #[error("missing")]
     Missing(u64),
     /// The table's sink failed.

@@ -1,30 +1,30 @@
-//! What the first line of a piece tells.
+//! What the first line of a shard tells.
 ghost use Rattle.std.specs.Prelude.{◌≡◌, ◌==◌, ◌≤◌, ◌++◌, ◌∷◌, All, List, ℕ, Bool, None, Some, option_map, true, false, if◌then◌else◌, IfOk, IfErr, IfSome, IsNone, bytes_eq, codes, get_or, length, map};
 ghost use Rattle.std.specs.List.{slice_split};
 ghost use Rattle.sweep_plan.specs.Sweep.{Sweep};
 ghost use Rattle.sweep_plan.specs.declared.fault.PlanFault.TheVariants as unread;
-ghost use Rattle.shards.specs.declared.piece.Piece.{Piece as Part};
-ghost use Rattle.shards.specs.Pieces.{IsPiece, piece_text};
+ghost use Rattle.shards.specs.declared.shard.Shard.{Shard as Part};
+ghost use Rattle.shards.specs.Shards.{IsShard, shard_text};
 ghost use Rattle.shards.specs.Names.{plan_text};
 ghost use Rattle.sweep.specs.Runs.{IsAskedFor};
 ghost use Rattle.shard_merge.specs.Joined.{IsMark};
-ghost use Rattle.sweep.specs.Pieces.{piece_header};
+ghost use Rattle.sweep.specs.Shards.{shard_header};
 ghost use Rattle.shard_merge.specs.declared.fault.JoinFault.TheVariants as join;
 ghost use Rattle.shard_merge.specs.Reasons.{BeginsAs, BeginsAsNone, RefusesName, SaysWidth};
 
 use crate::fault::JoinFault;
 use decimals::number;
-use shards::Piece;
+use shards::Shard;
 use std::alloc::Global;
 use sweep::write_front;
 use sweep_plan::{Plan, PlanFault};
 use trace::Put;
 
-/// What the name of a piece tells.
+/// What the name of a shard tells.
 #[derive(Drop)]
 pub(crate) struct Head<'a> {
-    /// Which piece it is.
-    pub(crate) piece: Piece,
+    /// Which shard it is.
+    pub(crate) shard: Shard,
     /// The mark of the scenario's text.
     pub(crate) mark: &'a str,
     /// The sweep.
@@ -33,14 +33,14 @@ pub(crate) struct Head<'a> {
     pub(crate) revived: bool,
 }
 
-/// What the first line of a text tells, where that is the first line of a piece whose table tells, or doesn't, of members
+/// What the first line of a text tells, where that is the first line of a shard whose table tells, or doesn't, of members
 /// that were taken for alive again.
 pub(crate) fn head_of<'a>(
     alloc: Global,
     text: &'a str,
     revived: bool,
 ) -> Result<Option<Head<'a>>, JoinFault>
-    ensures found { IfOk result (λ found. IfSome found (λ head. BeginsAs text.entry.now head.mark.now head.revived head.plan head.piece)) }
+    ensures found { IfOk result (λ found. IfSome found (λ head. BeginsAs text.entry.now head.mark.now head.revived head.plan head.shard)) }
     ensures none { IfOk result (λ found. IsNone found → (mark : List ℕ) (sweep : Sweep) (p : Part) → ¬ (BeginsAs text.entry.now mark revived sweep p)) }
     ensures memory { IfErr result (λ fault. fault ≡ join.Memory) }
 {
@@ -49,7 +49,7 @@ pub(crate) fn head_of<'a>(
         Err(PlanFault::Words) => return Ok(None),
         Err(PlanFault::Memory) => return Err(JoinFault::Memory),
     };
-    let begins = begins_as(alloc, text.as_bytes(), &head, head.piece)?;
+    let begins = begins_as(alloc, text.as_bytes(), &head, head.shard)?;
     if !begins {
         return Ok(None);
     }
@@ -58,20 +58,20 @@ pub(crate) fn head_of<'a>(
 
 /// What the name of a text tells; the name doesn't tell of the table, so that is given.
 ///
-/// Faults: `Words` where it is no name of a piece; `Memory`.
+/// Faults: `Words` where it is no name of a shard; `Memory`.
 fn read_head<'a>(alloc: Global, text: &'a str, revived: bool) -> Result<Head<'a>, PlanFault>
-    ensures piece { IfOk result (λ head. IsPiece head.piece) }
+    ensures shard { IfOk result (λ head. IsShard head.shard) }
     ensures asked { IfOk result (λ head. IsAskedFor head.plan) }
     ensures marked { IfOk result (λ head. IsMark head.mark.now) }
     ensures same { IfOk result (λ head. head.revived ≡ revived) }
     ensures only { IfOk result (λ head. (mark : List ℕ) (told : Bool) (sweep : Sweep) (p : Part) → BeginsAs text.entry.now mark told sweep p
-        → (head.mark.now ≡ mark) × (head.plan ≡ sweep) × (head.piece ≡ p)) }
+        → (head.mark.now ≡ mark) × (head.plan ≡ sweep) × (head.shard ≡ p)) }
     ensures refused { IfErr result (RefusesName text.entry.now) }
 {
     let Some((word, rest)) = parts_of_name(text) else {
         return Err(PlanFault::Words);
     };
-    let Some(piece) = Piece::read(word) else {
+    let Some(shard) = Shard::read(word) else {
         return Err(PlanFault::Words);
     };
     let Some((mark, words)) = rest.split_once(' ') else {
@@ -79,18 +79,18 @@ fn read_head<'a>(alloc: Global, text: &'a str, revived: bool) -> Result<Head<'a>
     };
     let plan = read_plan(alloc, words)?;
     Ok(Head {
-        piece,
+        shard,
         mark,
         plan,
         revived,
     })
 }
 
-/// Which piece a text says that it is, and the rest of its name.
+/// Which shard a text says that it is, and the rest of its name.
 fn parts_of_name<'a>(text: &'a str) -> Option<(&'a str, &'a str)>
     ensures quoteless { IfSome result (λ parts. All (λ byte. (byte == 34) ≡ false) parts.1.now) }
     ensures some { IfSome result (λ parts. (mark : List ℕ) (revived : Bool) (sweep : Sweep) (p : Part) → BeginsAs text.entry.now mark revived sweep p
-        → (parts.0.now ≡ piece_text p) × (parts.1.now ≡ mark ++ 32 ∷ plan_text sweep)) }
+        → (parts.0.now ≡ shard_text p) × (parts.1.now ≡ mark ++ 32 ∷ plan_text sweep)) }
     ensures none { IsNone result → BeginsAsNone text.entry.now }
 {
     let Some(inside) = text.strip_prefix('"') else {
@@ -102,31 +102,31 @@ fn parts_of_name<'a>(text: &'a str) -> Option<(&'a str, &'a str)>
     name.split_once(' ')
 }
 
-/// Whether a text begins with the first line of this piece of the sweep.
+/// Whether a text begins with the first line of this shard of the sweep.
 pub(crate) fn begins_as(
     alloc: Global,
     text: &[u8],
     head: &Head<'_>,
-    piece: Piece,
+    shard: Shard,
 ) -> Result<bool, JoinFault>
-    ensures begins { IfOk result (λ it. it ≡ true → (rest : List ℕ) × (text.now ≡ piece_header head.now.revived head.now.mark.now head.now.plan piece ++ rest)) }
-    ensures other { IfOk result (λ it. it ≡ false → (rest : List ℕ) → ¬ (text.now ≡ piece_header head.now.revived head.now.mark.now head.now.plan piece ++ rest)) }
+    ensures begins { IfOk result (λ it. it ≡ true → (rest : List ℕ) × (text.now ≡ shard_header head.now.revived head.now.mark.now head.now.plan shard ++ rest)) }
+    ensures other { IfOk result (λ it. it ≡ false → (rest : List ℕ) → ¬ (text.now ≡ shard_header head.now.revived head.now.mark.now head.now.plan shard ++ rest)) }
     ensures memory { IfErr result (λ fault. fault ≡ join.Memory) }
 {
-    let header = header_of(alloc, head, piece)?;
+    let header = header_of(alloc, head, shard)?;
     Ok(text.strip_prefix(header.as_slice()).is_some())
 }
 
-/// The first line of a piece of the sweep.
-pub(crate) fn header_of(alloc: Global, head: &Head<'_>, piece: Piece) -> Result<Vec<u8>, JoinFault>
-    ensures header { IfOk result (λ header. header.items ≡ piece_header head.now.revived head.now.mark.now head.now.plan piece) }
+/// The first line of a shard of the sweep.
+pub(crate) fn header_of(alloc: Global, head: &Head<'_>, shard: Shard) -> Result<Vec<u8>, JoinFault>
+    ensures header { IfOk result (λ header. header.items ≡ shard_header head.now.revived head.now.mark.now head.now.plan shard) }
     ensures memory { IfErr result (λ fault. fault ≡ join.Memory) }
 {
     let mut header = Put::new(Vec::new(alloc));
     match write_front(
         alloc,
         &head.plan,
-        piece,
+        shard,
         head.mark,
         head.revived,
         &mut header,
@@ -136,7 +136,7 @@ pub(crate) fn header_of(alloc: Global, head: &Head<'_>, piece: Piece) -> Result<
     }
 }
 
-/// The number of the piece that a text says that it is.
+/// The number of the shard that a text says that it is.
 pub(crate) fn number_of(text: &str) -> Option<u64>
     ensures some { IfSome result (λ number. 1 ≤ number) }
     ensures only { IfSome result (λ number. (mark : List ℕ) (revived : Bool) (sweep : Sweep) (p : Part) → BeginsAs text.now mark revived sweep p → p.number ≡ number) }
@@ -145,14 +145,14 @@ pub(crate) fn number_of(text: &str) -> Option<u64>
     let Some((word, _)) = parts_of_name(text) else {
         return None;
     };
-    let Some(piece) = Piece::read(word) else {
+    let Some(shard) = Shard::read(word) else {
         return None;
     };
-    Some(piece.number)
+    Some(shard.number)
 }
 
-/// The sweep that these words ask for: the range of its seeds, or a dash, the width of its cases' intervals where it has one,
-/// and its settings.
+/// The sweep that these words ask for: the range of its seeds, or a dash, the width of its settings' intervals where it has one,
+/// and its swept keys.
 fn read_plan(alloc: Global, words: &str) -> Result<Plan, PlanFault>
     ensures asked { IfOk result IsAskedFor }
     ensures only { IfOk result (λ plan. (sweep : Sweep) → IsAskedFor sweep → words.now ≡ plan_text sweep → plan ≡ sweep) }

@@ -1,19 +1,19 @@
-//! The pieces of a sweep put together.
+//! The shards of a sweep put together.
 ghost use Rattle.std.specs.Prelude.{◌≡◌, ◌<◌, ◌^◌, [], All, IfOk, IfErr, OnOk, length};
 ghost use Rattle.std.specs.Io.KnownBytes.{Appends, Keeps};
 ghost use Rattle.goals.specs.Wants.{HasFewRuns};
-ghost use Rattle.shards.specs.Pieces.{whole};
-ghost use Rattle.sweep.specs.Pieces.{piece_header};
-ghost use Rattle.shard_merge.specs.Joined.{Joins, JoinsBehind, JoinsPiece};
+ghost use Rattle.shards.specs.Shards.{whole};
+ghost use Rattle.sweep.specs.Shards.{shard_header};
+ghost use Rattle.shard_merge.specs.Joined.{Joins, JoinsBehind, JoinsShard};
 ghost use Rattle.shard_merge.specs.Reasons.{ArePlaces, IsFirst, IsOfSink, IsReason};
 
-use crate::behind::{lines_behind, piece_at};
+use crate::behind::{lines_behind, shard_at};
 use crate::fault::JoinFault;
 use crate::head::{Head, head_of};
 use crate::places::{places_of, text_at};
 use crate::told::Told;
-use figures::CaseSummary;
-use shards::Piece;
+use figures::SettingSummary;
+use shards::Shard;
 use std::alloc::Global;
 use std::str::from_utf8;
 use sweep::{sweep_key, write_front};
@@ -21,69 +21,69 @@ use sweep_plan::Plan;
 use table_rows::LineFault;
 use trace::{Sink, Stopped, WriteError, put_all};
 
-/// What pieces that were put together are of.
+/// What shards that were put together are of.
 #[derive(Drop)]
 pub struct Joined {
     /// The sweep.
     pub plan: Plan,
     /// Whether its tables tell of members that were taken for alive again.
     pub revived: bool,
-    /// The summaries of its cases, in their order.
-    pub cases: Vec<CaseSummary>,
+    /// The summaries of its settings, in their order.
+    pub settings: Vec<SettingSummary>,
 }
 
-/// Puts the pieces of a sweep together, whose texts come in any order: the table of the whole sweep, which is that of its
-/// only piece, goes to the sink, and what they are of is given. After a fault the sink may have got lines.
+/// Puts the shards of a sweep together, whose texts come in any order: the table of the whole sweep, which is that of its
+/// only shard, goes to the sink, and what they are of is given. After a fault the sink may have got lines.
 ///
-/// Faults: `NoPiece`, `Other`, `Doubled` or `Torn` with the place of a text that isn't a piece, is one of another sweep
+/// Faults: `NoShard`, `Other`, `Doubled` or `Torn` with the place of a text that isn't a shard, is one of another sweep
 /// than the first, is there already, or isn't whole; `Older` with that of one
-/// whose lines have no checksums; `Missing` with the number of a piece that isn't there; `Write` where
+/// whose lines have no checksums; `Missing` with the number of a shard that isn't there; `Write` where
 /// the sink failed; `Memory`.
 pub fn join<S: Sink>(alloc: Global, texts: &[Vec<u8>], table: &mut S) -> Result<Joined, JoinFault>
     requires { S.failed table.old < 2 ^ 63 }
-    ensures joined { IfOk result (λ joined. Joins texts.now (S.held table.old) (S.held table.new) joined.plan joined.revived joined.cases.items) }
-    ensures few { IfOk result (λ joined. All HasFewRuns joined.cases.items) }
+    ensures joined { IfOk result (λ joined. Joins texts.now (S.held table.old) (S.held table.new) joined.plan joined.revived joined.settings.items) }
+    ensures few { IfOk result (λ joined. All HasFewRuns joined.settings.items) }
     ensures refused { IfErr result (IsReason texts.now) }
 {
     let head = first_head(alloc, texts)?;
     let places = places_of(alloc, texts, &head)?;
     put_header(alloc, &head, table)?;
-    let cases = join_pieces(alloc, texts, &head, &places, table)?;
+    let settings = join_shards(alloc, texts, &head, &places, table)?;
     flush(table)?;
     let revived = head.revived;
     Ok(Joined {
         plan: head.plan,
         revived,
-        cases,
+        settings,
     })
 }
 
-/// Puts the lines of all pieces, one after the other, and gives the summaries of the cases.
-fn join_pieces<S: Sink>(
+/// Puts the lines of all shards, one after the other, and gives the summaries of the settings.
+fn join_shards<S: Sink>(
     alloc: Global,
     texts: &[Vec<u8>],
     head: &Head<'_>,
     places: &[Option<usize>],
     table: &mut S,
-) -> Result<Vec<CaseSummary>, JoinFault>
-    requires first { IsFirst texts.now head.now.mark.now head.now.revived head.now.plan head.now.piece }
-    requires places { ArePlaces texts.now head.now.mark.now head.now.revived head.now.plan head.now.piece.of places.now (length texts.now) }
+) -> Result<Vec<SettingSummary>, JoinFault>
+    requires first { IsFirst texts.now head.now.mark.now head.now.revived head.now.plan head.now.shard }
+    requires places { ArePlaces texts.now head.now.mark.now head.now.revived head.now.plan head.now.shard.of places.now (length texts.now) }
     requires countable { S.failed table.old < 2 ^ 63 }
-    ensures whole { IfOk result (λ cases. JoinsBehind [] texts.now head.now.mark.now head.now.revived head.now.plan head.now.piece.of
-        (S.held table.old) (S.held table.new) head.now.plan.until cases.items) }
+    ensures whole { IfOk result (λ settings. JoinsBehind [] texts.now head.now.mark.now head.now.revived head.now.plan head.now.shard.of
+        (S.held table.old) (S.held table.new) head.now.plan.until settings.items) }
     ensures same { OnOk result (S.failed table.new ≡ S.failed table.old) }
     ensures refused { IfErr result (IsReason texts.now) }
 {
-    let mut told = Told::new(alloc, head.plan.runs_of_case());
-    let of = head.piece.of as usize;
+    let mut told = Told::new(alloc, head.plan.runs_of_setting());
+    let of = head.shard.of as usize;
     for number in 0..of {
-        join_piece(alloc, texts, head, places, number, &mut told, table)?;
+        join_shard(alloc, texts, head, places, number, &mut told, table)?;
     }
     Ok(told.into_summaries(head.plan.until()))
 }
 
-/// Reads the lines of the piece of this number, counted from 0, and puts them.
-fn join_piece<S: Sink>(
+/// Reads the lines of the shard of this number, counted from 0, and puts them.
+fn join_shard<S: Sink>(
     alloc: Global,
     texts: &[Vec<u8>],
     head: &Head<'_>,
@@ -92,19 +92,19 @@ fn join_piece<S: Sink>(
     told: &mut Told,
     table: &mut S,
 ) -> Result<(), JoinFault>
-    requires first { IsFirst texts.now head.now.mark.now head.now.revived head.now.plan head.now.piece }
-    requires places { ArePlaces texts.now head.now.mark.now head.now.revived head.now.plan head.now.piece.of places.now (length texts.now) }
-    requires within { number < head.now.piece.of }
+    requires first { IsFirst texts.now head.now.mark.now head.now.revived head.now.plan head.now.shard }
+    requires places { ArePlaces texts.now head.now.mark.now head.now.revived head.now.plan head.now.shard.of places.now (length texts.now) }
+    requires within { number < head.now.shard.of }
     requires countable { S.failed table.old < 2 ^ 63 }
-    ensures whole { OnOk result (JoinsPiece head.now.plan.until texts.now head.now.mark.now head.now.revived head.now.plan head.now.piece.of number
+    ensures whole { OnOk result (JoinsShard head.now.plan.until texts.now head.now.mark.now head.now.revived head.now.plan head.now.shard.of number
         (S.held table.old) (S.held table.new) told.old told.new) }
     ensures same { OnOk result (S.failed table.new ≡ S.failed table.old) }
     ensures refused { IfErr result (IsReason texts.now) }
 {
     let behind = lines_behind(alloc, texts, head, places, number)?;
-    let piece = piece_at(number, head.piece.of);
+    let shard = shard_at(number, head.shard.of);
     let key = sweep_key(alloc, &head.plan, head.mark)?;
-    match told.read(alloc, &head.plan, &key, piece, behind.lines) {
+    match told.read(alloc, &head.plan, &key, shard, behind.lines) {
         Ok(()) => put_lines(behind.lines, table),
         Err(LineFault::Torn) => Err(JoinFault::Torn(behind.place)),
         Err(LineFault::Memory) => Err(JoinFault::Memory),
@@ -113,34 +113,34 @@ fn join_piece<S: Sink>(
 
 /// What the first text tells; there must be one.
 fn first_head<'a>(alloc: Global, texts: &'a [Vec<u8>]) -> Result<Head<'a>, JoinFault>
-    ensures first { IfOk result (λ head. IsFirst texts.entry.now head.mark.now head.revived head.plan head.piece) }
+    ensures first { IfOk result (λ head. IsFirst texts.entry.now head.mark.now head.revived head.plan head.shard) }
     ensures refused { IfErr result (IsReason texts.entry.now) }
 {
     if texts.is_empty() {
-        return Err(JoinFault::NoPiece(0));
+        return Err(JoinFault::NoShard(0));
     }
     let bytes = text_at(texts, 0);
     let Ok(text) = from_utf8(bytes) else {
-        return Err(JoinFault::NoPiece(0));
+        return Err(JoinFault::NoShard(0));
     };
     if let Some(head) = head_of(alloc, text, false)? {
         return Ok(head);
     }
     match head_of(alloc, text, true)? {
         Some(head) => Ok(head),
-        None => Err(JoinFault::NoPiece(0)),
+        None => Err(JoinFault::NoShard(0)),
     }
 }
 
 /// Puts the first line of the table.
 fn put_header<S: Sink>(alloc: Global, head: &Head<'_>, table: &mut S) -> Result<(), JoinFault>
     requires { S.failed table.old < 2 ^ 63 }
-    ensures whole { OnOk result (Appends (S.held table.old) (S.held table.new) (piece_header head.now.revived head.now.mark.now head.now.plan whole)) }
+    ensures whole { OnOk result (Appends (S.held table.old) (S.held table.new) (shard_header head.now.revived head.now.mark.now head.now.plan whole)) }
     ensures same { OnOk result (S.failed table.new ≡ S.failed table.old) }
     ensures refused { IfErr result IsOfSink }
 {
-    let piece = Piece::whole();
-    match write_front(alloc, &head.plan, piece, head.mark, head.revived, table) {
+    let shard = Shard::whole();
+    match write_front(alloc, &head.plan, shard, head.mark, head.revived, table) {
         Ok(()) => Ok(()),
         Err(WriteError::Memory) => Err(JoinFault::Memory),
         Err(WriteError::Stopped) => Err(JoinFault::Write),

@@ -1,4 +1,4 @@
-//! The pieces of a sweep put together: the table of the whole, and the summaries of its cases.
+//! The shards of a sweep put together: the table of the whole, and the summaries of its settings.
 #![tactic(auto)]
 
 mod behind;

@@ -1,32 +1,32 @@
-//! Which text is which piece.
+//! Which text is which shard.
 ghost use Rattle.std.specs.Prelude.{◌≡◌, ◌<◌, ◌≤◌, ◌+◌, ◌++◌, ℕ, Bool, Some, None, List, Option, IfOk, IfErr, IfSome, IsNone, OnOk, Vec, length, get_or, replicate, true, false};
 ghost use Rattle.std.specs.declared.alloc.Global.{Global as Heap};
 ghost use Rattle.sweep_plan.specs.Sweep.{Sweep};
-ghost use Rattle.shards.specs.Pieces.{IsPiece};
-ghost use Rattle.sweep.specs.Pieces.{piece_header};
+ghost use Rattle.shards.specs.Shards.{IsShard};
+ghost use Rattle.sweep.specs.Shards.{shard_header};
 ghost use Rattle.sweep.specs.Runs.{IsAskedFor};
-ghost use Rattle.shard_merge.specs.Among.{piece_at};
+ghost use Rattle.shard_merge.specs.Among.{shard_at};
 ghost use Rattle.shard_merge.specs.Joined.{IsMark};
 ghost use Rattle.shard_merge.specs.declared.fault.JoinFault.TheVariants as join;
 ghost use Rattle.shard_merge.specs.Reasons.{ArePlaces, BeginsAs, IsFirst, IsReason, IsTextAt, RefusesPlace, RefusesText};
 
 use crate::fault::JoinFault;
 use crate::head::{Head, begins_as, number_of};
-use shards::Piece;
+use shards::Shard;
 use std::alloc::Global;
 use std::str::from_utf8;
 
-/// The places of the texts, by the numbers of the pieces that they are, counted from 0, of the sweep of the first.
+/// The places of the texts, by the numbers of the shards that they are, counted from 0, of the sweep of the first.
 pub(crate) fn places_of(
     alloc: Global,
     texts: &[Vec<u8>],
     head: &Head<'_>,
 ) -> Result<Vec<Option<usize>>, JoinFault>
-    requires { IsFirst texts.now head.now.mark.now head.now.revived head.now.plan head.now.piece }
-    ensures places { IfOk result (λ places. ArePlaces texts.now head.now.mark.now head.now.revived head.now.plan head.now.piece.of places.items (length texts.now)) }
+    requires { IsFirst texts.now head.now.mark.now head.now.revived head.now.plan head.now.shard }
+    ensures places { IfOk result (λ places. ArePlaces texts.now head.now.mark.now head.now.revived head.now.plan head.now.shard.of places.items (length texts.now)) }
     ensures refused { IfErr result (IsReason texts.now) }
 {
-    let mut places = no_places(alloc, head.piece.of as usize)?;
+    let mut places = no_places(alloc, head.shard.of as usize)?;
     for (place, text) in texts.iter().enumerate() {
         let number = number_at(alloc, text.as_slice(), head, place)?;
         take_place(&mut places, number, place)?;
@@ -46,37 +46,37 @@ fn no_places(alloc: Global, count: usize) -> Result<Vec<Option<usize>>, JoinFaul
     Ok(places)
 }
 
-/// The number of the piece, counted from 0, that a text is of the sweep; the text is that of this place.
+/// The number of the shard, counted from 0, that a text is of the sweep; the text is that of this place.
 fn number_at(alloc: Global, text: &[u8], head: &Head<'_>, place: usize) -> Result<usize, JoinFault>
     requires asked { IsAskedFor head.now.plan }
     requires marked { IsMark head.now.mark.now }
-    requires sound { IsPiece head.now.piece }
-    ensures within { IfOk result (λ number. number < head.now.piece.of) }
-    ensures begins { IfOk result (λ number. BeginsAs text.now head.now.mark.now head.now.revived head.now.plan (piece_at number head.now.piece.of)) }
-    ensures refused { IfErr result (RefusesText text.now head.now.mark.now head.now.revived head.now.plan head.now.piece.of place) }
+    requires sound { IsShard head.now.shard }
+    ensures within { IfOk result (λ number. number < head.now.shard.of) }
+    ensures begins { IfOk result (λ number. BeginsAs text.now head.now.mark.now head.now.revived head.now.plan (shard_at number head.now.shard.of)) }
+    ensures refused { IfErr result (RefusesText text.now head.now.mark.now head.now.revived head.now.plan head.now.shard.of place) }
 {
     let Ok(words) = from_utf8(text) else {
-        return Err(JoinFault::NoPiece(place));
+        return Err(JoinFault::NoShard(place));
     };
     let Some(number) = number_of(words) else {
-        return Err(JoinFault::NoPiece(place));
+        return Err(JoinFault::NoShard(place));
     };
-    if number > head.piece.of {
+    if number > head.shard.of {
         return Err(JoinFault::Other(place));
     }
-    let of = head.piece.of;
-    let begins = begins_as(alloc, text, head, Piece { number, of })?;
+    let of = head.shard.of;
+    let begins = begins_as(alloc, text, head, Shard { number, of })?;
     if !begins {
         return Err(JoinFault::Other(place));
     }
     Ok(number as usize - 1)
 }
 
-/// Keeps the place of the piece of this number, where it has none yet.
+/// Keeps the place of the shard of this number, where it has none yet.
 fn take_place(places: &mut Vec<Option<usize>>, number: usize, place: usize) -> Result<(), JoinFault>
     requires { number < length places.old.items }
     ensures kept { OnOk result ((texts : List (Vec ℕ Heap)) (text mark : List ℕ) (revived : Bool) (sweep : Sweep) (of : ℕ) → ArePlaces texts mark revived sweep of places.old.items place
-        → IsTextAt texts place text → BeginsAs text mark revived sweep (piece_at number of) → ArePlaces texts mark revived sweep of places.new.items (place + 1)) }
+        → IsTextAt texts place text → BeginsAs text mark revived sweep (shard_at number of) → ArePlaces texts mark revived sweep of places.new.items (place + 1)) }
     ensures refused { IfErr result (RefusesPlace places.old.items number place) }
 {
     match place_of_run(places.as_slice(), number) {
@@ -88,7 +88,7 @@ fn take_place(places: &mut Vec<Option<usize>>, number: usize, place: usize) -> R
     }
 }
 
-/// The place of the piece of this number, counted from 0, if there is one.
+/// The place of the shard of this number, counted from 0, if there is one.
 pub(crate) fn place_of_run(places: &[Option<usize>], number: usize) -> Option<usize>
     requires { number < length places.now }
     ensures { result ≡ get_or places.now number None }

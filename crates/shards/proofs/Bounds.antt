@@ -1,4 +1,4 @@
--- How the runs of pieces stand among all runs.
+-- How the runs of shards stand among all runs.
 use Rattle.std.proofs.Common.{◌≡◌, ℕ, ◌+◌, ◌*◌, ◌/◌, ◌%◌, ◌<◌, ◌≤◌, arith, div-lt_iff_lt-mul}
 use Rattle.std.proofs.lemmas.Nat.{mul-le, le-div, div-add-mod'}
 use Rattle.std.proofs.Math.Nat.{mul-div_cancel_left}

@@ -1,16 +1,16 @@
--- A piece and the parts of its word.
+-- A shard and the parts of its word.
 use Rattle.std.proofs.Common.{◌≡◌, ℕ, List, Option, Some, None, Bor, decimal, sym, subst, lit<, arith}
 use Rattle.std.specs.Option.{MatchOption}
 use Rattle.std.proofs.lemmas.Str.Pattern.{IsSplitOnceResult, split_after}
 use Rattle.decimals.specs.Numbers.{IsDecimal}
 use Rattle.sweep_plan.proofs.Words.{unlike, decimal_lacks}
-use Rattle.shards.specs.declared.piece.Piece.{Piece}
-use Rattle.shards.specs.Pieces.{IsPiece, IsPieceWord}
+use Rattle.shards.specs.declared.shard.Shard.{Shard}
+use Rattle.shards.specs.Shards.{IsShard, IsShardWord}
 
 abbrev Parted : Type 0
 Parted = Option (Bor (List ℕ) × Bor (List ℕ))
 
-module _ (word : List ℕ) (p : Piece) (is : IsPieceWord word p) where
+module _ (word : List ℕ) (p : Shard) (is : IsShardWord word p) where
   at_slash : (parted : Parted) → IsSplitOnceResult 47 word parted → MatchOption parted ⊥ (λ x. (x.0.now ≡ decimal p.number) × (x.1.now ≡ decimal p.of))
   at_slash parted cut =
       let most = is.sound.most in
@@ -36,6 +36,6 @@ module _ (word : List ℕ) (p : Piece) (is : IsPieceWord word p) where
         let few = is.sound.few in
         record { written = sym parts.1; low = omega arith }
 
--- what is numbered as this piece isn't sound, so neither is this
-pub unsound_too : (p q : Piece) → p.number ≡ q.number → p.of ≡ q.of → ¬ (IsPiece q) → IsPiece p → ⊥
-unsound_too p q number of none sound = none (subst IsPiece (λ i. record { number = number i; of = of i }) sound)
+-- what is numbered as this shard isn't sound, so neither is this
+pub unsound_too : (p q : Shard) → p.number ≡ q.number → p.of ≡ q.of → ¬ (IsShard q) → IsShard p → ⊥
+unsound_too p q number of none sound = none (subst IsShard (λ i. record { number = number i; of = of i }) sound)

@@ -1,10 +1,10 @@
--- The only piece of a sweep that is made in one has all runs.
+-- The only shard of a sweep that is made in one has all runs.
 use Rattle.std.proofs.Common.{◌≡◌, ℕ, arith}
-use Rattle.shards.specs.Pieces.{IsPiece, first_run, past_run, whole}
+use Rattle.shards.specs.Shards.{IsShard, first_run, past_run, whole}
 use Rattle.shards.proofs.Bounds.{whole_share}
 
-pub whole_is_piece : IsPiece whole
-whole_is_piece = record { least = omega arith; most = omega arith; few = omega arith }
+pub whole_is_shard : IsShard whole
+whole_is_shard = record { least = omega arith; most = omega arith; few = omega arith }
 
 pub first_of_whole : (runs : ℕ) → first_run whole runs ≡ 0
 first_of_whole runs = omega arith

@@ -1,2 +1,2 @@
-pub mod Pieces
+pub mod Shards
 pub mod Names

@@ -1,10 +1,10 @@
-//! A sweep in pieces: which runs a piece has, and by which words a piece tells which it is of which sweep.
+//! A sweep in shards: which runs a shard has, and by which words a shard tells which it is of which sweep.
 #![tactic(auto)]
 
 mod name;
-mod piece;
+mod shard;
 mod words;
 
 pub use name::head_cell;
-pub use piece::Piece;
+pub use shard::Shard;
 pub use words::plan_text;

@@ -6,17 +6,17 @@ ghost use Rattle.shards.specs.Names.{seeds_word, until_text, plan_text};
 
 use base::Memory;
 use std::alloc::Global;
-use sweep_plan::{Plan, Seeds, Setting, axis_end, axis_text};
+use sweep_plan::{Plan, Seeds, Swept, axis_end, axis_text};
 
-/// The words that ask for a sweep: the range of its seeds, or a dash where it has none, the width of its cases' intervals where
+/// The words that ask for a sweep: the range of its seeds, or a dash where it has none, the width of its settings' intervals where
 /// it has one, and each key that is set with its values, or keys that go together, with spaces between them, as
-/// `1..200 until=5 swim.period=200,300`. No key of a setting is named `until`.
+/// `1..200 until=5 swim.period=200,300`. No key of a swept key is named `until`.
 pub fn plan_text(alloc: Global, plan: &Plan) -> Result<String, Memory>
     ensures { IfOk result (λ text. string_bytes text ≡ plan_text plan.now) }
 {
     let mut text = seeds_word(alloc, plan.seeds())?;
     push_width(alloc, &mut text, plan.until())?;
-    push_settings(alloc, &mut text, plan.settings())?;
+    push_swept_keys(alloc, &mut text, plan.swept_keys())?;
     Ok(text)
 }
 
@@ -49,20 +49,20 @@ fn push_width(alloc: Global, text: &mut String, until: Option<u64>) -> Result<()
 }
 
 /// Adds a space and the word of each axis.
-fn push_settings(alloc: Global, text: &mut String, settings: &[Setting]) -> Result<(), Memory>
-    ensures { OnOk result (string_bytes text.new ≡ string_bytes text.old ++ flat_map (λ axis. 32 ∷ axis_text axis) (axes_of settings.now)) }
+fn push_swept_keys(alloc: Global, text: &mut String, swept_keys: &[Swept]) -> Result<(), Memory>
+    ensures { OnOk result (string_bytes text.new ≡ string_bytes text.old ++ flat_map (λ axis. 32 ∷ axis_text axis) (axes_of swept_keys.now)) }
 {
     let mut from = 0;
-    while from < settings.len() {
-        let end = axis_end(settings, from);
-        push_axis(alloc, text, &settings[from..end])?;
+    while from < swept_keys.len() {
+        let end = axis_end(swept_keys, from);
+        push_axis(alloc, text, &swept_keys[from..end])?;
         from = end;
     }
     Ok(())
 }
 
 /// Adds a space and the word of an axis.
-fn push_axis(alloc: Global, text: &mut String, axis: &[Setting]) -> Result<(), Memory>
+fn push_axis(alloc: Global, text: &mut String, axis: &[Swept]) -> Result<(), Memory>
     ensures { OnOk result (string_bytes text.new ≡ string_bytes text.old ++ 32 ∷ axis_text axis.now) }
 {
     let word = axis_text(alloc, axis)?;

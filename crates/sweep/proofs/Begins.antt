@@ -1,11 +1,11 @@
--- What stands of the table of a piece in a text.
+-- What stands of the table of a shard in a text.
 use Rattle.std.proofs.Common.{◌≡◌, ◌≢◌, ◌⊎◌, ◌≤◌, ◌+◌, ◌-◌, ℕ, Bool, List, ◌++◌, inl, inr, refl, sym, ap, ◌∙◌, length, subst, arith, length-append}
 use Rattle.std.specs.List.{flat_map}
 use Rattle.sweep_plan.specs.Sweep.{Sweep, run_count}
-use Rattle.shards.specs.declared.piece.Piece.{Piece}
-use Rattle.shards.specs.Pieces.{IsPiece, first_run, past_run}
+use Rattle.shards.specs.declared.shard.Shard.{Shard}
+use Rattle.shards.specs.Shards.{IsShard, first_run, past_run}
 use Rattle.shards.proofs.Bounds.{share_grows}
-use Rattle.sweep.specs.Pieces.{piece_header}
+use Rattle.sweep.specs.Shards.{shard_header}
 use Rattle.sweep.specs.Resumed.{IsBegun, RefusesStart, runs_in}
 use Rattle.sweep.specs.Sums.{BeginsWithLines, HasLineOf, IsOlder, sweep_key}
 use Rattle.sweep.specs.declared.begun.BegunFault.TheVariants as begun_fault
@@ -22,13 +22,13 @@ module _ (text header first : List ℕ) (is : header ≡ first) where
   pub of_before : (rest : List ℕ) → text ≡ header ++ rest → IsOlder rest → RefusesStart first text begun_fault.Older
   of_before rest behind older = record { rest = rest; written = behind ∙ ap (λ l. l ++ rest) is; older = older }
 
--- the runs of a piece are in order
-in_order : (p : Piece) (runs : ℕ) → IsPiece p → first_run p runs ≤ past_run p runs
+-- the runs of a shard are in order
+in_order : (p : Shard) (runs : ℕ) → IsShard p → first_run p runs ≤ past_run p runs
 in_order p runs sound = share_grows (p.number - 1) p.number p.of runs (omega arith) (omega (arith, sound.least, sound.most))
 
-module _ (revived : Bool) (mark : List ℕ) (sweep : Sweep) (p : Piece) (sound : IsPiece p) (text : List ℕ) where
+module _ (revived : Bool) (mark : List ℕ) (sweep : Sweep) (p : Shard) (sound : IsShard p) (text : List ℕ) where
   abbrev header : List ℕ
-  header = piece_header revived mark sweep p
+  header = shard_header revived mark sweep p
 
   abbrev first : ℕ
   first = first_run p (run_count sweep)

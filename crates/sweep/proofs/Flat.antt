@@ -7,9 +7,9 @@ use Rattle.std.proofs.lemmas.Option.{none-some, same_Some, slice_get-map, slice_
 use Rattle.std.specs.Prelude.{slice_get}
 use Rattle.std.specs.List.{flat_map, range_with_len}
 use Rattle.std.specs.Option.{option_map}
-use Rattle.sweep_plan.specs.Sweep.{KeyValues, Sweep, case_count, seed_count, run_count}
-use Rattle.sweep_plan.specs.Cases.{cases_of}
-use Rattle.sweep_plan.proofs.Choices.{length-cases_of}
+use Rattle.sweep_plan.specs.Sweep.{KeyValues, Sweep, setting_count, seed_count, run_count}
+use Rattle.sweep_plan.specs.Settings.{settings_of}
+use Rattle.sweep_plan.proofs.Choices.{length-settings_of}
 use Rattle.sweep_plan.specs.declared.seeds.Seeds.{Seeds}
 use Rattle.sweep_plan.specs.declared.choice.Choice.{Choice}
 use Rattle.sweep.specs.Runs.{IsRunAt, planned_as, runs_of, seeds_of}
@@ -26,7 +26,7 @@ module _ {X : Type 0} where
   slice_get-right (z ∷ xs) ys i (suc j) e = slice_get-right xs ys i j (omega (arith, e))
 
 module _ {X A : Type 0} (f : X → List A) (m : ℕ) (same : (x : X) → length (f x) ≡ m) where
-  -- pieces of one length: the j-th of the i-th piece
+  -- shards of one length: the j-th of the i-th shard
   pub flat_at : (xs : List X) (i j n : ℕ) (x : X) (a : A) → slice_get xs i ≡ Some x → slice_get (f x) j ≡ Some a → n ≡ i * m + j
       → slice_get (flat_map f xs) n ≡ Some a
   flat_at [] i j n x a e h q = absurd (none-some x e)
@@ -41,8 +41,8 @@ module _ {X A : Type 0} (f : X → List A) (m : ℕ) (same : (x : X) → length 
   flat_length [] = omega arith
   flat_length (x ∷ xs) = omega (arith, length-append (f x) (flat_map f xs), same x, flat_length xs)
 
-pub cases_counted : (settings : List KeyValues) → length (cases_of settings) ≡ case_count settings
-cases_counted settings = length-cases_of settings
+pub settings_counted : (swept_keys : List KeyValues) → length (settings_of swept_keys) ≡ setting_count swept_keys
+settings_counted swept_keys = length-settings_of swept_keys
 
 pub seeds_counted : (seeds : Option Seeds) → length (seeds_of seeds) ≡ seed_count seeds
 seeds_counted None = refl
@@ -54,34 +54,34 @@ each_counted sweep chosen = length-map (seeds_of sweep.seeds) (planned_as chosen
 pub runs_counted : (sweep : Sweep) → length (runs_of sweep) ≡ run_count sweep
 unfolding runs_of
 runs_counted sweep =
-    flat_length _ (seed_count sweep.seeds) (each_counted sweep) (cases_of sweep.settings) ∙ ap (λ n. n * seed_count sweep.seeds) (cases_counted sweep.settings)
+    flat_length _ (seed_count sweep.seeds) (each_counted sweep) (settings_of sweep.swept_keys) ∙ ap (λ n. n * seed_count sweep.seeds) (settings_counted sweep.swept_keys)
 
--- where there is a run, each case runs
+-- where there is a run, each setting runs
 pub each_runs : (sweep : Sweep) (number : ℕ) → number < run_count sweep → 0 < seed_count sweep.seeds
 each_runs sweep number lt = by (seed_count sweep.seeds) lt
   where
-    by : (m : ℕ) → number < case_count sweep.settings * m → 0 < m
+    by : (m : ℕ) → number < setting_count sweep.swept_keys * m → 0 < m
     by zero h = absurd (omega (arith, h))
     by (suc m) h = omega arith
 
--- its case is one of the cases
-pub case_within : (sweep : Sweep) (number : ℕ) → number < run_count sweep → number / seed_count sweep.seeds < case_count sweep.settings
-case_within sweep number lt =
+-- its setting is one of the settings
+pub setting_within : (sweep : Sweep) (number : ℕ) → number < run_count sweep → number / seed_count sweep.seeds < setting_count sweep.swept_keys
+setting_within sweep number lt =
     let split = div-add-mod' number (seed_count sweep.seeds) in
     (div-lt_iff_lt-mul (each_runs sweep number lt)).1 lt
 
--- the run of a case with the seed at a place
-pub run_in : (sweep : Sweep) (case place : ℕ) (chosen : List Choice) (seed : Option ℕ)
-    → slice_get (cases_of sweep.settings) case ≡ Some chosen → slice_get (seeds_of sweep.seeds) place ≡ Some seed
-    → IsRunAt sweep (case * seed_count sweep.seeds + place) (planned_as chosen seed)
+-- the run of a setting with the seed at a place
+pub run_in : (sweep : Sweep) (setting place : ℕ) (chosen : List Choice) (seed : Option ℕ)
+    → slice_get (settings_of sweep.swept_keys) setting ≡ Some chosen → slice_get (seeds_of sweep.seeds) place ≡ Some seed
+    → IsRunAt sweep (setting * seed_count sweep.seeds + place) (planned_as chosen seed)
 unfolding runs_of
-run_in sweep case place chosen seed e h =
-    flat_at _ (seed_count sweep.seeds) (each_counted sweep) (cases_of sweep.settings) case place (case * seed_count sweep.seeds + place) chosen (planned_as chosen seed) e
+run_in sweep setting place chosen seed e h =
+    flat_at _ (seed_count sweep.seeds) (each_counted sweep) (settings_of sweep.swept_keys) setting place (setting * seed_count sweep.seeds + place) chosen (planned_as chosen seed) e
     (slice_get-map (planned_as chosen) (seeds_of sweep.seeds) place ∙ ap (option_map (planned_as chosen)) h) refl
 
--- and the run of a number is that case with that seed
+-- and the run of a number is that setting with that seed
 pub run_at : (sweep : Sweep) (number : ℕ) (chosen : List Choice) (seed : Option ℕ)
-    → slice_get (cases_of sweep.settings) (number / seed_count sweep.seeds) ≡ Some chosen
+    → slice_get (settings_of sweep.swept_keys) (number / seed_count sweep.seeds) ≡ Some chosen
     → slice_get (seeds_of sweep.seeds) (number % seed_count sweep.seeds) ≡ Some seed
     → IsRunAt sweep number (planned_as chosen seed)
 run_at sweep number chosen seed e h =

@@ -3,14 +3,14 @@ pub mod Handing
 mod Lots
 pub mod Sharing
 mod Seeds
-mod CasesJudged
+mod SettingsJudged
 pub mod Numbers
 pub mod Steps
 pub mod Gathered
 mod Pushed
-mod CaseTexts
+mod SettingTexts
 pub mod Sizes
-pub mod PieceCourse
+pub mod ShardCourse
 pub mod LinesOf
 pub mod Kept
 mod Begins

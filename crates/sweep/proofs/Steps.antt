@@ -24,7 +24,7 @@ use Rattle.run_output.specs.Written.{sink_failures}
 use Rattle.figures.specs.Notes.{Note}
 use Rattle.sweep_plan.specs.Sweep.{Sweep, run_count}
 use Rattle.sweep.specs.Runs.{Planned, Made, IsMadeAs, AreMadeBetween, IsRunAt, noted, runs_of, runs_between, verdict_of}
-use Rattle.sweep.specs.Table.{tells_revived, noted_line, lines_text, Course, HasLines, BeginsLines, HasCause, IsCauseAt, IsMadeOf, IsMadeRun}
+use Rattle.sweep.specs.Table.{counts_revived, noted_line, lines_text, Course, HasLines, BeginsLines, HasCause, IsCauseAt, IsMadeOf, IsMadeRun}
 use Rattle.sweep.specs.declared.making.MadeRun.{MadeRun}
 use Rattle.sweep.specs.Summaries.{HasCome}
 use Rattle.sweep.specs.Judged.{IsAccepted, IsAcceptedAt, AreAccepted}
@@ -50,9 +50,9 @@ between_more xs from n x le e =
     ap (λ k. take k (drop from xs)) more ∙ taken_more (drop from xs) (n - from) x (past xs from n le ∙ e)
 
 pub text_more : (tree : Data) (course : Course) (made : List Made) (m : Made)
-    → lines_text tree course made ++ noted_line (tells_revived tree) course.key m ≡ lines_text tree course (made ++ m ∷ [])
+    → lines_text tree course made ++ noted_line (counts_revived tree) course.key m ≡ lines_text tree course (made ++ m ∷ [])
 text_more tree course made m =
-    let line : Made → List ℕ = noted_line (tells_revived tree) course.key in
+    let line : Made → List ℕ = noted_line (counts_revived tree) course.key in
     append_assoc course.front (flat_map line made) (line m)
     ∙ ap (λ l. course.front ++ l) (ap (λ l. flat_map line made ++ l) (sym (append-nil (line m))) ∙ sym (flat_map-append line made (m ∷ [])))
 
@@ -207,7 +207,7 @@ module _ (tree : Data) (sweep : Sweep) where
         let here = All-head (IsAccepted tree) p xs all in
         let run = exists here.0 here.2 in
         let rest = runs_left xs (All-tail (IsAccepted tree) p xs all) in
-        let m : Made = record { case = p.case; scenario = here.0; rows = run.0 } in
+        let m : Made = record { setting = p.setting; scenario = here.0; rows = run.0 } in
         let so : IsMadeAs tree p m = record { same = refl; accepted = here.1; run = run.1 } in
         (m ∷ rest.0, (so, rest.1))
 
@@ -222,7 +222,7 @@ module _ (tree : Data) (sweep : Sweep) where
         take-take count (course.till - course.from) (drop course.from (runs_of sweep)) few in
         let accepted = All-take (IsAccepted tree) (course.till - course.from) (drop course.from (runs_of sweep)) (All-drop (IsAccepted tree) course.from (runs_of sweep) all) in
         let left = runs_left (drop count planned) (All-drop (IsAccepted tree) count planned accepted) in
-        let line : Made → List ℕ = noted_line (tells_revived tree) course.key in
+        let line : Made → List ℕ = noted_line (counts_revived tree) course.key in
         let text : lines_text tree course lines.made ++ flat_map line left.0 ≡ lines_text tree course (lines.made ++ left.0) =
         append_assoc course.front (flat_map line lines.made) (flat_map line left.0) ∙ ap (λ l. course.front ++ l) (sym (flat_map-append line lines.made left.0)) in (
           lines.made ++ left.0,
@@ -233,8 +233,8 @@ module _ (tree : Data) (sweep : Sweep) where
         )
 
   module _ (key : List ℕ) (number : ℕ) (run : MadeRun) (is : IsMadeRun tree sweep key number run) (course : Course) (keyed : course.key ≡ key) where
-    line_is : run.line.items ≡ noted_line (tells_revived tree) course.key is.made
-    line_is = is.written ∙ ap (λ k. noted_line (tells_revived tree) k is.made) (sym keyed)
+    line_is : run.line.items ≡ noted_line (counts_revived tree) course.key is.made
+    line_is = is.written ∙ ap (λ k. noted_line (counts_revived tree) k is.made) (sym keyed)
 
     -- its line was written, and it was gathered
     pub line_whole : (mid held : Option (List ℕ)) (Before After : List Note → Type 0) → Appends mid held run.line.items
@@ -250,7 +250,7 @@ module _ (tree : Data) (sweep : Sweep) where
             low = omega (arith, lines.low);
             are = are_more course.from number is.planned is.made lines.made lines.low is.there is.is lines.are;
             written = subst (Appends course.start held) (text_more tree course lines.made is.made)
-                (Appends-then course.start mid held (lines_text tree course lines.made) (noted_line (tells_revived tree) course.key is.made) lines.written (subst (Appends mid held) line_is p));
+                (Appends-then course.start mid held (lines_text tree course lines.made) (noted_line (counts_revived tree) course.key is.made) lines.written (subst (Appends mid held) line_is p));
           };
           gathered = subst After added (gathers (map noted lines.made) come.gathered);
         }
@@ -265,5 +265,5 @@ module _ (tree : Data) (sweep : Sweep) where
       high = high;
       are = are_more course.from number is.planned is.made lines.made lines.low is.there is.is lines.are;
       written = beginning-of course.start held _ _ (text_more tree course lines.made is.made)
-          (beginning-then course.start mid held (lines_text tree course lines.made) (noted_line (tells_revived tree) course.key is.made) lines.written (beginning-of mid held _ _ line_is p));
+          (beginning-then course.start mid held (lines_text tree course lines.made) (noted_line (counts_revived tree) course.key is.made) lines.written (beginning-of mid held _ _ line_is p));
     }

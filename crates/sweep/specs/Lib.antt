@@ -3,7 +3,7 @@ pub mod Sums
 pub mod Table
 pub mod Texts
 pub mod Judged
-pub mod Pieces
+pub mod Shards
 pub mod Summaries
 pub mod Resumed
 pub mod Shares

@@ -1,15 +1,15 @@
--- The table of a piece that was cut off, and how it goes on.
+-- The table of a shard that was cut off, and how it goes on.
 use Rattle.std.specs.Prelude.{◌≡◌, ◌≢◌, ◌⊎◌, ◌≤◌, ◌+◌, ◌-◌, ℕ, Bool, List, ◌++◌, Option, drop, length}
 use Rattle.std.specs.List.{flat_map}
 use Rattle.std.specs.Io.KnownBytes.{Appends}
 use Rattle.toml.specs.Data.{Data}
 use Rattle.trace.specs.Sinks.{AppendsBeginning}
 use Rattle.sweep_plan.specs.Sweep.{Sweep, run_count}
-use Rattle.shards.specs.declared.piece.Piece.{Piece}
-use Rattle.shards.specs.Pieces.{first_run, past_run}
+use Rattle.shards.specs.declared.shard.Shard.{Shard}
+use Rattle.shards.specs.Shards.{first_run, past_run}
 use Rattle.sweep.specs.Runs.{Made, AreMadeBetween}
-use Rattle.sweep.specs.Table.{Course, noted_line, tells_revived}
-use Rattle.sweep.specs.Pieces.{piece_header}
+use Rattle.sweep.specs.Table.{Course, noted_line, counts_revived}
+use Rattle.sweep.specs.Shards.{shard_header}
 use Rattle.sweep.specs.Sums.{BeginsWithLines, HasLineOf, IsOlder, sweep_key}
 use Rattle.sweep.specs.declared.begun.BegunFault.{BegunFault}
 use Rattle.sweep.specs.declared.begun.BegunFault.TheVariants.{Other, Older, Memory}
@@ -30,15 +30,15 @@ pub record IsLong (key : List ℕ) (sweep : Sweep) (first most : ℕ) (header te
   pub stay : kept + length left ≡ length text
   pub no_more : (runs ≡ most) ⊎ ¬ (HasLineOf key sweep (first + runs) left)
 
--- how many runs the piece has
-abbrev pub runs_in : Sweep → Piece → ℕ
+-- how many runs the shard has
+abbrev pub runs_in : Sweep → Shard → ℕ
 runs_in sweep p = past_run p (run_count sweep) - first_run p (run_count sweep)
 
--- So much of the table of a piece stands in the text: so many bytes stay, with the lines of so many runs. Each has its checksum, and the values and the
+-- So much of the table of a shard stands in the text: so many bytes stay, with the lines of so many runs. Each has its checksum, and the values and the
 -- seed of the run at its place. They are all such lines with which the text goes on behind its first one.
-pub record IsBegun (revived : Bool) (mark : List ℕ) (sweep : Sweep) (p : Piece) (text : List ℕ) (kept runs : ℕ) : Type 0 where
-  pub stands : IsShort (piece_header revived mark sweep p) text kept runs
-      ⊎ IsLong (sweep_key mark sweep) sweep (first_run p (run_count sweep)) (runs_in sweep p) (piece_header revived mark sweep p) text kept runs
+pub record IsBegun (revived : Bool) (mark : List ℕ) (sweep : Sweep) (p : Shard) (text : List ℕ) (kept runs : ℕ) : Type 0 where
+  pub stands : IsShort (shard_header revived mark sweep p) text kept runs
+      ⊎ IsLong (sweep_key mark sweep) sweep (first_run p (run_count sweep)) (runs_in sweep p) (shard_header revived mark sweep p) text kept runs
   pub few : first_run p (run_count sweep) + runs ≤ past_run p (run_count sweep)
 
 -- of the text and the first line neither begins with the other
@@ -58,35 +58,35 @@ RefusesStart header text Other = IsApart header text
 RefusesStart header text Older = IsOfBefore header text
 RefusesStart header text Memory = Unit {0}
 
-abbrev pub RefusesBegun : Bool → List ℕ → Sweep → Piece → List ℕ → BegunFault → Type 0
-RefusesBegun revived mark sweep p text fault = RefusesStart (piece_header revived mark sweep p) text fault
+abbrev pub RefusesBegun : Bool → List ℕ → Sweep → Shard → List ℕ → BegunFault → Type 0
+RefusesBegun revived mark sweep p text fault = RefusesStart (shard_header revived mark sweep p) text fault
 
--- what comes behind so many bytes of a piece's table: what they lack of its first line, and the lines of the runs that were left
-abbrev pub rest_text : Bool → List ℕ → Sweep → Piece → ℕ → List Made → List ℕ
-rest_text revived mark sweep p kept made = drop kept (piece_header revived mark sweep p) ++ flat_map (noted_line revived (sweep_key mark sweep)) made
+-- what comes behind so many bytes of a shard's table: what they lack of its first line, and the lines of the runs that were left
+abbrev pub rest_text : Bool → List ℕ → Sweep → Shard → ℕ → List Made → List ℕ
+rest_text revived mark sweep p kept made = drop kept (shard_header revived mark sweep p) ++ flat_map (noted_line revived (sweep_key mark sweep)) made
 
--- the runs of a piece but for so many, the first
-abbrev pub AreMadeBehind : Data → Sweep → Piece → ℕ → List Made → Type 0
+-- the runs of a shard but for so many, the first
+abbrev pub AreMadeBehind : Data → Sweep → Shard → ℕ → List Made → Type 0
 AreMadeBehind tree sweep p runs made = AreMadeBetween tree sweep (first_run p (run_count sweep) + runs) (past_run p (run_count sweep)) made
 
 -- how these lines come, behind so many bytes that were written before, and what these lack of the first line
-abbrev pub rest_course : Data → List ℕ → Sweep → Piece → ℕ → ℕ → Option (List ℕ) → Course
+abbrev pub rest_course : Data → List ℕ → Sweep → Shard → ℕ → ℕ → Option (List ℕ) → Course
 rest_course tree mark sweep p kept runs start = record {
   key = sweep_key mark sweep;
   start = start;
-  front = drop kept (piece_header (tells_revived tree) mark sweep p);
+  front = drop kept (shard_header (counts_revived tree) mark sweep p);
   from = first_run p (run_count sweep) + runs;
   till = past_run p (run_count sweep);
 }
 
 -- that was appended
-pub record WritesRest (tree : Data) (mark : List ℕ) (sweep : Sweep) (p : Piece) (kept runs : ℕ) (old new : Option (List ℕ)) : Type 0 where
+pub record WritesRest (tree : Data) (mark : List ℕ) (sweep : Sweep) (p : Shard) (kept runs : ℕ) (old new : Option (List ℕ)) : Type 0 where
   pub made : List Made
   pub are : AreMadeBehind tree sweep p runs made
-  pub written : Appends old new (rest_text (tells_revived tree) mark sweep p kept made)
+  pub written : Appends old new (rest_text (counts_revived tree) mark sweep p kept made)
 
 -- a beginning of it was
-pub record BeginsRest (tree : Data) (mark : List ℕ) (sweep : Sweep) (p : Piece) (kept runs : ℕ) (old new : Option (List ℕ)) : Type 0 where
+pub record BeginsRest (tree : Data) (mark : List ℕ) (sweep : Sweep) (p : Shard) (kept runs : ℕ) (old new : Option (List ℕ)) : Type 0 where
   pub made : List Made
   pub are : AreMadeBehind tree sweep p runs made
-  pub written : AppendsBeginning old new (rest_text (tells_revived tree) mark sweep p kept made)
+  pub written : AppendsBeginning old new (rest_text (counts_revived tree) mark sweep p kept made)

@@ -1,4 +1,4 @@
--- The runs of a sweep: each case with each seed, in order.
+-- The runs of a sweep: each setting with each seed, in order.
 use Rattle.std.specs.Prelude.{◌≡◌, ℕ, ◌-◌, List, [], ◌∷◌, Option, Some, None, Result, Ok, map, slice_get, take, drop}
 use Rattle.std.specs.List.{AllZip, flat_map, range_with_len}
 use Rattle.toml.specs.Data.{Data}
@@ -8,35 +8,35 @@ use Rattle.trace.specs.declared.row.Row.{Row}
 use Rattle.member_laws.specs.Runs.{IsRunOf}
 use Rattle.figures.specs.Notes.{Note, note_of}
 use Rattle.sweep_plan.specs.Sweep.{Sweep, seed_count}
-use Rattle.sweep_plan.specs.Cases.{cases_of}
+use Rattle.sweep_plan.specs.Settings.{settings_of}
 use Rattle.sweep_plan.specs.Document.{with_values}
 use Rattle.sweep_plan.specs.Asked.{IsSweepOf}
 use Rattle.sweep_plan.specs.declared.seeds.Seeds.{Seeds}
 use Rattle.sweep_plan.specs.declared.choice.Choice.{Choice}
 
--- a run that a sweep asks for: the values of its case, and its seed, which is the text's own where none is asked for
+-- a run that a sweep asks for: the values of its setting, and its seed, which is the text's own where none is asked for
 pub record Planned : Type 0 where
-  pub case : List Choice
+  pub setting : List Choice
   pub seed : Option ℕ
 
 abbrev pub planned_as : List Choice → Option ℕ → Planned
-planned_as chosen seeded = record { case = chosen; seed = seeded }
+planned_as chosen seeded = record { setting = chosen; seed = seeded }
 
 -- words ask for the sweep
 pub record IsAskedFor (sweep : Sweep) : Type 0 where
-  pub settings : List (List ℕ)
+  pub swept_keys : List (List ℕ)
   pub seeds : Option (List ℕ)
   pub until : Option ℕ
-  pub asked : IsSweepOf settings seeds until sweep
+  pub asked : IsSweepOf swept_keys seeds until sweep
 
--- the seeds with which each case runs, from the first to the last
+-- the seeds with which each setting runs, from the first to the last
 abbrev pub seeds_of : Option Seeds → List (Option ℕ)
 seeds_of None = None ∷ []
 seeds_of (Some r) = map Some (range_with_len r.first (seed_count (Some r)))
 
--- each case with each seed; a case's seeds come one after the other
+-- each setting with each seed; a setting's seeds come one after the other
 unfoldable pub runs_of : Sweep → List Planned
-runs_of sweep = flat_map (λ chosen. map (planned_as chosen) (seeds_of sweep.seeds)) (cases_of sweep.settings)
+runs_of sweep = flat_map (λ chosen. map (planned_as chosen) (seeds_of sweep.seeds)) (settings_of sweep.swept_keys)
 
 -- the runs from one number, counted from 0, to before another
 abbrev pub runs_between : Sweep → ℕ → ℕ → List Planned
@@ -48,21 +48,21 @@ IsRunAt sweep number p = slice_get (runs_of sweep) number ≡ Some p
 
 -- what the document of a run is answered
 abbrev pub verdict_of : Data → Planned → Result Setup ℕ
-verdict_of tree p = document_verdict (with_values tree p.case p.seed)
+verdict_of tree p = document_verdict (with_values tree p.setting p.seed)
 
--- a run that was made: its case, its scenario and the rows of its trace
+-- a run that was made: its setting, its scenario and the rows of its trace
 pub record Made : Type 0 where
-  pub case : List Choice
+  pub setting : List Choice
   pub scenario : Setup
   pub rows : List Row
 
 -- it is the run that was asked for, of a document
 pub record IsMadeAs (tree : Data) (p : Planned) (m : Made) : Type 0 where
-  pub same : m.case ≡ p.case
+  pub same : m.setting ≡ p.setting
   pub accepted : verdict_of tree p ≡ Ok m.scenario
   pub run : IsRunOf m.scenario m.rows
 
--- what its case keeps of it
+-- what its setting keeps of it
 abbrev pub noted : Made → Note
 noted m = note_of m.scenario m.rows
 

@@ -19,12 +19,12 @@ abbrev pub seed_cell : Option ℕ → List ℕ
 seed_cell None = []
 seed_cell (Some seed) = decimal seed ++ 44 ∷ []
 
--- the cells that the plan of a run tells, each with a comma behind it: the values of its case, and its seed
+-- the cells that the plan of a run tells, each with a comma behind it: the values of its setting, and its seed
 abbrev pub value_cells : List Choice → List ℕ
 value_cells chosen = flat_map (λ c. value_text c.value ++ 44 ∷ []) chosen
 
 abbrev pub lead_of : Planned → List ℕ
-lead_of p = value_cells p.case ++ seed_cell p.seed
+lead_of p = value_cells p.setting ++ seed_cell p.seed
 
 -- behind the first cell of the line, its note, stand those of the run of this number
 pub record IsPlaced (sweep : Sweep) (number : ℕ) (line : List ℕ) : Type 0 where

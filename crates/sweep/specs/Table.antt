@@ -25,13 +25,13 @@ use Rattle.line_sums.specs.Sums.{summed}
 use Rattle.sweep.specs.declared.making.MadeRun.{MadeRun}
 use Rattle.sweep.specs.Runs.{Planned, Made, IsMadeAs, AreMadeBetween, IsRunAt, noted, verdict_of}
 
--- the values of a case, as words say them
+-- the values of a setting, as words say them
 abbrev pub texts_of : List Choice → List (List ℕ)
 texts_of chosen = map (λ c. value_text c.value) chosen
 
 -- the keys that are set, in the order of the words
 abbrev pub names_of : List KeyValues → List (List ℕ)
-names_of settings = map (λ s. key_name s.key) settings
+names_of swept_keys = map (λ s. key_name s.key) swept_keys
 
 -- whether a version has members that are taken for alive again
 abbrev pub has_revivals : Version → Bool
@@ -40,12 +40,12 @@ has_revivals Two = false
 has_revivals Three = true
 
 -- the sweep of a text of such a version tells of them
-abbrev pub tells_revived : Data → Bool
-tells_revived tree = has_revivals (version_of tree)
+abbrev pub counts_revived : Data → Bool
+counts_revived tree = has_revivals (version_of tree)
 
 -- the line of a run that was made
 abbrev pub made_line : Bool → Made → List ℕ
-made_line revived m = run_line revived (texts_of m.case) m.scenario.seed (figures_of m.scenario m.rows)
+made_line revived m = run_line revived (texts_of m.setting) m.scenario.seed (figures_of m.scenario m.rows)
 
 -- the line of a run that was made, with its note before it, and before that its checksum with a key
 abbrev pub noted_line : Bool → List ℕ → Made → List ℕ
@@ -62,7 +62,7 @@ pub record Course : Type 0 where
 
 -- what is put, with the lines of these runs
 abbrev pub lines_text : Data → Course → List Made → List ℕ
-lines_text tree course made = course.front ++ flat_map (noted_line (tells_revived tree) course.key) made
+lines_text tree course made = course.front ++ flat_map (noted_line (counts_revived tree) course.key) made
 
 -- what is put ahead, and the lines of the runs to before this number, were appended
 pub record HasLines (tree : Data) (sweep : Sweep) (course : Course) (held : Option (List ℕ)) (number : ℕ) : Type 0 where
@@ -123,7 +123,7 @@ pub record IsMadeRun (tree : Data) (sweep : Sweep) (key : List ℕ) (number : �
   pub there : IsRunAt sweep number planned
   pub made : Made
   pub is : IsMadeAs tree planned made
-  pub written : run.line.items ≡ noted_line (tells_revived tree) key made
+  pub written : run.line.items ≡ noted_line (counts_revived tree) key made
   pub kept : run.note ≡ noted made
 
 -- the run of this number was made, or there is a cause for there being none

@@ -1,13 +1,13 @@
--- The text of the cases of a sweep: a header, and a line for each case, in aligned columns.
+-- The text of the settings of a sweep: a header, and a line for each setting, in aligned columns.
 use Rattle.std.specs.Prelude.{ℕ, Bool, List, [], ◌∷◌, ◌++◌, length, map, max}
 use Rattle.std.specs.List.{flat_map, zip}
 use Rattle.sweep_plan.specs.Keys.{key_name}
 use Rattle.sweep_plan.specs.Values.{value_text}
 use Rattle.sweep_plan.specs.Sweep.{KeyValues, Sweep}
-use Rattle.sweep_plan.specs.Cases.{cases_of}
+use Rattle.sweep_plan.specs.Settings.{settings_of}
 use Rattle.sweep_plan.specs.declared.choice.Choice.{Choice}
-use Rattle.figures.specs.CaseLines.{cells_aligned, figure_texts, figure_widths, figure_words}
-use Rattle.figures.specs.declared.summary.CaseSummary.{CaseSummary}
+use Rattle.figures.specs.SettingLines.{cells_aligned, figure_texts, figure_widths, figure_words}
+use Rattle.figures.specs.declared.summary.SettingSummary.{SettingSummary}
 use Rattle.goals.specs.Front.{is_on_front, mark_text, mark_word}
 use Rattle.sweep.specs.Table.{names_of, texts_of}
 
@@ -21,22 +21,22 @@ abbrev pub column_width : KeyValues → ℕ
 column_width s = longest (key_name s.key ∷ map value_text s.values)
 
 abbrev pub widths_of : List KeyValues → List ℕ
-widths_of settings = map column_width settings
+widths_of swept_keys = map column_width swept_keys
 
--- the line of a case among all, with its mark
-abbrev pub marked_line : Bool → List ℕ → List CaseSummary → List Choice → CaseSummary → List ℕ
+-- the line of a setting among all, with its mark
+abbrev pub marked_line : Bool → List ℕ → List SettingSummary → List Choice → SettingSummary → List ℕ
 marked_line revived widths all chosen summary = cells_aligned (widths ++ figure_widths revived) (texts_of chosen ++ figure_texts revived summary) ++ mark_text (is_on_front summary all)
 
--- the lines of cases with these summaries, among all
-abbrev pub lines_of_cases : Bool → List ℕ → List CaseSummary → List (List Choice) → List CaseSummary → List ℕ
-lines_of_cases revived widths all cases summaries = flat_map (λ told. marked_line revived widths all told.0 told.1) (zip cases summaries)
+-- the lines of settings with these summaries, among all
+abbrev pub lines_of_settings : Bool → List ℕ → List SettingSummary → List (List Choice) → List SettingSummary → List ℕ
+lines_of_settings revived widths all settings summaries = flat_map (λ told. marked_line revived widths all told.0 told.1) (zip settings summaries)
 
 -- the words over the columns, with that over the marks
 abbrev pub marked_header : Bool → List KeyValues → List ℕ
-marked_header revived settings = cells_aligned (widths_of settings ++ figure_widths revived) (names_of settings ++ figure_words revived) ++ mark_word
+marked_header revived swept_keys = cells_aligned (widths_of swept_keys ++ figure_widths revived) (names_of swept_keys ++ figure_words revived) ++ mark_word
 
--- The header, and the line of each case, in order. A case that no other beats is marked. Whether they tell of members that were taken for alive again
+-- The header, and the line of each setting, in order. A setting that no other beats is marked. Whether they tell of members that were taken for alive again
 -- is given.
-abbrev pub cases_text : Bool → Sweep → List CaseSummary → List ℕ
-cases_text revived sweep summaries =
-    marked_header revived sweep.settings ++ lines_of_cases revived (widths_of sweep.settings) summaries (cases_of sweep.settings) summaries
+abbrev pub settings_text : Bool → Sweep → List SettingSummary → List ℕ
+settings_text revived sweep summaries =
+    marked_header revived sweep.swept_keys ++ lines_of_settings revived (widths_of sweep.swept_keys) summaries (settings_of sweep.swept_keys) summaries

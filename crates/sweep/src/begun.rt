@@ -1,30 +1,30 @@
-//! What stands of the table of a piece that was cut off.
+//! What stands of the table of a shard that was cut off.
 ghost use Rattle.std.specs.Prelude.{◌≡◌, ◌≢◌, ◌++◌, true, false, List, ℕ, IfOk, IfErr, IfSome, IsNone};
 ghost use Rattle.toml.specs.View.{view};
-ghost use Rattle.shards.specs.Pieces.{IsPiece};
-ghost use Rattle.sweep.specs.Pieces.{piece_header};
+ghost use Rattle.shards.specs.Shards.{IsShard};
+ghost use Rattle.sweep.specs.Shards.{shard_header};
 ghost use Rattle.sweep.specs.Runs.{IsAskedFor};
-ghost use Rattle.sweep.specs.Table.{tells_revived};
+ghost use Rattle.sweep.specs.Table.{counts_revived};
 ghost use Rattle.sweep.specs.Resumed.{IsBegun, RefusesBegun, RefusesStart};
 ghost use Rattle.sweep.specs.declared.begun.BegunFault.TheVariants as begun_fault;
 
-use crate::piece_tables::front_of;
-use crate::revived::tells_revived;
+use crate::revived::counts_revived;
+use crate::shard_tables::front_of;
 use crate::standing::{is_older, lines_of_runs};
 use crate::summing::sweep_key;
 use base::Memory;
-use shards::Piece;
+use shards::Shard;
 use std::alloc::Global;
 use sweep_plan::Plan;
 use thiserror::Error;
 use toml::Value;
 
-/// What of the table of a piece was made before it was cut off.
+/// What of the table of a shard was made before it was cut off.
 #[derive(Clone, Copy)]
 pub struct Begun {
     /// How many bytes of it stay: its first line, or a beginning of that, and whole lines.
     pub kept: usize,
-    /// How many lines these are: so many of the piece's runs are made.
+    /// How many lines these are: so many of the shard's runs are made.
     pub runs: usize,
 }
 
@@ -38,7 +38,7 @@ impl Begun {
     }
 }
 
-/// Why a text is no beginning of the table of a piece.
+/// Why a text is no beginning of the table of a shard.
 #[derive(Clone, Copy, Debug, PartialEq, Eq, Error)]
 pub enum BegunFault {
     /// It begins otherwise.
@@ -60,7 +60,7 @@ impl From<Memory> for BegunFault {
     }
 }
 
-/// What stands of a piece's table in a text: its first line or a beginning of that, and behind it the lines of its first
+/// What stands of a shard's table in a text: its first line or a beginning of that, and behind it the lines of its first
 /// runs, each with its checksum, and with the values and the seed that the plan asks for at its place. From the first line
 /// that isn't so on nothing counts.
 ///
@@ -68,17 +68,17 @@ impl From<Memory> for BegunFault {
 pub fn begun_of(
     alloc: Global,
     plan: &Plan,
-    piece: Piece,
+    shard: Shard,
     mark: &str,
     document: &Value,
     text: &[u8],
 ) -> Result<Begun, BegunFault>
     requires asked { IsAskedFor plan.now }
-    requires piece { IsPiece piece }
-    ensures begun { IfOk result (λ begun. IsBegun (tells_revived (view document.now)) mark.now plan.now piece text.now begun.kept begun.runs) }
-    ensures refused { IfErr result (RefusesBegun (tells_revived (view document.now)) mark.now plan.now piece text.now) }
+    requires shard { IsShard shard }
+    ensures begun { IfOk result (λ begun. IsBegun (counts_revived (view document.now)) mark.now plan.now shard text.now begun.kept begun.runs) }
+    ensures refused { IfErr result (RefusesBegun (counts_revived (view document.now)) mark.now plan.now shard text.now) }
 {
-    let Some(lines) = lines_behind(alloc, plan, piece, mark, document, text)? else {
+    let Some(lines) = lines_behind(alloc, plan, shard, mark, document, text)? else {
         return Ok(Begun {
             kept: text.len(),
             runs: 0,
@@ -86,30 +86,30 @@ pub fn begun_of(
     };
     let key = sweep_key(alloc, plan, mark)?;
     let runs = plan.runs();
-    let first = piece.first(runs);
-    let stood = lines_of_runs(alloc, plan, &key, first, piece.past(runs) - first, lines)?;
+    let first = shard.first(runs);
+    let stood = lines_of_runs(alloc, plan, &key, first, shard.past(runs) - first, lines)?;
     Ok(Begun {
         kept: text.len() - stood.left.len(),
         runs: stood.count,
     })
 }
 
-/// What comes behind the first line of a piece in a text; none where the text is a beginning of that line.
+/// What comes behind the first line of a shard in a text; none where the text is a beginning of that line.
 ///
 /// Faults: `Other` where the text begins otherwise; `Older` where it goes on with a line without a checksum; `Memory`.
 pub fn lines_behind<'a>(
     alloc: Global,
     plan: &Plan,
-    piece: Piece,
+    shard: Shard,
     mark: &str,
     document: &Value,
     text: &'a [u8],
 ) -> Result<Option<&'a [u8]>, BegunFault>
-    ensures none { IfOk result (λ found. IsNone found → (rest : List ℕ) × (piece_header (tells_revived (view document.now)) mark.now plan.now piece ≡ text.entry.now ++ rest)) }
-    ensures some { IfOk result (λ found. IfSome found (λ lines. text.entry.now ≡ piece_header (tells_revived (view document.now)) mark.now plan.now piece ++ lines.now)) }
-    ensures refused { IfErr result (RefusesStart (piece_header (tells_revived (view document.now)) mark.now plan.now piece) text.entry.now) }
+    ensures none { IfOk result (λ found. IsNone found → (rest : List ℕ) × (shard_header (counts_revived (view document.now)) mark.now plan.now shard ≡ text.entry.now ++ rest)) }
+    ensures some { IfOk result (λ found. IfSome found (λ lines. text.entry.now ≡ shard_header (counts_revived (view document.now)) mark.now plan.now shard ++ lines.now)) }
+    ensures refused { IfErr result (RefusesStart (shard_header (counts_revived (view document.now)) mark.now plan.now shard) text.entry.now) }
 {
-    let header = header_of(alloc, plan, piece, mark, tells_revived(document))?;
+    let header = header_of(alloc, plan, shard, mark, counts_revived(document))?;
     if is_beginning(text, &header) {
         return Ok(None);
     }
@@ -122,18 +122,18 @@ pub fn lines_behind<'a>(
     Ok(Some(rest))
 }
 
-/// The first line of a piece.
+/// The first line of a shard.
 fn header_of(
     alloc: Global,
     plan: &Plan,
-    piece: Piece,
+    shard: Shard,
     mark: &str,
     revived: bool,
 ) -> Result<Vec<u8>, BegunFault>
-    ensures header { IfOk result (λ header. header.items ≡ piece_header revived mark.now plan.now piece) }
+    ensures header { IfOk result (λ header. header.items ≡ shard_header revived mark.now plan.now shard) }
     ensures memory { IfErr result (λ fault. fault ≡ begun_fault.Memory) }
 {
-    match front_of(alloc, plan, piece, mark, revived) {
+    match front_of(alloc, plan, shard, mark, revived) {
         Ok(header) => Ok(header),
         Err(Memory) => Err(BegunFault::Memory),
     }

@@ -1,5 +1,5 @@
-//! Many runs of one scenario: each case of a sweep with each seed, side by side, a table that tells of each run
-//! in a line, and a text that tells of each case in one.
+//! Many runs of one scenario: each setting of a sweep with each seed, side by side, a table that tells of each run
+//! in a line, and a text that tells of each setting in one.
 #![tactic(auto)]
 
 mod begun;
@@ -7,11 +7,11 @@ mod chunks;
 mod gathering;
 mod judging;
 mod making;
-mod piece_tables;
 mod planned;
 mod progress;
 mod reading;
 mod revived;
+mod shard_tables;
 mod shares;
 mod standing;
 mod summing;
@@ -25,14 +25,14 @@ pub use chunks::sweep;
 pub use gathering::{Gather, Gathering, NothingGathered};
 pub use judging::{Refused, judge};
 pub use making::{MadeRun, make_side_by_side};
-pub use piece_tables::{write_front, write_front_behind, write_piece, write_rest};
 pub use planned::first_run;
 pub use progress::{NoProgress, Progress};
 pub use reading::read_run;
-pub use revived::tells_revived;
+pub use revived::counts_revived;
+pub use shard_tables::{write_front, write_front_behind, write_rest, write_shard};
 pub use shares::{Lot, LotSize, Share, next_lot};
 pub use standing::{Standing, are_lines_of, is_older, lines_of_runs};
 pub use summing::sweep_key;
-pub use texts::{cases_text, lines_of_cases};
+pub use texts::{lines_of_settings, settings_text};
 pub use work::{SECOND_OF_WORK, work_of};
 pub use writing::write_line;

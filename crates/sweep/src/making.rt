@@ -11,11 +11,11 @@ ghost use Rattle.sweep.specs.Table.{IsMadeLot, IsMadeOf};
 
 use crate::planned::planned;
 use crate::reading::read_run;
-use crate::revived::tells_revived;
+use crate::revived::counts_revived;
 use crate::shares::Share;
 use crate::values::line_of;
 use base::{Fault, Memory};
-use figures::{RunFigures, RunNote};
+use figures::{RunFigures, RunMetadata};
 use line_sums::summed;
 use rayon::prelude::*;
 use sequential_run::tally_run;
@@ -30,8 +30,8 @@ use toml::Value;
 pub struct MadeRun {
     /// Its line of the table, with its checksum and its note before it.
     pub line: Vec<u8>,
-    /// What its case keeps of it.
-    pub note: RunNote,
+    /// What its setting keeps of it.
+    pub note: RunMetadata,
 }
 
 /// The runs of these shares, in their order; or why there is no run of a number: `Memory`; `CounterOverflow` where a
@@ -118,14 +118,14 @@ fn make_run(
     let scenario = read_run(alloc, plan, document, number)?;
     let tallies = tally_run(alloc, &scenario)?;
     let figures = RunFigures::of(alloc, &tallies, &scenario)?;
-    let note = RunNote::of(alloc, &tallies, &figures, &scenario)?;
+    let note = RunMetadata::of(alloc, &tallies, &figures, &scenario)?;
     let body = line_of(
         alloc,
-        &run.case,
+        &run.setting,
         scenario.seed(),
         &note,
         &figures,
-        tells_revived(document),
+        counts_revived(document),
     )?;
     let line = summed(alloc, key, &body)?;
     Ok(MadeRun { line, note })

@@ -27,7 +27,7 @@ pub fn read_run(
     ensures { IfOk result (IsReadAt (view document.now) plan.now number) }
 {
     let run = planned(alloc, plan, number)?;
-    match read_with(alloc, document, &run.case, run.seed) {
+    match read_with(alloc, document, &run.setting, run.seed) {
         Ok(scenario) => Ok(scenario),
         Err(refusal) => Err(memory_of(refusal)),
     }

@@ -1,7 +1,7 @@
 //! Whether a sweep tells of members that were taken for alive again.
 ghost use Rattle.std.specs.Prelude.{◌≡◌};
 ghost use Rattle.toml.specs.View.{view};
-ghost use Rattle.sweep.specs.Table.{has_revivals, tells_revived};
+ghost use Rattle.sweep.specs.Table.{has_revivals, counts_revived};
 
 use scenario::Version;
 use scenario_reader::version_of;
@@ -9,8 +9,8 @@ use toml::Value;
 
 /// Whether the sweep of a text tells of members that were taken for alive again: where the text is of
 /// version 3 of the format.
-pub fn tells_revived(document: &Value) -> bool
-    ensures { result ≡ tells_revived (view document.now) }
+pub fn counts_revived(document: &Value) -> bool
+    ensures { result ≡ counts_revived (view document.now) }
 {
     has_revivals(version_of(document))
 }

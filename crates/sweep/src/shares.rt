@@ -101,14 +101,14 @@ fn works_ahead(
     Ok(works)
 }
 
-/// How many runs, one after the other from a multiple of that, are as much work: those of a case, or all where no key that is
+/// How many runs, one after the other from a multiple of that, are as much work: those of a setting, or all where no key that is
 /// set changes it.
 fn runs_alike(plan: &Plan) -> usize
     ensures { 0 < result }
 {
-    for setting in plan.settings() {
-        if changes_work(setting.key().key) {
-            return plan.runs_of_case().max(1);
+    for swept in plan.swept_keys() {
+        if changes_work(swept.key().key) {
+            return plan.runs_of_setting().max(1);
         }
     }
     plan.runs().max(1)

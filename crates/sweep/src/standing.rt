@@ -7,7 +7,7 @@ ghost use Rattle.sweep.specs.Sums.{AreLinesOf, BeginsWithLine, BeginsWithLines, 
 use crate::begun::is_beginning;
 use crate::summing::lead_of;
 use base::Memory;
-use figures::{NoteFault, RunNote};
+use figures::{MetadataFault, RunMetadata};
 use line_sums::{cut_at, first_line, unsummed};
 use std::alloc::Global;
 use std::str::from_utf8;
@@ -116,9 +116,9 @@ pub fn is_older(alloc: Global, text: &[u8]) -> Result<bool, Memory>
     let Ok(word) = from_utf8(word) else {
         return Ok(false);
     };
-    match RunNote::read(alloc, word) {
+    match RunMetadata::read(alloc, word) {
         Ok(_note) => Ok(true),
-        Err(NoteFault::Word) => Ok(false),
-        Err(NoteFault::Memory) => Err(Memory),
+        Err(MetadataFault::Word) => Ok(false),
+        Err(MetadataFault::Memory) => Err(Memory),
     }
 }

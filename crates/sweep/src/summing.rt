@@ -19,24 +19,24 @@ pub fn sweep_key(alloc: Global, plan: &Plan, mark: &str) -> Result<[u8; 32], Mem
     Ok(key_of(mark, words.as_str()))
 }
 
-/// The cells that the plan of a run tells, each with a comma behind it: the values of its case, and its seed.
+/// The cells that the plan of a run tells, each with a comma behind it: the values of its setting, and its seed.
 pub(crate) fn lead_of(alloc: Global, plan: &Plan, number: usize) -> Result<String, Memory>
     requires asked { IsAskedFor plan.now }
     requires within { number < run_count plan.now }
     ensures { IfOk result (λ lead. (p : Planned) × IsRunAt plan.now number p × (string_bytes lead ≡ lead_of p)) }
 {
     let run = planned(alloc, plan, number)?;
-    let mut lead = value_cells(alloc, &run.case)?;
+    let mut lead = value_cells(alloc, &run.setting)?;
     push_seed(alloc, &mut lead, run.seed)?;
     Ok(lead)
 }
 
-/// The values of a case, each with a comma behind it.
-fn value_cells(alloc: Global, case: &[Choice]) -> Result<String, Memory>
-    ensures { IfOk result (λ cells. string_bytes cells ≡ value_cells case.now) }
+/// The values of a setting, each with a comma behind it.
+fn value_cells(alloc: Global, setting: &[Choice]) -> Result<String, Memory>
+    ensures { IfOk result (λ cells. string_bytes cells ≡ value_cells setting.now) }
 {
     let mut cells = String::new(alloc);
-    for choice in case {
+    for choice in setting {
         let word = choice.value.text(alloc)?;
         cells.push_str(word.as_str())?;
         cells.push_str(",")?;

@@ -1,50 +1,50 @@
-//! The text of the cases of a sweep, in aligned columns.
+//! The text of the settings of a sweep, in aligned columns.
 ghost use Rattle.std.specs.Prelude.{◌≡◌, ◌<◌, ◌++◌, length, slice_get, string_bytes, Some, List, IfOk, OnOk};
-ghost use Rattle.sweep_plan.specs.Sweep.{case_count};
-ghost use Rattle.sweep_plan.specs.Cases.{cases_of};
+ghost use Rattle.sweep_plan.specs.Sweep.{setting_count};
+ghost use Rattle.sweep_plan.specs.Settings.{settings_of};
 ghost use Rattle.sweep_plan.specs.declared.choice.Choice.{Choice as AnyChoice};
 ghost use Rattle.toml.specs.View.{view};
-ghost use Rattle.sweep.specs.Table.{tells_revived};
-ghost use Rattle.sweep.specs.Texts.{column_width, widths_of, cases_text, marked_header, marked_line};
+ghost use Rattle.sweep.specs.Table.{counts_revived};
+ghost use Rattle.sweep.specs.Texts.{column_width, widths_of, settings_text, marked_header, marked_line};
 
-use crate::revived::tells_revived;
+use crate::revived::counts_revived;
 use crate::values::{lent, names, texts};
 use base::Memory;
-use figures::{CaseSummary, push_case_header, push_case_line};
+use figures::{SettingSummary, push_setting_header, push_setting_line};
 use goals::{is_on_front, push_header, push_marked};
 use std::alloc::Global;
-use sweep_plan::{Plan, Setting};
+use sweep_plan::{Plan, Swept};
 use toml::Value;
 
-/// The text of the cases of a sweep of this document: a header, and for each case a line with the values of the
-/// keys that are set, its figures and a mark, `*` where no other case beats it, in aligned columns. There must be a summary for each case, in their order.
-pub fn cases_text(
+/// The text of the settings of a sweep of this document: a header, and for each setting a line with the values of the
+/// keys that are set, its figures and a mark, `*` where no other setting beats it, in aligned columns. There must be a summary for each setting, in their order.
+pub fn settings_text(
     alloc: Global,
     plan: &Plan,
     document: &Value,
-    cases: &[CaseSummary],
+    settings: &[SettingSummary],
 ) -> Result<String, Memory>
-    requires { length cases.now ≡ case_count plan.now.settings }
-    ensures { IfOk result (λ text. string_bytes text ≡ cases_text (tells_revived (view document.now)) plan.now cases.now) }
+    requires { length settings.now ≡ setting_count plan.now.swept_keys }
+    ensures { IfOk result (λ text. string_bytes text ≡ settings_text (counts_revived (view document.now)) plan.now settings.now) }
 {
-    lines_of_cases(alloc, plan, tells_revived(document), cases)
+    lines_of_settings(alloc, plan, counts_revived(document), settings)
 }
 
 /// The same text; whether it tells of members that were taken for alive again is given.
-pub fn lines_of_cases(
+pub fn lines_of_settings(
     alloc: Global,
     plan: &Plan,
     revived: bool,
-    cases: &[CaseSummary],
+    settings: &[SettingSummary],
 ) -> Result<String, Memory>
-    requires { length cases.now ≡ case_count plan.now.settings }
-    ensures { IfOk result (λ text. string_bytes text ≡ cases_text revived plan.now cases.now) }
+    requires { length settings.now ≡ setting_count plan.now.swept_keys }
+    ensures { IfOk result (λ text. string_bytes text ≡ settings_text revived plan.now settings.now) }
 {
-    let widths = widths(alloc, plan.settings())?;
-    let mut text = header(alloc, plan.settings(), &widths, revived)?;
-    for (number, summary) in cases.iter().enumerate() {
-        push_case(
-            alloc, &mut text, plan, &widths, number, summary, cases, revived,
+    let widths = widths(alloc, plan.swept_keys())?;
+    let mut text = header(alloc, plan.swept_keys(), &widths, revived)?;
+    for (number, summary) in settings.iter().enumerate() {
+        push_setting(
+            alloc, &mut text, plan, &widths, number, summary, settings, revived,
         )?;
     }
     Ok(text)
@@ -53,64 +53,64 @@ pub fn lines_of_cases(
 /// The header, with the keys in these widths.
 fn header(
     alloc: Global,
-    settings: &[Setting],
+    swept_keys: &[Swept],
     widths: &[usize],
     revived: bool,
 ) -> Result<String, Memory>
-    requires { widths.now ≡ widths_of settings.now }
-    ensures { IfOk result (λ text. string_bytes text ≡ marked_header revived settings.now) }
+    requires { widths.now ≡ widths_of swept_keys.now }
+    ensures { IfOk result (λ text. string_bytes text ≡ marked_header revived swept_keys.now) }
 {
-    let names = names(alloc, settings)?;
+    let names = names(alloc, swept_keys)?;
     let keys = lent(alloc, &names)?;
     let mut line = String::new(alloc);
-    push_case_header(alloc, &mut line, widths, &keys, revived)?;
+    push_setting_header(alloc, &mut line, widths, &keys, revived)?;
     let mut text = String::new(alloc);
     push_header(&mut text, line.as_str())?;
     Ok(text)
 }
 
-/// Adds the line of the case of this number, with its mark among all.
-fn push_case(
+/// Adds the line of the setting of this number, with its mark among all.
+fn push_setting(
     alloc: Global,
     text: &mut String,
     plan: &Plan,
     widths: &[usize],
     number: usize,
-    summary: &CaseSummary,
-    all: &[CaseSummary],
+    summary: &SettingSummary,
+    all: &[SettingSummary],
     revived: bool,
 ) -> Result<(), Memory>
-    requires within { number < case_count plan.now.settings }
-    requires wide { widths.now ≡ widths_of plan.now.settings }
-    ensures { OnOk result ((chosen : List AnyChoice) → slice_get (cases_of plan.now.settings) number ≡ Some chosen
+    requires within { number < setting_count plan.now.swept_keys }
+    requires wide { widths.now ≡ widths_of plan.now.swept_keys }
+    ensures { OnOk result ((chosen : List AnyChoice) → slice_get (settings_of plan.now.swept_keys) number ≡ Some chosen
         → string_bytes text.new ≡ string_bytes text.old ++ marked_line revived widths.now all.now chosen summary.now) }
 {
-    let case = plan.case_at(alloc, number)?;
-    let texts = texts(alloc, &case)?;
+    let setting = plan.setting_at(alloc, number)?;
+    let texts = texts(alloc, &setting)?;
     let values = lent(alloc, &texts)?;
     let mut line = String::new(alloc);
-    push_case_line(alloc, &mut line, widths, &values, summary, revived)?;
+    push_setting_line(alloc, &mut line, widths, &values, summary, revived)?;
     push_marked(text, line.as_str(), is_on_front(summary, all))?;
     Ok(())
 }
 
 /// The widths of the columns of keys.
-fn widths(alloc: Global, settings: &[Setting]) -> Result<Vec<usize>, Memory>
-    ensures { IfOk result (λ widths. widths.items ≡ widths_of settings.now) }
+fn widths(alloc: Global, swept_keys: &[Swept]) -> Result<Vec<usize>, Memory>
+    ensures { IfOk result (λ widths. widths.items ≡ widths_of swept_keys.now) }
 {
     let mut widths = Vec::new(alloc);
-    for setting in settings {
-        widths.push(width(alloc, setting)?)?;
+    for swept in swept_keys {
+        widths.push(width(alloc, swept)?)?;
     }
     Ok(widths)
 }
 
 /// The width of a key's column, in bytes.
-fn width(alloc: Global, setting: &Setting) -> Result<usize, Memory>
-    ensures { IfOk result (λ width. width ≡ column_width setting.now) }
+fn width(alloc: Global, swept: &Swept) -> Result<usize, Memory>
+    ensures { IfOk result (λ width. width ≡ column_width swept.now) }
 {
-    let mut width = setting.key().name(alloc)?.len();
-    for value in setting.values() {
+    let mut width = swept.key().name(alloc)?.len();
+    for value in swept.values() {
         width = width.max(value.text(alloc)?.len());
     }
     Ok(width)

@@ -11,7 +11,7 @@ use base::Fault;
 use std::alloc::Global;
 use trace::{Sink, WriteError, put_all};
 
-/// Appends the line of a run to the table, and gathers what its case keeps of it. After a fault the
+/// Appends the line of a run to the table, and gathers what its setting keeps of it. After a fault the
 /// table has got a beginning of the line.
 ///
 /// Faults: `Memory` where what is kept finds no room; `Write` where the sink failed.

@@ -1,12 +1,12 @@
 -- Figures as words.
 use Rattle.std.specs.Prelude.{ℕ, ◌+◌, ◌-◌, ◌*◌, ◌/◌, ◌%◌, ◌^◌, ◌==◌, if◌then◌else◌, min, max, List, [], ◌++◌, Option, codes, decimal, length, slice_get}
 use Rattle.std.specs.Option.{option_map_or}
-use Rattle.sweep_plan.specs.Cases.{cases_of, settings_text}
+use Rattle.sweep_plan.specs.Settings.{settings_of, choices_text}
 use Rattle.sweep_plan.specs.Sweep.{KeyValues}
 use Rattle.sweep_plan.specs.declared.choice.Choice.{Choice}
 use Rattle.drawing.specs.Escaped.{escaped, markup}
 use Rattle.drawing.specs.Numbers.{grouped}
-use Rattle.figures.specs.declared.summary.CaseSummary.{CaseSummary}
+use Rattle.figures.specs.declared.summary.SettingSummary.{SettingSummary}
 
 -- a time in ticks, or a dash where there is none
 unfoldable pub time_words : Option ℕ → List ℕ
@@ -32,15 +32,15 @@ hundredths_words n = decimal (n / 100) ++ codes "." ++ decimal (n / 10 % 10) ++ 
 unfoldable pub rate_words : Option ℕ → List ℕ
 rate_words rate = option_map_or hundredths_words rate (codes "-")
 
--- in how many of a case's runs healthy members were thrown out
-unfoldable pub runs_words : CaseSummary → List ℕ
-runs_words case = grouped case.runs_with ++ markup (codes " of ") ++ grouped case.runs
+-- in how many of a setting's runs healthy members were thrown out
+unfoldable pub runs_words : SettingSummary → List ℕ
+runs_words setting = grouped setting.runs_with ++ markup (codes " of ") ++ grouped setting.runs
 
--- a case's false deaths per run, with two digits and rounded down
-unfoldable pub deaths_words : CaseSummary → List ℕ
-deaths_words case =
-    decimal (case.thrown_out / max case.runs 1) ++ codes "." ++ decimal (case.thrown_out % max case.runs 1 * 10 / max case.runs 1)
-    ++ decimal (case.thrown_out % max case.runs 1 * 100 / max case.runs 1 % 10)
+-- a setting's false deaths per run, with two digits and rounded down
+unfoldable pub deaths_words : SettingSummary → List ℕ
+deaths_words setting =
+    decimal (setting.thrown_out / max setting.runs 1) ++ codes "." ++ decimal (setting.thrown_out % max setting.runs 1 * 10 / max setting.runs 1)
+    ++ decimal (setting.thrown_out % max setting.runs 1 * 100 / max setting.runs 1 % 10)
 
 -- the words for one thing, or for several
 unfoldable pub noun_words : ℕ → List ℕ → List ℕ → List ℕ
@@ -58,18 +58,18 @@ interval_words low high = percent_words low ++ markup (codes " to ") ++ percent_
 abbrev pub thousandths : ℕ → ℕ
 thousandths share = min share 1000
 
--- the share of its runs in which a case threw out healthy members, in thousandths and rounded down
-unfoldable pub share_of : CaseSummary → ℕ
-share_of case = thousandths (case.runs_with * 1000 / max case.runs 1)
+-- the share of its runs in which a setting threw out healthy members, in thousandths and rounded down
+unfoldable pub share_of : SettingSummary → ℕ
+share_of setting = thousandths (setting.runs_with * 1000 / max setting.runs 1)
 
--- the number of the case at a place: the first is 1, and none is past 64 bits
+-- the number of the setting at a place: the first is 1, and none is past 64 bits
 unfoldable pub number_words : ℕ → List ℕ
 number_words place = grouped (min (place + 1) (2 ^ 64 - 1))
 
--- the settings of a case
-unfoldable pub settings_words : List Choice → List ℕ
-settings_words chosen = if length chosen == 0 then codes "the scenario as it is" else escaped (settings_text chosen)
+-- the choices of a setting
+unfoldable pub swept_keys_words : List Choice → List ℕ
+swept_keys_words chosen = if length chosen == 0 then codes "the scenario as it is" else escaped (choices_text chosen)
 
--- those of the case at a place among all
-unfoldable pub settings_at : List KeyValues → ℕ → List ℕ
-settings_at settings place = option_map_or settings_words (slice_get (cases_of settings) place) []
+-- those of the setting at a place among all
+unfoldable pub swept_keys_at : List KeyValues → ℕ → List ℕ
+swept_keys_at swept_keys place = option_map_or swept_keys_words (slice_get (settings_of swept_keys) place) []

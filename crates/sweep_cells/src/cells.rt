@@ -1,15 +1,15 @@
 //! Figures as words, and cells of tables.
 ghost use Rattle.std.specs.Prelude.{◌≡◌, ◌<◌, ◌++◌, OnOk, slice_get, IfSome, length};
 ghost use Rattle.std.specs.String.{string_bytes};
-ghost use Rattle.sweep_plan.specs.Sweep.{case_count};
+ghost use Rattle.sweep_plan.specs.Sweep.{setting_count};
 ghost use Rattle.sweep_cells.specs.Cells.{cell, time_cell};
-ghost use Rattle.sweep_cells.specs.Words.{time_words, whole_percent, tenth_percent, percent_words, hundredths_words, rate_words, runs_words, deaths_words, count_words, noun_words, interval_words, number_words, settings_words, settings_at, thousandths, share_of};
+ghost use Rattle.sweep_cells.specs.Words.{time_words, whole_percent, tenth_percent, percent_words, hundredths_words, rate_words, runs_words, deaths_words, count_words, noun_words, interval_words, number_words, swept_keys_words, swept_keys_at, thousandths, share_of};
 
 use base::Memory;
 use drawing::{push_escaped, push_grouped, push_markup};
-use figures::CaseSummary;
+use figures::SettingSummary;
 use std::alloc::{AllocError, Global};
-use sweep_plan::{Choice, Plan, settings_text};
+use sweep_plan::{Choice, Plan, choices_text};
 
 /// Appends a time in ticks, or a dash where there is none.
 #[tactic(auto, unfolding(crate::specs::Words::time_words))]
@@ -77,22 +77,22 @@ pub fn push_rate(text: &mut String, rate: Option<u128>) -> Result<(), AllocError
 
 /// Appends in how many runs healthy members were thrown out, of how many.
 #[tactic(auto, unfolding(crate::specs::Words::runs_words))]
-pub fn push_runs_with(text: &mut String, case: &CaseSummary) -> Result<(), AllocError>
-    ensures { OnOk result (string_bytes text.new ≡ string_bytes text.old ++ runs_words case.now) }
+pub fn push_runs_with(text: &mut String, setting: &SettingSummary) -> Result<(), AllocError>
+    ensures { OnOk result (string_bytes text.new ≡ string_bytes text.old ++ runs_words setting.now) }
 {
-    push_grouped(text, case.runs_with)?;
+    push_grouped(text, setting.runs_with)?;
     push_markup(text, " of ")?;
-    push_grouped(text, case.runs)
+    push_grouped(text, setting.runs)
 }
 
 /// Appends how many false deaths there were per run, with two digits and rounded down.
 #[tactic(auto, unfolding(crate::specs::Words::deaths_words))]
-pub fn push_deaths(text: &mut String, case: &CaseSummary) -> Result<(), AllocError>
-    ensures { OnOk result (string_bytes text.new ≡ string_bytes text.old ++ deaths_words case.now) }
+pub fn push_deaths(text: &mut String, setting: &SettingSummary) -> Result<(), AllocError>
+    ensures { OnOk result (string_bytes text.new ≡ string_bytes text.old ++ deaths_words setting.now) }
 {
-    let runs = u128::from(case.runs).max(1);
-    let whole = case.thrown_out / runs;
-    let rest = case.thrown_out % runs;
+    let runs = u128::from(setting.runs).max(1);
+    let whole = setting.thrown_out / runs;
+    let rest = setting.thrown_out % runs;
     let tenth = rest * 10 / runs;
     let last = rest * 100 / runs % 10;
     write!(text, "{whole}.{tenth}{last}")
@@ -136,16 +136,16 @@ pub fn thousandths(share: u128) -> u64
     share.min(1000) as u64
 }
 
-/// The share of its runs in which a case threw out healthy members, in thousandths, rounded down.
+/// The share of its runs in which a setting threw out healthy members, in thousandths, rounded down.
 #[tactic(auto, unfolding(crate::specs::Words::share_of))]
-pub fn share_of(case: &CaseSummary) -> u64
-    ensures { result ≡ share_of case.now }
+pub fn share_of(setting: &SettingSummary) -> u64
+    ensures { result ≡ share_of setting.now }
 {
-    let runs = u128::from(case.runs).max(1);
-    thousandths(u128::from(case.runs_with) * 1000 / runs)
+    let runs = u128::from(setting.runs).max(1);
+    thousandths(u128::from(setting.runs_with) * 1000 / runs)
 }
 
-/// Appends the number of the case at a place: the first is 1.
+/// Appends the number of the setting at a place: the first is 1.
 #[tactic(auto, unfolding(crate::specs::Words::number_words))]
 pub fn push_number(text: &mut String, place: usize) -> Result<(), AllocError>
     ensures { OnOk result (string_bytes text.new ≡ string_bytes text.old ++ number_words place) }
@@ -153,45 +153,45 @@ pub fn push_number(text: &mut String, place: usize) -> Result<(), AllocError>
     push_grouped(text, (place as u64).saturating_add(1))
 }
 
-/// Appends the settings of a case: its choices, or that there are none.
-#[tactic(auto, unfolding(crate::specs::Words::settings_words))]
-pub fn push_settings(alloc: Global, text: &mut String, chosen: &[Choice]) -> Result<(), Memory>
-    ensures { OnOk result (string_bytes text.new ≡ string_bytes text.old ++ settings_words chosen.now) }
+/// Appends the choices of a setting, or that there are none.
+#[tactic(auto, unfolding(crate::specs::Words::swept_keys_words))]
+pub fn push_swept_keys(alloc: Global, text: &mut String, chosen: &[Choice]) -> Result<(), Memory>
+    ensures { OnOk result (string_bytes text.new ≡ string_bytes text.old ++ swept_keys_words chosen.now) }
 {
     if chosen.is_empty() {
         text.push_str("the scenario as it is")?;
         return Ok(());
     }
-    let settings = settings_text(alloc, chosen)?;
-    push_escaped(text, settings.as_str())?;
+    let swept_keys = choices_text(alloc, chosen)?;
+    push_escaped(text, swept_keys.as_str())?;
     Ok(())
 }
 
-/// Appends the settings of the case at a place among all of the plan; nothing where there is none.
-#[tactic(auto, unfolding(crate::specs::Words::settings_at))]
-pub fn push_settings_at(
+/// Appends the choices of the setting at a place among all of the plan; nothing where there is none.
+#[tactic(auto, unfolding(crate::specs::Words::swept_keys_at))]
+pub fn push_swept_keys_at(
     alloc: Global,
     text: &mut String,
     plan: &Plan,
     place: usize,
 ) -> Result<(), Memory>
-    ensures { OnOk result (string_bytes text.new ≡ string_bytes text.old ++ settings_at plan.now.settings place) }
+    ensures { OnOk result (string_bytes text.new ≡ string_bytes text.old ++ swept_keys_at plan.now.swept_keys place) }
 {
-    if place >= plan.cases() {
+    if place >= plan.settings() {
         return Ok(());
     }
-    let chosen = plan.case_at(alloc, place)?;
-    push_settings(alloc, text, &chosen)?;
+    let chosen = plan.setting_at(alloc, place)?;
+    push_swept_keys(alloc, text, &chosen)?;
     Ok(())
 }
 
-/// The case at a place, where there is one.
-pub fn case_at(cases: &[CaseSummary], place: usize) -> Option<CaseSummary>
-    ensures value { result ≡ slice_get cases.now place }
-    ensures within { IfSome result (λ _. place < length cases.now) }
+/// The setting at a place, where there is one.
+pub fn setting_at(settings: &[SettingSummary], place: usize) -> Option<SettingSummary>
+    ensures value { result ≡ slice_get settings.now place }
+    ensures within { IfSome result (λ _. place < length settings.now) }
 {
-    match cases.get(place) {
-        Some(case) => Some(*case),
+    match settings.get(place) {
+        Some(setting) => Some(*setting),
         None => None,
     }
 }

@@ -16,7 +16,7 @@ sweep_check_usage : (before : Shelf) (sweep : SweepWords) → FailsSweepCheck be
 sweep_check_usage before sweep (inl count) = count
 sweep_check_usage before sweep (inr (inl file)) = file.2
 sweep_check_usage before sweep (inr (inr (inl item))) = item.4
-sweep_check_usage before sweep (inr (inr (inr case))) = case.5
+sweep_check_usage before sweep (inr (inr (inr setting))) = setting.5
 
 store_usage : (page : Option (Bor Text)) (Refused : Type 0) (tree : Data) (mark : List ℕ) (before after : Shelf) (making : Making) (sweep : SweepWords) → StoreFails page Refused tree mark before after making sweep Usage → ⊥
 store_usage None Refused tree mark before after making sweep fails = fails
@@ -34,7 +34,7 @@ sweep_check_preset : (before : Shelf) (sweep : SweepWords) → FailsSweepCheck b
 sweep_check_preset before sweep (inl count) = count
 sweep_check_preset before sweep (inr (inl file)) = file.2
 sweep_check_preset before sweep (inr (inr (inl item))) = item.4
-sweep_check_preset before sweep (inr (inr (inr case))) = case.5
+sweep_check_preset before sweep (inr (inr (inr setting))) = setting.5
 
 store_preset : (page : Option (Bor Text)) (Refused : Type 0) (tree : Data) (mark : List ℕ) (before after : Shelf) (making : Making) (sweep : SweepWords) → StoreFails page Refused tree mark before after making sweep Preset → ⊥
 store_preset None Refused tree mark before after making sweep fails = fails
@@ -52,7 +52,7 @@ sweep_check_output : (before : Shelf) (sweep : SweepWords) → FailsSweepCheck b
 sweep_check_output before sweep (inl count) = count
 sweep_check_output before sweep (inr (inl file)) = file.2
 sweep_check_output before sweep (inr (inr (inl item))) = item.4
-sweep_check_output before sweep (inr (inr (inr case))) = case.5
+sweep_check_output before sweep (inr (inr (inr setting))) = setting.5
 
 store_output : (page : Option (Bor Text)) (Refused : Type 0) (tree : Data) (mark : List ℕ) (before after : Shelf) (making : Making) (sweep : SweepWords) → StoreFails page Refused tree mark before after making sweep Output → ⊥
 store_output None Refused tree mark before after making sweep fails = fails
@@ -70,7 +70,7 @@ sweep_check_mistaken : (before : Shelf) (sweep : SweepWords) (rule : ℕ) → Fa
 sweep_check_mistaken before sweep rule (inl count) = count
 sweep_check_mistaken before sweep rule (inr (inl file)) = file.2
 sweep_check_mistaken before sweep rule (inr (inr (inl item))) = item.4
-sweep_check_mistaken before sweep rule (inr (inr (inr case))) = case.5
+sweep_check_mistaken before sweep rule (inr (inr (inr setting))) = setting.5
 
 store_mistaken : (page : Option (Bor Text)) (Refused : Type 0) (tree : Data) (mark : List ℕ) (before after : Shelf) (making : Making) (sweep : SweepWords) (rule : ℕ) → StoreFails page Refused tree mark before after making sweep (Mistaken rule) → ⊥
 store_mistaken None Refused tree mark before after making sweep rule fails = fails
@@ -102,7 +102,7 @@ check_item : (words : List Text) (before : Shelf) (sweep : SweepWords) (key : St
 check_item words before sweep key asks (inl count) = absurd count
 check_item words before sweep key asks (inr (inl file)) = absurd file.2
 check_item words before sweep key asks (inr (inr (inl item))) = (sweep, asks, (item.1, item.3, (item.4.0, item.4.1)))
-check_item words before sweep key asks (inr (inr (inr case))) = absurd case.5
+check_item words before sweep key asks (inr (inr (inr setting))) = absurd setting.5
 
 store_item : (page : Option (Bor Text)) (Refused : Type 0) (tree : Data) (mark : List ℕ) (before after : Shelf) (making : Making) (sweep : SweepWords) (key : String Global) → StoreFails page Refused tree mark before after making sweep (NoItem key) → ⊥
 store_item None Refused tree mark before after making sweep key fails = fails

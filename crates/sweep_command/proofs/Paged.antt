@@ -5,8 +5,8 @@ use Rattle.std.proofs.lemmas.Result.{IfErr-weaker}
 use Rattle.toml.specs.Data.{Data}
 use Rattle.files.specs.Files.{AreThreeFiles, Making}
 use Rattle.trace.proofs.Beginnings.{beginning-whole}
-use Rattle.shards.specs.Pieces.{whole}
-use Rattle.figures.specs.declared.summary.CaseSummary.{CaseSummary}
+use Rattle.shards.specs.Shards.{whole}
+use Rattle.figures.specs.declared.summary.SettingSummary.{SettingSummary}
 use Rattle.command_line.specs.declared.words.SweepWords.{SweepWords}
 use Rattle.command_line.specs.declared.failure.Failure.{Failure}
 use Rattle.scenario_files.specs.Shelves.{Shelf}
@@ -20,7 +20,7 @@ module _ {T E : Type 0} (bytes : T → List ℕ) (tree : Data) (mark : List ℕ)
       → IfOk told (λ lines. StoresAsked asked tree mark sweep release before after (bytes lines))
   paged_asked page is stores = subst (λ (o : Option (Bor (List ℕ))). IfOk told (λ lines. StoresAsked o tree mark sweep release before after (bytes lines))) (sym is) stores
 
-  pub plain_asked : asked ≡ None → IfOk told (λ lines. StoresPlain sweep.piece tree mark sweep before after (bytes lines))
+  pub plain_asked : asked ≡ None → IfOk told (λ lines. StoresPlain sweep.shard tree mark sweep before after (bytes lines))
       → IfOk told (λ lines. StoresAsked asked tree mark sweep release before after (bytes lines))
   plain_asked none stores = subst (λ (o : Option (Bor (List ℕ))). IfOk told (λ lines. StoresAsked o tree mark sweep release before after (bytes lines))) (sym none) stores
 
@@ -51,10 +51,10 @@ module _ (tree : Data) (mark : List ℕ) (sweep : SweepWords) (release : List �
   pub table_broke : BeginsAllRuns sweep.plan.until tree mark sweep.plan old new → Keeps page_old page_new → BeginsPaged tree mark sweep old new page_old page_new
   table_broke begins keeps = record { made = begins.made; are = begins.are; written = inl (begins.written, keeps) }
 
-  pub page_broke : (cases all : List CaseSummary) → all ≡ cases → MakesRuns sweep.plan.until tree mark sweep.plan old new cases → BeginsPage sweep release all page_old page_new
+  pub page_broke : (settings all : List SettingSummary) → all ≡ settings → MakesRuns sweep.plan.until tree mark sweep.plan old new settings → BeginsPage sweep release all page_old page_new
       → BeginsPaged tree mark sweep old new page_old page_new
-  page_broke cases all same makes begins = by (subst (λ (l : List CaseSummary). BeginsPage sweep release l page_old page_new) same begins)
+  page_broke settings all same makes begins = by (subst (λ (l : List SettingSummary). BeginsPage sweep release l page_old page_new) same begins)
     where
-      by : BeginsPage sweep release cases page_old page_new → BeginsPaged tree mark sweep old new page_old page_new
+      by : BeginsPage sweep release settings page_old page_new → BeginsPaged tree mark sweep old new page_old page_new
       by (inl keeps) = record { made = makes.made; are = makes.are; written = inl (beginning-whole old new (runs_table sweep.plan.until tree mark sweep.plan whole makes.made) makes.written, keeps) }
-      by (inr some) = record { made = makes.made; are = makes.are; written = inr (makes.written, (some.0, (release, cases, makes.told, some.1), some.2)) }
+      by (inr some) = record { made = makes.made; are = makes.are; written = inr (makes.written, (some.0, (release, settings, makes.told, some.1), some.2)) }

@@ -7,7 +7,7 @@ use Rattle.base.specs.declared.fault.Fault.{Fault}
 use Rattle.files.specs.Files.{HoldsNow, ClosesAs, KeepsOthers, KeepsAllOthers}
 use Rattle.trace.specs.Sinks.{AppendsBeginning}
 use Rattle.trace.proofs.Beginnings.{Appends-none}
-use Rattle.shards.specs.Pieces.{whole}
+use Rattle.shards.specs.Shards.{whole}
 use Rattle.command_line.specs.declared.words.SweepWords.{SweepWords}
 use Rattle.scenario_files.specs.Shelves.{Shelf, HoldsBeginning}
 use Rattle.scenario_files.proofs.Pairs.{first_begins, first_holds, others_kept, second_begins, second_holds}
@@ -42,7 +42,7 @@ module _ (sweep : SweepWords) (start made between end : Shelf) (page : Text) (ap
       made = makes.makes.made;
       are = makes.makes.are;
       stored = table_holds (runs_table sweep.plan.until tree mark sweep.plan whole makes.makes.made) makes.makes.written;
-      cases = makes.cases;
+      settings = makes.settings;
       all = makes.makes.all;
       told = makes.makes.told;
       text = makes.text;

@@ -8,19 +8,19 @@ use Rattle.files.specs.Files as files
 use Rattle.trace.specs.Sinks.{AppendsBeginning}
 use Rattle.trace.proofs.Beginnings.{beginning-whole}
 use Rattle.sweep_plan.specs.Sweep.{Sweep, run_count}
-use Rattle.shards.specs.declared.piece.Piece.{Piece}
-use Rattle.shards.specs.Pieces.{first_run, whole}
-use Rattle.sweep.specs.Pieces.{piece_header}
-use Rattle.sweep.specs.Table.{tells_revived}
+use Rattle.shards.specs.declared.shard.Shard.{Shard}
+use Rattle.shards.specs.Shards.{first_run, whole}
+use Rattle.sweep.specs.Shards.{shard_header}
+use Rattle.sweep.specs.Table.{counts_revived}
 use Rattle.sweep.specs.Resumed.{IsLong, IsShort, runs_in}
 use Rattle.sweep.specs.Sums.{sweep_key}
-use Rattle.sweep_until.specs.Pieces.{cases_in, first_case}
-use Rattle.resume.specs.Begun.{AreCasesBehind}
-use Rattle.figures.specs.declared.summary.CaseSummary.{CaseSummary}
+use Rattle.sweep_until.specs.Shards.{settings_in, first_setting}
+use Rattle.resume.specs.Begun.{AreSettingsBehind}
+use Rattle.figures.specs.declared.summary.SettingSummary.{SettingSummary}
 use Rattle.command_line.specs.declared.words.SweepWords.{SweepWords}
 use Rattle.scenario_files.specs.Shelves.{Shelf, HoldsBeginning}
-use Rattle.sweep_command.specs.Outcomes.{BeginsAsked, BeginsPart, BreaksOff, BreaksOffPart, BreaksOffRest, BreaksOffRuns, FitResumed, GoesOn, GoesOnWith, HeldSoFar, IsCaused, MakesAsked, MakesLines, MakesPart, StoresPlain, StoresPart, StoresRest, StoresRuns, Stood, piece_resumed}
-use Rattle.sweep_command.specs.Runs.{AreBegun, AreRuns, BeginsAllRuns, BeginsRuns, FitPiece, MakesRuns, RunsBy, rest_table, runs_table}
+use Rattle.sweep_command.specs.Outcomes.{BeginsAsked, BeginsPart, BreaksOff, BreaksOffPart, BreaksOffRest, BreaksOffRuns, FitResumed, GoesOn, GoesOnWith, HeldSoFar, IsCaused, MakesAsked, MakesLines, MakesPart, StoresPlain, StoresPart, StoresRest, StoresRuns, Stood, shard_resumed}
+use Rattle.sweep_command.specs.Runs.{AreBegun, AreRuns, BeginsAllRuns, BeginsRuns, FitShard, MakesRuns, RunsBy, rest_table, runs_table}
 use Rattle.scenario_files.proofs.Held.{holds_beginning, holds_text}
 
 -- what is said of a success, with what holds of it
@@ -28,36 +28,36 @@ both_ok : {T E : Type 0} (P : Type 0) (Q : T → Type 0) (r : Result T E) → On
 both_ok P Q (Ok x) p q = (p, q)
 both_ok P Q (Err e) p q = tt
 
--- what is asked for is the piece, where one is named, and else the whole
-module _ {T E : Type 0} (bytes : T → List ℕ) (tree : Data) (mark : List ℕ) (sweep : SweepWords) (kept count : ℕ) (old new : Option (List ℕ)) (told : Result T E) (asked : Option Piece) where
-  pub piece_told : (p : Piece) → asked ≡ Some p → OnOk told (MakesPart sweep.resume tree mark sweep p kept count old new) → IfOk told (λ lines. bytes lines ≡ [])
+-- what is asked for is the shard, where one is named, and else the whole
+module _ {T E : Type 0} (bytes : T → List ℕ) (tree : Data) (mark : List ℕ) (sweep : SweepWords) (kept count : ℕ) (old new : Option (List ℕ)) (told : Result T E) (asked : Option Shard) where
+  pub shard_told : (p : Shard) → asked ≡ Some p → OnOk told (MakesPart sweep.resume tree mark sweep p kept count old new) → IfOk told (λ lines. bytes lines ≡ [])
       → IfOk told (λ lines. MakesAsked asked tree mark sweep kept count old new (bytes lines))
-  piece_told p is written untold =
-      subst (λ (o : Option Piece). IfOk told (λ lines. MakesAsked o tree mark sweep kept count old new (bytes lines))) (sym is)
+  shard_told p is written untold =
+      subst (λ (o : Option Shard). IfOk told (λ lines. MakesAsked o tree mark sweep kept count old new (bytes lines))) (sym is)
       (both_ok (MakesPart sweep.resume tree mark sweep p kept count old new) (λ lines. bytes lines ≡ []) told written untold)
 
   pub whole_told : asked ≡ None → IfOk told (λ lines. MakesLines tree mark sweep old new (bytes lines)) → IfOk told (λ lines. MakesAsked asked tree mark sweep kept count old new (bytes lines))
-  whole_told is tells = subst (λ (o : Option Piece). IfOk told (λ lines. MakesAsked o tree mark sweep kept count old new (bytes lines))) (sym is) tells
+  whole_told is tells = subst (λ (o : Option Shard). IfOk told (λ lines. MakesAsked o tree mark sweep kept count old new (bytes lines))) (sym is) tells
 
-  pub piece_begun : (p : Piece) → asked ≡ Some p → OnErr told (BeginsPart sweep.resume tree mark sweep p kept count old new) → OnErr told (BeginsAsked asked tree mark sweep kept count old new)
-  piece_begun p is begun = subst (λ (o : Option Piece). OnErr told (BeginsAsked o tree mark sweep kept count old new)) (sym is) begun
+  pub shard_begun : (p : Shard) → asked ≡ Some p → OnErr told (BeginsPart sweep.resume tree mark sweep p kept count old new) → OnErr told (BeginsAsked asked tree mark sweep kept count old new)
+  shard_begun p is begun = subst (λ (o : Option Shard). OnErr told (BeginsAsked o tree mark sweep kept count old new)) (sym is) begun
 
   pub whole_begun : asked ≡ None → OnErr told (BeginsAllRuns sweep.plan.until tree mark sweep.plan old new) → OnErr told (BeginsAsked asked tree mark sweep kept count old new)
-  whole_begun is begun = subst (λ (o : Option Piece). OnErr told (BeginsAsked o tree mark sweep kept count old new)) (sym is) begun
+  whole_begun is begun = subst (λ (o : Option Shard). OnErr told (BeginsAsked o tree mark sweep kept count old new)) (sym is) begun
 
--- a piece that goes on has no fewer runs, or cases, than are made
-begun_few : (until : Option ℕ) (revived : Bool) (mark : List ℕ) (plan : Sweep) (p : Piece) (text : List ℕ) (kept count : ℕ) → AreBegun until revived mark plan p text kept count
-    → FitPiece until plan p count
+-- a shard that goes on has no fewer runs, or settings, than are made
+begun_few : (until : Option ℕ) (revived : Bool) (mark : List ℕ) (plan : Sweep) (p : Shard) (text : List ℕ) (kept count : ℕ) → AreBegun until revived mark plan p text kept count
+    → FitShard until plan p count
 begun_few None revived mark plan p text kept count begun = begun.few
 begun_few (Some width) revived mark plan p text kept count begun = begun.few
 
 -- no more bytes stay than there are
-begun_within : (until : Option ℕ) (revived : Bool) (mark : List ℕ) (plan : Sweep) (p : Piece) (text : List ℕ) (kept count : ℕ) → AreBegun until revived mark plan p text kept count
+begun_within : (until : Option ℕ) (revived : Bool) (mark : List ℕ) (plan : Sweep) (p : Shard) (text : List ℕ) (kept count : ℕ) → AreBegun until revived mark plan p text kept count
     → kept ≤ length text
 begun_within None revived mark plan p text kept count begun = by begun.stands
   where
     header : List ℕ
-    header = piece_header revived mark plan p
+    header = shard_header revived mark plan p
 
     by : IsShort header text kept count ⊎ IsLong (sweep_key mark plan) plan (first_run p (run_count plan)) (runs_in plan p) header text kept count → kept ≤ length text
     by (inl short) = omega (arith, short.all)
@@ -65,17 +65,17 @@ begun_within None revived mark plan p text kept count begun = by begun.stands
 begun_within (Some width) revived mark plan p text kept count begun = by begun.stands
   where
     header : List ℕ
-    header = piece_header revived mark plan p
+    header = shard_header revived mark plan p
 
-    by : IsShort header text kept count ⊎ AreCasesBehind (sweep_key mark plan) plan width (first_case plan p) (cases_in plan p) header text kept count → kept ≤ length text
+    by : IsShort header text kept count ⊎ AreSettingsBehind (sweep_key mark plan) plan width (first_setting plan p) (settings_in plan p) header text kept count → kept ≤ length text
     by (inl short) = omega (arith, short.all)
     by (inr behind) = omega (arith, behind.stay)
 
 pub stood_few : (tree : Data) (mark : List ℕ) (sweep : SweepWords) (known : KnownFile) (kept count : ℕ) → GoesOn tree mark sweep known kept count
-    → FitResumed sweep sweep.piece count
+    → FitResumed sweep sweep.shard count
 stood_few tree mark sweep known kept count goes p is =
-    let there : Stood tree mark sweep p known kept count = subst (λ (o : Option Piece). GoesOnWith o tree mark sweep known kept count) is goes in
-    begun_few sweep.plan.until (tells_revived tree) mark sweep.plan p there.text kept count there.begun
+    let there : Stood tree mark sweep p known kept count = subst (λ (o : Option Shard). GoesOnWith o tree mark sweep known kept count) is goes in
+    begun_few sweep.plan.until (counts_revived tree) mark sweep.plan p there.text kept count there.begun
 
 -- the file holds what was read of it
 held_bytes : (held : Option (List ℕ)) (text : List ℕ) → HeldSoFar (Some held) text → bytes_held held ≡ text
@@ -83,12 +83,12 @@ held_bytes held text (inl holds) = ap bytes_held holds
 held_bytes held text (inr absent) = ap bytes_held absent.0 ∙ sym absent.1
 
 -- so it has as many bytes as stay
-pub holds_kept : (piece : Option Piece) (tree : Data) (mark : List ℕ) (sweep : SweepWords) (known : KnownFile) (kept count : ℕ) → GoesOnWith piece tree mark sweep known kept count
+pub holds_kept : (shard : Option Shard) (tree : Data) (mark : List ℕ) (sweep : SweepWords) (known : KnownFile) (kept count : ℕ) → GoesOnWith shard tree mark sweep known kept count
     → HoldsAtLeast known kept
-holds_kept piece tree mark sweep None kept count goes = tt
+holds_kept shard tree mark sweep None kept count goes = tt
 holds_kept None tree mark sweep (Some held) kept count goes = omega (arith, goes)
 holds_kept (Some p) tree mark sweep (Some held) kept count goes =
-    omega (arith, ap length (held_bytes held goes.text goes.held), begun_within sweep.plan.until (tells_revived tree) mark sweep.plan p goes.text kept count goes.begun)
+    omega (arith, ap length (held_bytes held goes.text goes.held), begun_within sweep.plan.until (counts_revived tree) mark sweep.plan p goes.text kept count goes.begun)
 
 -- where a file was opened behind these bytes, it and its writer hold them
 pub holds_front : (before made : KnownFile) (old : Option (List ℕ)) (kept : ℕ) (text : List ℕ) → HeldSoFar before text → files.HoldsBeginning before made kept
@@ -116,15 +116,15 @@ holds_behind (Some held) made after old (Some bytes) stay text there fresh writt
     now ∙ ap (λ b. Some (Some b)) same
 
 -- the whole table is a beginning of itself
-pub all_begins : (until : Option ℕ) (tree : Data) (mark : List ℕ) (plan : Sweep) (old new : Option (List ℕ)) (cases : List CaseSummary) → MakesRuns until tree mark plan old new cases
+pub all_begins : (until : Option ℕ) (tree : Data) (mark : List ℕ) (plan : Sweep) (old new : Option (List ℕ)) (settings : List SettingSummary) → MakesRuns until tree mark plan old new settings
     → BeginsAllRuns until tree mark plan old new
-all_begins until tree mark plan old new cases makes =
+all_begins until tree mark plan old new settings makes =
     record { made = makes.made; are = makes.are; written = beginning-whole old new (runs_table until tree mark plan whole makes.made) makes.written }
 
 -- the mark goes by either name
 module _ (until : Option ℕ) (tree : Data) (mark mark' : List ℕ) (plan : Sweep) (old new : Option (List ℕ)) where
-  pub marked_makes : (cases : List CaseSummary) → mark ≡ mark' → MakesRuns until tree mark plan old new cases → MakesRuns until tree mark' plan old new cases
-  marked_makes cases same makes = subst (λ m. MakesRuns until tree m plan old new cases) same makes
+  pub marked_makes : (settings : List SettingSummary) → mark ≡ mark' → MakesRuns until tree mark plan old new settings → MakesRuns until tree mark' plan old new settings
+  marked_makes settings same makes = subst (λ m. MakesRuns until tree m plan old new settings) same makes
 
   pub marked_begins : mark ≡ mark' → BeginsAllRuns until tree mark plan old new → BeginsAllRuns until tree mark' plan old new
   marked_begins same begins = subst (λ m. BeginsAllRuns until tree m plan old new) same begins
@@ -150,12 +150,12 @@ module _ (tree : Data) (mark : List ℕ) (sweep : SweepWords) (start made end : 
         let empty = holds_none (start sweep.table.now) (made sweep.table.now) old kept none begins behind in
         holds_beginning (start sweep.table.now) (made sweep.table.now) (end sweep.table.now) old new text empty.0 empty.1 written closes
 
-    runs_stored : (p : Piece) (runs_made : RunsBy sweep.plan.until) → AreRuns sweep.plan.until tree sweep.plan p runs_made
+    runs_stored : (p : Shard) (runs_made : RunsBy sweep.plan.until) → AreRuns sweep.plan.until tree sweep.plan p runs_made
         → Appends old new (runs_table sweep.plan.until tree mark sweep.plan p runs_made) → StoresRuns tree mark sweep p runs_made start end
     runs_stored p runs_made are written =
         record { are = are; stored = text_held (runs_table sweep.plan.until tree mark sweep.plan p runs_made) written; others = others_kept }
 
-    runs_begun : (Refused : Type 0) (cause : Fault) → IsCaused Refused tree sweep.plan cause → (p : Piece) → BeginsRuns sweep.plan.until tree mark sweep.plan p old new
+    runs_begun : (Refused : Type 0) (cause : Fault) → IsCaused Refused tree sweep.plan cause → (p : Shard) → BeginsRuns sweep.plan.until tree mark sweep.plan p old new
         → BreaksOffRuns Refused tree mark sweep p start end cause
     runs_begun Refused cause caused p begun = record {
       made = begun.made;
@@ -166,7 +166,7 @@ module _ (tree : Data) (mark : List ℕ) (sweep : SweepWords) (start made end : 
     }
 
   -- where some does
-  module _ (p : Piece) (stood : Stood tree mark sweep p (start sweep.table.now) kept count) where
+  module _ (p : Shard) (stood : Stood tree mark sweep p (start sweep.table.now) kept count) where
     stay_held : (text : List ℕ) → Appends old new text → HoldsNow (start sweep.table.now) (end sweep.table.now) (take kept stood.text ++ text)
     stay_held text written =
         let front = holds_front (start sweep.table.now) (made sweep.table.now) old kept stood.text stood.held begins behind in
@@ -196,33 +196,33 @@ module _ (tree : Data) (mark : List ℕ) (sweep : SweepWords) (start made end : 
       caused = caused;
     }
 
-  abbrev Goes : Option Piece → Type 0
-  Goes piece = GoesOnWith piece tree mark sweep (start sweep.table.now) kept count
+  abbrev Goes : Option Shard → Type 0
+  Goes shard = GoesOnWith shard tree mark sweep (start sweep.table.now) kept count
 
-  part_stored : (resume : Bool) (p : Piece) → Goes (piece_resumed resume (Some p)) → MakesPart resume tree mark sweep p kept count old new → StoresPart resume tree mark sweep p start end
+  part_stored : (resume : Bool) (p : Shard) → Goes (shard_resumed resume (Some p)) → MakesPart resume tree mark sweep p kept count old new → StoresPart resume tree mark sweep p start end
   part_stored false p goes makes = (makes.made, runs_stored goes p makes.made makes.are makes.written)
   part_stored true p goes makes = rest_stored p goes makes
 
-  nothing_stays : (resume : Bool) → Goes (piece_resumed resume None) → kept ≡ 0
+  nothing_stays : (resume : Bool) → Goes (shard_resumed resume None) → kept ≡ 0
   nothing_stays false goes = goes
   nothing_stays true goes = goes
 
-  pub table_stored : (piece : Option Piece) (lines : List ℕ) → Goes (piece_resumed sweep.resume piece) → MakesAsked piece tree mark sweep kept count old new lines
-      → StoresPlain piece tree mark sweep start end lines
+  pub table_stored : (shard : Option Shard) (lines : List ℕ) → Goes (shard_resumed sweep.resume shard) → MakesAsked shard tree mark sweep kept count old new lines
+      → StoresPlain shard tree mark sweep start end lines
   table_stored (Some p) lines goes tells = (part_stored sweep.resume p goes tells.0, tells.1)
   table_stored None lines goes tells = (
     tells.makes.made,
     runs_stored (nothing_stays sweep.resume goes) whole tells.makes.made tells.makes.are tells.makes.written,
-    record { cases = tells.cases; all = tells.makes.all; told = tells.makes.told; text = tells.text },
+    record { settings = tells.settings; all = tells.makes.all; told = tells.makes.told; text = tells.text },
   )
 
   module _ (Refused : Type 0) (cause : Fault) (caused : IsCaused Refused tree sweep.plan cause) where
-    part_begun : (resume : Bool) (p : Piece) → Goes (piece_resumed resume (Some p)) → BeginsPart resume tree mark sweep p kept count old new
+    part_begun : (resume : Bool) (p : Shard) → Goes (shard_resumed resume (Some p)) → BeginsPart resume tree mark sweep p kept count old new
         → BreaksOffPart resume Refused tree mark sweep p start end cause
     part_begun false p goes begun = runs_begun goes Refused cause caused p begun
     part_begun true p goes begun = rest_begun p goes Refused cause caused begun
 
-    pub table_begun : (piece : Option Piece) → Goes (piece_resumed sweep.resume piece) → BeginsAsked piece tree mark sweep kept count old new
-        → BreaksOff piece Refused tree mark sweep start end cause
+    pub table_begun : (shard : Option Shard) → Goes (shard_resumed sweep.resume shard) → BeginsAsked shard tree mark sweep kept count old new
+        → BreaksOff shard Refused tree mark sweep start end cause
     table_begun (Some p) goes begun = part_begun sweep.resume p goes begun
     table_begun None goes begun = runs_begun (nothing_stays sweep.resume goes) Refused cause caused whole begun

@@ -5,19 +5,19 @@ use Rattle.std.proofs.lemmas.List.{take_all}
 use Rattle.std.proofs.lemmas.List.FromFn.{length-range_with_len}
 use Rattle.std.proofs.lemmas.Slice.Zip.{AllZip-long}
 use Rattle.toml.specs.Data.{Data}
-use Rattle.sweep_plan.specs.Sweep.{Sweep, case_count, run_count}
-use Rattle.figures.specs.declared.summary.CaseSummary.{CaseSummary}
+use Rattle.sweep_plan.specs.Sweep.{Sweep, setting_count, run_count}
+use Rattle.figures.specs.declared.summary.SettingSummary.{SettingSummary}
 use Rattle.sweep.specs.Runs.{Made, AreMade, AreMadeBetween, IsMadeAs, runs_of}
 use Rattle.sweep.specs.Summaries.{MakesAll}
 use Rattle.sweep_until.specs.Until.{AreMadeFrom, AreMadeUntil, BeginsUntil, IsMadeUntil, MakesUntil, SumsUp}
 use Rattle.std.proofs.lemmas.Option.{same_Some}
-use Rattle.shards.specs.declared.piece.Piece.{Piece}
-use Rattle.shards.specs.Pieces.{first_run, past_run, whole}
+use Rattle.shards.specs.declared.shard.Shard.{Shard}
+use Rattle.shards.specs.Shards.{first_run, past_run, whole}
 use Rattle.shards.proofs.Whole.{first_of_whole, past_of_whole}
-use Rattle.sweep.specs.Pieces.{AreMadeIn, BeginsPiece, BeginsTable, WritesPiece}
+use Rattle.sweep.specs.Shards.{AreMadeIn, BeginsShard, BeginsTable, WritesShard}
 use Rattle.sweep.proofs.Flat.{runs_counted}
 use Rattle.sweep.specs.Resumed.{BeginsRest, WritesRest}
-use Rattle.sweep_until.specs.Pieces.{AreCasesBehind, AreCasesIn, BeginsPieceUntil, BeginsRestUntil, WritesPieceUntil, WritesRestUntil}
+use Rattle.sweep_until.specs.Shards.{AreSettingsBehind, AreSettingsIn, BeginsShardUntil, BeginsRestUntil, WritesShardUntil, WritesRestUntil}
 use Rattle.sweep_command.specs.Runs.{BeginsAllRuns, BeginsRuns, BeginsRunsBehind, MakesRuns, WritesRuns, WritesRunsBehind}
 
 -- what holds of the way that was taken holds of the one that is asked for
@@ -37,7 +37,7 @@ pub failed_by : {T E : Type 0} {P : E → Type 0} (Q : Option ℕ → E → Type
 failed_by Q until way (Ok x) is h turns = tt
 failed_by Q until way (Err e) is h turns = subst (λ o. Q o e) (sym is) (turns e h)
 
--- all runs are those of the only piece
+-- all runs are those of the only shard
 module _ (tree : Data) (plan : Sweep) where
   from_first : (made : List Made) → AreMade tree plan made → AreMadeBetween tree plan 0 (run_count plan) made
   from_first made are =
@@ -51,60 +51,60 @@ module _ (tree : Data) (plan : Sweep) where
       subst (λ n. AreMadeBetween tree plan n (past_run whole count) made) (sym (first_of_whole count))
       (subst (λ n. AreMadeBetween tree plan 0 n made) (sym (past_of_whole count)) (from_first made are))
 
-  cases_in_whole : (width : ℕ) (made : List (List Made)) → AreMadeUntil tree plan width (case_count plan.settings) made → AreCasesIn tree plan width whole made
-  cases_in_whole width made are =
-      let count = case_count plan.settings in
+  settings_in_whole : (width : ℕ) (made : List (List Made)) → AreMadeUntil tree plan width (setting_count plan.swept_keys) made → AreSettingsIn tree plan width whole made
+  settings_in_whole width made are =
+      let count = setting_count plan.swept_keys in
       let many : past_run whole count - 0 ≡ count = omega (arith, past_of_whole count) in
       subst (λ n. AreMadeFrom tree plan width n (past_run whole count - n) made) (sym (first_of_whole count))
       (subst (λ n. AreMadeFrom tree plan width 0 n made) (sym many) are)
 
 -- those of a whole sweep
 module _ (tree : Data) (mark : List ℕ) (plan : Sweep) (old new : Option (List ℕ)) where
-  pub all_made : (cases : List CaseSummary) → MakesAll tree mark plan old new cases → MakesRuns None tree mark plan old new cases
-  all_made cases makes = record { made = makes.made; are = runs_in_whole tree plan makes.made makes.are; written = makes.written; all = makes.all; told = makes.told }
+  pub all_made : (settings : List SettingSummary) → MakesAll tree mark plan old new settings → MakesRuns None tree mark plan old new settings
+  all_made settings makes = record { made = makes.made; are = runs_in_whole tree plan makes.made makes.are; written = makes.written; all = makes.all; told = makes.told }
 
   pub all_begun : BeginsTable tree mark plan old new → BeginsAllRuns None tree mark plan old new
   all_begun begins = record { made = begins.made; are = runs_in_whole tree plan begins.made begins.are; written = begins.written }
 
   module _ (width : ℕ) where
-    pub few_made : (cases : List CaseSummary) → MakesUntil tree mark plan width old new cases → MakesRuns (Some width) tree mark plan old new cases
-    few_made cases makes = record {
+    pub few_made : (settings : List SettingSummary) → MakesUntil tree mark plan width old new settings → MakesRuns (Some width) tree mark plan old new settings
+    few_made settings makes = record {
       made = makes.made;
-      are = cases_in_whole tree plan width makes.made makes.are;
+      are = settings_in_whole tree plan width makes.made makes.are;
       written = makes.written;
-      all = AllZip-long SumsUp makes.made cases makes.told
-          ∙ (AllZip-long (IsMadeUntil tree plan width) (range_with_len 0 (case_count plan.settings)) makes.made makes.are
-          ∙ length-range_with_len 0 (case_count plan.settings));
+      all = AllZip-long SumsUp makes.made settings makes.told
+          ∙ (AllZip-long (IsMadeUntil tree plan width) (range_with_len 0 (setting_count plan.swept_keys)) makes.made makes.are
+          ∙ length-range_with_len 0 (setting_count plan.swept_keys));
       told = makes.told;
     }
 
     pub few_begun : BeginsUntil tree mark plan width old new → BeginsAllRuns (Some width) tree mark plan old new
-    few_begun begins = record { made = begins.made; are = cases_in_whole tree plan width begins.made begins.are; written = begins.written }
+    few_begun begins = record { made = begins.made; are = settings_in_whole tree plan width begins.made begins.are; written = begins.written }
 
--- and of a piece
-module _ (tree : Data) (mark : List ℕ) (plan : Sweep) (p : Piece) (old new : Option (List ℕ)) where
-  pub piece_made : WritesPiece tree mark plan p old new → WritesRuns None tree mark plan p old new
-  piece_made makes = record { made = makes.made; are = makes.are; written = makes.written }
+-- and of a shard
+module _ (tree : Data) (mark : List ℕ) (plan : Sweep) (p : Shard) (old new : Option (List ℕ)) where
+  pub shard_made : WritesShard tree mark plan p old new → WritesRuns None tree mark plan p old new
+  shard_made makes = record { made = makes.made; are = makes.are; written = makes.written }
 
-  pub piece_begun : BeginsPiece tree mark plan p old new → BeginsRuns None tree mark plan p old new
-  piece_begun begins = record { made = begins.made; are = begins.are; written = begins.written }
+  pub shard_begun : BeginsShard tree mark plan p old new → BeginsRuns None tree mark plan p old new
+  shard_begun begins = record { made = begins.made; are = begins.are; written = begins.written }
 
-  pub few_piece_made : (width : ℕ) → plan.until ≡ Some width → WritesPieceUntil tree mark plan p old new → WritesRuns (Some width) tree mark plan p old new
-  few_piece_made width is makes = record {
+  pub few_shard_made : (width : ℕ) → plan.until ≡ Some width → WritesShardUntil tree mark plan p old new → WritesRuns (Some width) tree mark plan p old new
+  few_shard_made width is makes = record {
     made = makes.made;
-    are = subst (λ (w : ℕ). AreCasesIn tree plan w p makes.made) (same_Some makes.width width (sym makes.wanted ∙ is)) makes.are;
+    are = subst (λ (w : ℕ). AreSettingsIn tree plan w p makes.made) (same_Some makes.width width (sym makes.wanted ∙ is)) makes.are;
     written = makes.written;
   }
 
-  pub few_piece_begun : (width : ℕ) → plan.until ≡ Some width → BeginsPieceUntil tree mark plan p old new → BeginsRuns (Some width) tree mark plan p old new
-  few_piece_begun width is begins = record {
+  pub few_shard_begun : (width : ℕ) → plan.until ≡ Some width → BeginsShardUntil tree mark plan p old new → BeginsRuns (Some width) tree mark plan p old new
+  few_shard_begun width is begins = record {
     made = begins.made;
-    are = subst (λ (w : ℕ). AreCasesIn tree plan w p begins.made) (same_Some begins.width width (sym begins.wanted ∙ is)) begins.are;
+    are = subst (λ (w : ℕ). AreSettingsIn tree plan w p begins.made) (same_Some begins.width width (sym begins.wanted ∙ is)) begins.are;
     written = begins.written;
   }
 
 -- and of one that goes on
-module _ (tree : Data) (mark : List ℕ) (plan : Sweep) (p : Piece) (kept count : ℕ) (old new : Option (List ℕ)) where
+module _ (tree : Data) (mark : List ℕ) (plan : Sweep) (p : Shard) (kept count : ℕ) (old new : Option (List ℕ)) where
   pub rest_made : WritesRest tree mark plan p kept count old new → WritesRunsBehind None tree mark plan p kept count old new
   rest_made makes = record { made = makes.made; are = makes.are; written = makes.written }
 
@@ -114,13 +114,13 @@ module _ (tree : Data) (mark : List ℕ) (plan : Sweep) (p : Piece) (kept count 
   pub few_rest_made : (width : ℕ) → plan.until ≡ Some width → WritesRestUntil tree mark plan p kept count old new → WritesRunsBehind (Some width) tree mark plan p kept count old new
   few_rest_made width is makes = record {
     made = makes.made;
-    are = subst (λ (w : ℕ). AreCasesBehind tree plan w p count makes.made) (same_Some makes.width width (sym makes.wanted ∙ is)) makes.are;
+    are = subst (λ (w : ℕ). AreSettingsBehind tree plan w p count makes.made) (same_Some makes.width width (sym makes.wanted ∙ is)) makes.are;
     written = makes.written;
   }
 
   pub few_rest_begun : (width : ℕ) → plan.until ≡ Some width → BeginsRestUntil tree mark plan p kept count old new → BeginsRunsBehind (Some width) tree mark plan p kept count old new
   few_rest_begun width is begins = record {
     made = begins.made;
-    are = subst (λ (w : ℕ). AreCasesBehind tree plan w p count begins.made) (same_Some begins.width width (sym begins.wanted ∙ is)) begins.are;
+    are = subst (λ (w : ℕ). AreSettingsBehind tree plan w p count begins.made) (same_Some begins.width width (sym begins.wanted ∙ is)) begins.are;
     written = begins.written;
   }

@@ -10,29 +10,29 @@ use Rattle.base.specs.declared.fault.Fault.TheVariants as fault
 use Rattle.files.specs.Files.{KnownFile, Making, Holds, HoldsNow, IsAbsent, KeepsOthers, KeepsAllOthers, CannotMake, CannotMakeSecond, AreThreeFiles}
 use Rattle.sweep_plan.specs.Keys.{key_name}
 use Rattle.sweep_plan.specs.Missing.{missing_of}
-use Rattle.sweep_plan.specs.Sweep.{Sweep, case_count}
-use Rattle.sweep_plan.specs.Cases.{settings_text}
-use Rattle.sweep_plan.specs.declared.keys.SettingKey.{SettingKey}
+use Rattle.sweep_plan.specs.Sweep.{Sweep, setting_count}
+use Rattle.sweep_plan.specs.Settings.{choices_text}
+use Rattle.sweep_plan.specs.declared.keys.SweptKey.{SweptKey}
 use Rattle.trace.specs.Sinks.{AppendsBeginning}
-use Rattle.sweep_output.specs.Telling.{IsSweepPage, TellsCases}
-use Rattle.shards.specs.Pieces.{whole}
-use Rattle.shards.specs.declared.piece.Piece.{Piece}
+use Rattle.sweep_output.specs.Telling.{IsSweepPage, TellsSettings}
+use Rattle.shards.specs.Shards.{whole}
+use Rattle.shards.specs.declared.shard.Shard.{Shard}
 use Rattle.sweep.specs.Runs.{Planned}
 use Rattle.sweep.specs.Judged.{AreAccepted, IsFirstRefused}
-use Rattle.sweep.specs.Table.{tells_revived, HasCause}
+use Rattle.sweep.specs.Table.{counts_revived, HasCause}
 use Rattle.sweep.specs.declared.begun.BegunFault.TheVariants as begun_fault
-use Rattle.figures.specs.declared.summary.CaseSummary.{CaseSummary}
+use Rattle.figures.specs.declared.summary.SettingSummary.{SettingSummary}
 use Rattle.command_line.specs.Words.{AsksForSweep}
 use Rattle.command_line.specs.Division.{IsCount}
 use Rattle.command_line.specs.Failures.{RefusesWorkers}
 use Rattle.command_line.specs.declared.words.SweepWords.{SweepWords}
 use Rattle.command_line.specs.declared.failure.Failure.{Failure}
-use Rattle.command_line.specs.declared.failure.Failure.TheVariants.{File, NoItem, Case, Pieces, Run, Memory}
-use Rattle.command_line.specs.declared.failure.PieceFault.{PieceFault}
-use Rattle.command_line.specs.declared.failure.PieceFault.TheVariants as piece
+use Rattle.command_line.specs.declared.failure.Failure.TheVariants.{File, NoItem, Setting, Shards, Run, Memory}
+use Rattle.command_line.specs.declared.failure.ShardFault.{ShardFault}
+use Rattle.command_line.specs.declared.failure.ShardFault.TheVariants as shard
 use Rattle.scenario_files.specs.Shelves.{Shelf, word_given, IsRefused, IsUnread, HoldsBeginning}
 use Rattle.scenario_files.specs.Loading.{HasDocument, HasMarkedDocument, HasNoDocument}
-use Rattle.sweep_command.specs.Runs.{RunsBy, AreBegun, AreRuns, AreRunsBehind, AreSummedUp, BeginsAllRuns, BeginsRuns, BeginsRunsBehind, FitPiece, MakesRuns, RefusesTable, WritesRuns, WritesRunsBehind, rest_table, runs_table}
+use Rattle.sweep_command.specs.Runs.{RunsBy, AreBegun, AreRuns, AreRunsBehind, AreSummedUp, BeginsAllRuns, BeginsRuns, BeginsRunsBehind, FitShard, MakesRuns, RefusesTable, WritesRuns, WritesRunsBehind, rest_table, runs_table}
 
 -- the words ask for a sweep that tells how far it has come
 abbrev pub AsksForProgress : List Text → Type 0
@@ -51,65 +51,65 @@ MakeRuns (Some word) workers = IsCount word workers
 pub record PassesSweepChecks (before : Shelf) (sweep : SweepWords) (workers : ℕ) (tree : Data) (mark : List ℕ) : Type 0 where
   pub asked : MakeRuns (word_given sweep.workers) workers
   pub read : HasMarkedDocument (before sweep.file.now) tree mark
-  pub there : missing_of tree sweep.plan.settings ≡ None
+  pub there : missing_of tree sweep.plan.swept_keys ≡ None
   pub accepted : AreAccepted tree sweep.plan
 
--- this is what is told of all cases, by the summaries of their runs
+-- this is what is told of all settings, by the summaries of their runs
 pub record AreLinesOf (tree : Data) (sweep : SweepWords) (made : RunsBy sweep.plan.until) (lines : List ℕ) : Type 0 where
-  pub cases : List CaseSummary
-  pub all : length cases ≡ case_count sweep.plan.settings
-  pub told : AreSummedUp sweep.plan.until sweep.plan made cases
-  pub text : TellsCases sweep.jsonl (tells_revived tree) sweep.plan sweep.wants.items cases lines
+  pub settings : List SettingSummary
+  pub all : length settings ≡ setting_count sweep.plan.swept_keys
+  pub told : AreSummedUp sweep.plan.until sweep.plan made settings
+  pub text : TellsSettings sweep.jsonl (counts_revived tree) sweep.plan sweep.wants.items settings lines
 
--- all runs were made and their table was appended to what was held, and this is what is told of their cases
+-- all runs were made and their table was appended to what was held, and this is what is told of their settings
 pub record MakesLines (tree : Data) (mark : List ℕ) (sweep : SweepWords) (old new : Option (List ℕ)) (lines : List ℕ) : Type 0 where
-  pub cases : List CaseSummary
-  pub makes : MakesRuns sweep.plan.until tree mark sweep.plan old new cases
-  pub text : TellsCases sweep.jsonl (tells_revived tree) sweep.plan sweep.wants.items cases lines
+  pub settings : List SettingSummary
+  pub makes : MakesRuns sweep.plan.until tree mark sweep.plan old new settings
+  pub text : TellsSettings sweep.jsonl (counts_revived tree) sweep.plan sweep.wants.items settings lines
 
--- The runs of the piece were made, these: the file holds their table, and no other file has changed.
-pub record StoresRuns (tree : Data) (mark : List ℕ) (sweep : SweepWords) (p : Piece) (made : RunsBy sweep.plan.until) (before after : Shelf) : Type 0 where
+-- The runs of the shard were made, these: the file holds their table, and no other file has changed.
+pub record StoresRuns (tree : Data) (mark : List ℕ) (sweep : SweepWords) (p : Shard) (made : RunsBy sweep.plan.until) (before after : Shelf) : Type 0 where
   pub are : AreRuns sweep.plan.until tree sweep.plan p made
   pub stored : HoldsNow (before sweep.table.now) (after sweep.table.now) (runs_table sweep.plan.until tree mark sweep.plan p made)
   pub others : KeepsOthers before after sweep.table.now
 
--- all runs were, and this is what is told of their cases
+-- all runs were, and this is what is told of their settings
 abbrev pub StoresTable : Data → List ℕ → SweepWords → Shelf → Shelf → List ℕ → Type 0
 StoresTable tree mark sweep before after lines =
     (made : RunsBy sweep.plan.until) × StoresRuns tree mark sweep whole made before after × AreLinesOf tree sweep made lines
 
--- All runs were made, and this is what is told of their cases: the file of the table holds that, the file of this name a page of the cases, and no
+-- All runs were made, and this is what is told of their settings: the file of the table holds that, the file of this name a page of the settings, and no
 -- other file has changed.
 pub record StoresPaged (tree : Data) (mark : List ℕ) (sweep : SweepWords) (release : List ℕ) (page : Text) (before after : Shelf) (lines : List ℕ) : Type 0 where
   pub made : RunsBy sweep.plan.until
   pub are : AreRuns sweep.plan.until tree sweep.plan whole made
   pub stored : HoldsNow (before sweep.table.now) (after sweep.table.now) (runs_table sweep.plan.until tree mark sweep.plan whole made)
-  pub cases : List CaseSummary
-  pub all : length cases ≡ case_count sweep.plan.settings
-  pub told : AreSummedUp sweep.plan.until sweep.plan made cases
-  pub text : TellsCases sweep.jsonl (tells_revived tree) sweep.plan sweep.wants.items cases lines
+  pub settings : List SettingSummary
+  pub all : length settings ≡ setting_count sweep.plan.swept_keys
+  pub told : AreSummedUp sweep.plan.until sweep.plan made settings
+  pub text : TellsSettings sweep.jsonl (counts_revived tree) sweep.plan sweep.wants.items settings lines
   pub shown : List ℕ
-  pub is : IsSweepPage sweep.file.now release sweep.plan sweep.wants.items cases shown
+  pub is : IsSweepPage sweep.file.now release sweep.plan sweep.wants.items settings shown
   pub paged : HoldsNow (before page) (after page) shown
   pub others : KeepsAllOthers before after sweep.table.now page
 
--- a page of the cases was appended; or a beginning of one, or nothing
-abbrev pub WritesPage : SweepWords → List ℕ → List CaseSummary → Option (List ℕ) → Option (List ℕ) → Type 0
-WritesPage sweep release cases old new = (text : List ℕ) × IsSweepPage sweep.file.now release sweep.plan sweep.wants.items cases text × Appends old new text
+-- a page of the settings was appended; or a beginning of one, or nothing
+abbrev pub WritesPage : SweepWords → List ℕ → List SettingSummary → Option (List ℕ) → Option (List ℕ) → Type 0
+WritesPage sweep release settings old new = (text : List ℕ) × IsSweepPage sweep.file.now release sweep.plan sweep.wants.items settings text × Appends old new text
 
-abbrev pub BeginsPage : SweepWords → List ℕ → List CaseSummary → Option (List ℕ) → Option (List ℕ) → Type 0
-BeginsPage sweep release cases old new = Keeps old new ⊎ ((text : List ℕ) × IsSweepPage sweep.file.now release sweep.plan sweep.wants.items cases text × AppendsBeginning old new text)
+abbrev pub BeginsPage : SweepWords → List ℕ → List SettingSummary → Option (List ℕ) → Option (List ℕ) → Type 0
+BeginsPage sweep release settings old new = Keeps old new ⊎ ((text : List ℕ) × IsSweepPage sweep.file.now release sweep.plan sweep.wants.items settings text × AppendsBeginning old new text)
 
 -- the same of what was appended to what was held
 pub record MakesPaged (tree : Data) (mark : List ℕ) (sweep : SweepWords) (release : List ℕ) (old new page_old page_new : Option (List ℕ)) (lines : List ℕ) : Type 0 where
-  pub cases : List CaseSummary
-  pub makes : MakesRuns sweep.plan.until tree mark sweep.plan old new cases
-  pub text : TellsCases sweep.jsonl (tells_revived tree) sweep.plan sweep.wants.items cases lines
-  pub paged : WritesPage sweep release cases page_old page_new
+  pub settings : List SettingSummary
+  pub makes : MakesRuns sweep.plan.until tree mark sweep.plan old new settings
+  pub text : TellsSettings sweep.jsonl (counts_revived tree) sweep.plan sweep.wants.items settings lines
+  pub paged : WritesPage sweep release settings page_old page_new
 
--- a text is a page of the cases of these runs
+-- a text is a page of the settings of these runs
 abbrev pub IsPageOfRuns : (sweep : SweepWords) → RunsBy sweep.plan.until → List ℕ → Type 0
-IsPageOfRuns sweep made text = (release : List ℕ) × (cases : List CaseSummary) × AreSummedUp sweep.plan.until sweep.plan made cases × IsSweepPage sweep.file.now release sweep.plan sweep.wants.items cases text
+IsPageOfRuns sweep made text = (release : List ℕ) × (settings : List SettingSummary) × AreSummedUp sweep.plan.until sweep.plan made settings × IsSweepPage sweep.file.now release sweep.plan sweep.wants.items settings text
 
 -- a beginning was appended: of the table, and nothing of a page; or the whole table, and a beginning of a page
 pub record BeginsPaged (tree : Data) (mark : List ℕ) (sweep : SweepWords) (old new page_old page_new : Option (List ℕ)) : Type 0 where
@@ -122,15 +122,15 @@ pub record BeginsPaged (tree : Data) (mark : List ℕ) (sweep : SweepWords) (old
 abbrev pub HeldSoFar : KnownFile → List ℕ → Type 0
 HeldSoFar known text = Holds known text ⊎ (IsAbsent known × (text ≡ []))
 
--- of a piece's table so much stood in the file: so many bytes stay, with the lines of so many runs, or whole cases
-pub record Stood (tree : Data) (mark : List ℕ) (sweep : SweepWords) (p : Piece) (known : KnownFile) (kept count : ℕ) : Type 0 where
+-- of a shard's table so much stood in the file: so many bytes stay, with the lines of so many runs, or whole settings
+pub record Stood (tree : Data) (mark : List ℕ) (sweep : SweepWords) (p : Shard) (known : KnownFile) (kept count : ℕ) : Type 0 where
   pub text : List ℕ
   pub held : HeldSoFar known text
-  pub begun : AreBegun sweep.plan.until (tells_revived tree) mark sweep.plan p text kept count
+  pub begun : AreBegun sweep.plan.until (counts_revived tree) mark sweep.plan p text kept count
 
--- The runs of a piece that were left were made: the file holds what stays of the table that stood there, and behind it the rest of the
+-- The runs of a shard that were left were made: the file holds what stays of the table that stood there, and behind it the rest of the
 -- table, with the lines of these runs; and no other file has changed.
-pub record StoresRest (tree : Data) (mark : List ℕ) (sweep : SweepWords) (p : Piece) (before after : Shelf) : Type 0 where
+pub record StoresRest (tree : Data) (mark : List ℕ) (sweep : SweepWords) (p : Shard) (before after : Shelf) : Type 0 where
   pub kept : ℕ
   pub count : ℕ
   pub stood : Stood tree mark sweep p (before sweep.table.now) kept count
@@ -139,19 +139,19 @@ pub record StoresRest (tree : Data) (mark : List ℕ) (sweep : SweepWords) (p : 
   pub stored : HoldsNow (before sweep.table.now) (after sweep.table.now) (take kept stood.text ++ rest_table sweep.plan.until tree mark sweep.plan p kept made)
   pub others : KeepsOthers before after sweep.table.now
 
--- the piece was made anew, or went on where it was cut off
-abbrev pub StoresPart : Bool → Data → List ℕ → SweepWords → Piece → Shelf → Shelf → Type 0
+-- the shard was made anew, or went on where it was cut off
+abbrev pub StoresPart : Bool → Data → List ℕ → SweepWords → Shard → Shelf → Shelf → Type 0
 StoresPart false tree mark sweep p before after = (made : RunsBy sweep.plan.until) × StoresRuns tree mark sweep p made before after
 StoresPart true tree mark sweep p before after = StoresRest tree mark sweep p before after
 
--- what is asked for was stored, where no page is: the whole, and this is what is told of its cases; or a piece, of which nothing is told
-abbrev pub StoresPlain : Option Piece → Data → List ℕ → SweepWords → Shelf → Shelf → List ℕ → Type 0
+-- what is asked for was stored, where no page is: the whole, and this is what is told of its settings; or a shard, of which nothing is told
+abbrev pub StoresPlain : Option Shard → Data → List ℕ → SweepWords → Shelf → Shelf → List ℕ → Type 0
 StoresPlain None tree mark sweep before after lines = StoresTable tree mark sweep before after lines
 StoresPlain (Some p) tree mark sweep before after lines = StoresPart sweep.resume tree mark sweep p before after × (lines ≡ [])
 
 -- the same, or the whole with a page where one is asked for
 abbrev pub StoresAsked : Option (Bor Text) → Data → List ℕ → SweepWords → List ℕ → Shelf → Shelf → List ℕ → Type 0
-StoresAsked None tree mark sweep release before after lines = StoresPlain sweep.piece tree mark sweep before after lines
+StoresAsked None tree mark sweep release before after lines = StoresPlain sweep.shard tree mark sweep before after lines
 StoresAsked (Some page) tree mark sweep release before after lines = StoresPaged tree mark sweep release page.now before after lines
 
 -- the scenario's file, the table's and the page's, where one is asked for, are different files
@@ -159,43 +159,43 @@ abbrev pub AreApart : Option (Bor Text) → Making → Text → Text → Type 0
 AreApart None making file table = making.are_one file table ≡ false
 AreApart (Some page) making file table = AreThreeFiles making file table page.now
 
--- the same of what was appended to what was held; of a piece that went on, behind so many bytes, with the lines of so many runs or cases
-abbrev pub MakesPart : Bool → Data → List ℕ → SweepWords → Piece → ℕ → ℕ → Option (List ℕ) → Option (List ℕ) → Type 0
+-- the same of what was appended to what was held; of a shard that went on, behind so many bytes, with the lines of so many runs or settings
+abbrev pub MakesPart : Bool → Data → List ℕ → SweepWords → Shard → ℕ → ℕ → Option (List ℕ) → Option (List ℕ) → Type 0
 MakesPart false tree mark sweep p kept count old new = WritesRuns sweep.plan.until tree mark sweep.plan p old new
 MakesPart true tree mark sweep p kept count old new = WritesRunsBehind sweep.plan.until tree mark sweep.plan p kept count old new
 
-abbrev pub MakesAsked : Option Piece → Data → List ℕ → SweepWords → ℕ → ℕ → Option (List ℕ) → Option (List ℕ) → List ℕ → Type 0
+abbrev pub MakesAsked : Option Shard → Data → List ℕ → SweepWords → ℕ → ℕ → Option (List ℕ) → Option (List ℕ) → List ℕ → Type 0
 MakesAsked None tree mark sweep kept count old new lines = MakesLines tree mark sweep old new lines
 MakesAsked (Some p) tree mark sweep kept count old new lines = MakesPart sweep.resume tree mark sweep p kept count old new × (lines ≡ [])
 
 -- a beginning of it was appended
-abbrev pub BeginsPart : Bool → Data → List ℕ → SweepWords → Piece → ℕ → ℕ → Option (List ℕ) → Option (List ℕ) → Type 0
+abbrev pub BeginsPart : Bool → Data → List ℕ → SweepWords → Shard → ℕ → ℕ → Option (List ℕ) → Option (List ℕ) → Type 0
 BeginsPart false tree mark sweep p kept count old new = BeginsRuns sweep.plan.until tree mark sweep.plan p old new
 BeginsPart true tree mark sweep p kept count old new = BeginsRunsBehind sweep.plan.until tree mark sweep.plan p kept count old new
 
-abbrev pub BeginsAsked : Option Piece → Data → List ℕ → SweepWords → ℕ → ℕ → Option (List ℕ) → Option (List ℕ) → Type 0
+abbrev pub BeginsAsked : Option Shard → Data → List ℕ → SweepWords → ℕ → ℕ → Option (List ℕ) → Option (List ℕ) → Type 0
 BeginsAsked None tree mark sweep kept count old new = BeginsAllRuns sweep.plan.until tree mark sweep.plan old new
 BeginsAsked (Some p) tree mark sweep kept count old new = BeginsPart sweep.resume tree mark sweep p kept count old new
 
--- the piece that goes on, if one does
-abbrev pub piece_resumed : Bool → Option Piece → Option Piece
-piece_resumed false asked = None
-piece_resumed true asked = asked
+-- the shard that goes on, if one does
+abbrev pub shard_resumed : Bool → Option Shard → Option Shard
+shard_resumed false asked = None
+shard_resumed true asked = asked
 
--- a piece goes on with so many bytes that stay of what stood in the file of its table; where none does, nothing stays
-abbrev pub GoesOnWith : Option Piece → Data → List ℕ → SweepWords → KnownFile → ℕ → ℕ → Type 0
+-- a shard goes on with so many bytes that stay of what stood in the file of its table; where none does, nothing stays
+abbrev pub GoesOnWith : Option Shard → Data → List ℕ → SweepWords → KnownFile → ℕ → ℕ → Type 0
 GoesOnWith None tree mark sweep known kept count = kept ≡ 0
 GoesOnWith (Some p) tree mark sweep known kept count = Stood tree mark sweep p known kept count
 
--- so does the piece that goes on, if one does
+-- so does the shard that goes on, if one does
 abbrev pub GoesOn : Data → List ℕ → SweepWords → KnownFile → ℕ → ℕ → Type 0
-GoesOn tree mark sweep known kept count = GoesOnWith (piece_resumed sweep.resume sweep.piece) tree mark sweep known kept count
+GoesOn tree mark sweep known kept count = GoesOnWith (shard_resumed sweep.resume sweep.shard) tree mark sweep known kept count
 
--- so many runs of it, or cases, are no more than it has
-abbrev pub FitResumed : SweepWords → Option Piece → ℕ → Type 0
-FitResumed sweep asked count = ForSome (piece_resumed sweep.resume asked) (λ p. FitPiece sweep.plan.until sweep.plan p count)
+-- so many runs of it, or settings, are no more than it has
+abbrev pub FitResumed : SweepWords → Option Shard → ℕ → Type 0
+FitResumed sweep asked count = ForSome (shard_resumed sweep.resume asked) (λ p. FitShard sweep.plan.until sweep.plan p count)
 
--- the sweep passed its checks and was done, and this is what is told of its cases, where it is a whole one
+-- the sweep passed its checks and was done, and this is what is told of its settings, where it is a whole one
 pub record SweepsAll (release : List ℕ) (before after : Shelf) (making : Making) (sweep : SweepWords) (lines : List ℕ) : Type 0 where
   pub workers : ℕ
   pub tree : Data
@@ -212,17 +212,17 @@ DoesSweep release words before after making lines = (sweep : SweepWords) × Asks
 
 -- a key is set of an item that isn't there, or is there more than once; or memory was refused
 abbrev pub LacksItem : Data → Sweep → Failure → Type 0
-LacksItem tree plan (NoItem key) = (k : SettingKey) × (missing_of tree plan.settings ≡ Some k) × (string_bytes key ≡ key_name k)
+LacksItem tree plan (NoItem key) = (k : SweptKey) × (missing_of tree plan.swept_keys ≡ Some k) × (string_bytes key ≡ key_name k)
 LacksItem tree plan Memory = Unit {0}
 LacksItem tree plan _ = ⊥
 
--- a case is refused, the first whose document breaks a rule, and told with its settings; or memory was refused
-abbrev pub RefusesCase : Data → Sweep → Failure → Type 0
-RefusesCase tree plan (Case rule settings) = (p : Planned) × IsFirstRefused tree plan p rule × (string_bytes settings ≡ settings_text p.case)
-RefusesCase tree plan Memory = Unit {0}
-RefusesCase tree plan _ = ⊥
+-- a setting is refused, the first whose document breaks a rule, and printed with its choices; or memory was refused
+abbrev pub RefusesSetting : Data → Sweep → Failure → Type 0
+RefusesSetting tree plan (Setting rule swept_keys) = (p : Planned) × IsFirstRefused tree plan p rule × (string_bytes swept_keys ≡ choices_text p.setting)
+RefusesSetting tree plan Memory = Unit {0}
+RefusesSetting tree plan _ = ⊥
 
--- The check of a sweep that failed. Of several causes it is the first of workers, the file and its document, items, cases.
+-- The check of a sweep that failed. Of several causes it is the first of workers, the file and its document, items, settings.
 abbrev pub FailsSweepCheck : Shelf → SweepWords → Failure → Type 0
 FailsSweepCheck before sweep failure =
     RefusesWorkers (word_given sweep.workers) failure
@@ -230,36 +230,36 @@ FailsSweepCheck before sweep failure =
     ⊎ (((workers : ℕ) × (tree : Data) × MakeRuns (word_given sweep.workers) workers × HasDocument (before sweep.file.now) (Some tree)
     × LacksItem tree sweep.plan failure)
     ⊎ ((workers : ℕ) × (tree : Data) × MakeRuns (word_given sweep.workers) workers × HasDocument (before sweep.file.now) (Some tree)
-    × (missing_of tree sweep.plan.settings ≡ None) × RefusesCase tree sweep.plan failure)))
+    × (missing_of tree sweep.plan.swept_keys ≡ None) × RefusesSetting tree sweep.plan failure)))
 
--- a text is no beginning of the piece's table, or its lines have no checksums, and it is told by the name of its file
-abbrev pub IsOther : Data → List ℕ → SweepWords → Piece → List ℕ → PieceFault → Type 0
-IsOther tree mark sweep p text (piece.Other name) = (name.now ≡ sweep.table.now) × RefusesTable sweep.plan.until (tells_revived tree) mark sweep.plan p text begun_fault.Other
-IsOther tree mark sweep p text (piece.Older name) = (name.now ≡ sweep.table.now) × RefusesTable sweep.plan.until (tells_revived tree) mark sweep.plan p text begun_fault.Older
+-- a text is no beginning of the shard's table, or its lines have no checksums, and it is told by the name of its file
+abbrev pub IsOther : Data → List ℕ → SweepWords → Shard → List ℕ → ShardFault → Type 0
+IsOther tree mark sweep p text (shard.Other name) = (name.now ≡ sweep.table.now) × RefusesTable sweep.plan.until (counts_revived tree) mark sweep.plan p text begun_fault.Other
+IsOther tree mark sweep p text (shard.Older name) = (name.now ≡ sweep.table.now) × RefusesTable sweep.plan.until (counts_revived tree) mark sweep.plan p text begun_fault.Older
 IsOther tree mark sweep p text _ = ⊥
 
 -- that is so, or memory was refused
-abbrev pub RefusesSoFar : Data → List ℕ → SweepWords → Piece → List ℕ → Failure → Type 0
-RefusesSoFar tree mark sweep p text (Pieces cause) = IsOther tree mark sweep p text cause
+abbrev pub RefusesSoFar : Data → List ℕ → SweepWords → Shard → List ℕ → Failure → Type 0
+RefusesSoFar tree mark sweep p text (Shards cause) = IsOther tree mark sweep p text cause
 RefusesSoFar tree mark sweep p text Memory = Unit {0}
 RefusesSoFar tree mark sweep p text _ = ⊥
 
--- A piece can't go on: what the file of its table holds is no beginning of that; the file can't be read; or memory was refused.
-abbrev pub RefusesStood : Data → List ℕ → SweepWords → Piece → KnownFile → Failure → Type 0
-RefusesStood tree mark sweep p known (Pieces cause) = (text : List ℕ) × HeldSoFar known text × IsOther tree mark sweep p text cause
+-- A shard can't go on: what the file of its table holds is no beginning of that; the file can't be read; or memory was refused.
+abbrev pub RefusesStood : Data → List ℕ → SweepWords → Shard → KnownFile → Failure → Type 0
+RefusesStood tree mark sweep p known (Shards cause) = (text : List ℕ) × HeldSoFar known text × IsOther tree mark sweep p text cause
 RefusesStood tree mark sweep p known failure = IsUnread known sweep.table.now failure
 
--- the piece that was to go on can't
+-- the shard that was to go on can't
 abbrev pub CannotGoOn : Data → List ℕ → SweepWords → KnownFile → Failure → Type 0
-CannotGoOn tree mark sweep known failure = (p : Piece) × (piece_resumed sweep.resume sweep.piece ≡ Some p) × RefusesStood tree mark sweep p known failure
+CannotGoOn tree mark sweep known failure = (p : Shard) × (shard_resumed sweep.resume sweep.shard ≡ Some p) × RefusesStood tree mark sweep p known failure
 
 -- why runs are ended by a fault: it has its cause, and a write only where a file refused one
 pub record IsCaused (Refused : Type 0) (tree : Data) (plan : Sweep) (cause : Fault) : Type 0 where
   pub caused : HasCause tree plan cause
   pub refused : cause ≡ fault.Write → Refused
 
--- the runs of the piece were ended by the fault: the file holds a beginning of their table, and no other has changed
-pub record BreaksOffRuns (Refused : Type 0) (tree : Data) (mark : List ℕ) (sweep : SweepWords) (p : Piece) (before after : Shelf) (cause : Fault) : Type 0 where
+-- the runs of the shard were ended by the fault: the file holds a beginning of their table, and no other has changed
+pub record BreaksOffRuns (Refused : Type 0) (tree : Data) (mark : List ℕ) (sweep : SweepWords) (p : Shard) (before after : Shelf) (cause : Fault) : Type 0 where
   pub made : RunsBy sweep.plan.until
   pub are : AreRuns sweep.plan.until tree sweep.plan p made
   pub begun : HoldsBeginning (before sweep.table.now) (after sweep.table.now) (runs_table sweep.plan.until tree mark sweep.plan p made)
@@ -273,9 +273,9 @@ pub record HoldsBehind (old new : KnownFile) (stay text : List ℕ) : Type 0 whe
   pub whole : front ++ rest ≡ text
   pub written : HoldsNow old new (stay ++ front)
 
--- The runs that were left of a piece that went on were ended by the fault: the file holds all that stays of the table that stood there,
+-- The runs that were left of a shard that went on were ended by the fault: the file holds all that stays of the table that stood there,
 -- and behind it a beginning of the rest, and no other has changed.
-pub record BreaksOffRest (Refused : Type 0) (tree : Data) (mark : List ℕ) (sweep : SweepWords) (p : Piece) (before after : Shelf) (cause : Fault) : Type 0 where
+pub record BreaksOffRest (Refused : Type 0) (tree : Data) (mark : List ℕ) (sweep : SweepWords) (p : Shard) (before after : Shelf) (cause : Fault) : Type 0 where
   pub kept : ℕ
   pub count : ℕ
   pub stood : Stood tree mark sweep p (before sweep.table.now) kept count
@@ -285,12 +285,12 @@ pub record BreaksOffRest (Refused : Type 0) (tree : Data) (mark : List ℕ) (swe
   pub others : KeepsOthers before after sweep.table.now
   pub caused : IsCaused Refused tree sweep.plan cause
 
-abbrev pub BreaksOffPart : Bool → Type 0 → Data → List ℕ → SweepWords → Piece → Shelf → Shelf → Fault → Type 0
+abbrev pub BreaksOffPart : Bool → Type 0 → Data → List ℕ → SweepWords → Shard → Shelf → Shelf → Fault → Type 0
 BreaksOffPart false Refused tree mark sweep p before after cause = BreaksOffRuns Refused tree mark sweep p before after cause
 BreaksOffPart true Refused tree mark sweep p before after cause = BreaksOffRest Refused tree mark sweep p before after cause
 
 -- and of what is asked for
-abbrev pub BreaksOff : Option Piece → Type 0 → Data → List ℕ → SweepWords → Shelf → Shelf → Fault → Type 0
+abbrev pub BreaksOff : Option Shard → Type 0 → Data → List ℕ → SweepWords → Shelf → Shelf → Fault → Type 0
 BreaksOff None Refused tree mark sweep before after cause = BreaksOffRuns Refused tree mark sweep whole before after cause
 BreaksOff (Some p) Refused tree mark sweep before after cause = BreaksOffPart sweep.resume Refused tree mark sweep p before after cause
 
@@ -300,7 +300,7 @@ TableFails Refused tree mark before after making sweep (File name) =
     (name.now ≡ sweep.table.now) × CannotMake making sweep.file.now sweep.table.now × (after ≡ before)
 TableFails Refused tree mark before after making sweep Memory = after ≡ before
 TableFails Refused tree mark before after making sweep (Run cause) =
-    (making.are_one sweep.file.now sweep.table.now ≡ false) × BreaksOff sweep.piece Refused tree mark sweep before after cause
+    (making.are_one sweep.file.now sweep.table.now ≡ false) × BreaksOff sweep.shard Refused tree mark sweep before after cause
 TableFails Refused tree mark before after making sweep _ = ⊥
 
 -- of a table and a page: the one has a beginning while the other is empty, or the one is whole and the other has a beginning
@@ -328,7 +328,7 @@ abbrev pub StoreFails : Option (Bor Text) → Type 0 → Data → List ℕ → S
 StoreFails None Refused tree mark before after making sweep failure = TableFails Refused tree mark before after making sweep failure
 StoreFails (Some page) Refused tree mark before after making sweep failure = PagedFails Refused tree mark page.now before after making sweep failure
 
--- all checks passed, but a piece can't go on, and no file has changed; or what is asked for was not stored whole
+-- all checks passed, but a shard can't go on, and no file has changed; or what is asked for was not stored whole
 pub record FailsToSweep (Refused : Type 0) (before after : Shelf) (making : Making) (sweep : SweepWords) (failure : Failure) : Type 0 where
   pub workers : ℕ
   pub tree : Data
@@ -344,7 +344,7 @@ SweepFails Refused before after making sweep failure =
 -- the words ask for a sweep that sets a key of an item which the document of the file hasn't, or has more than once
 abbrev pub SetsNoItem : List Text → Shelf → Type 0
 SetsNoItem words before = (sweep : SweepWords) × AsksForSweep words sweep × ((tree : Data) × HasDocument (before sweep.file.now) (Some tree)
-    × ((k : SettingKey) × (missing_of tree sweep.plan.settings ≡ Some k)))
+    × ((k : SweptKey) × (missing_of tree sweep.plan.swept_keys ≡ Some k)))
 
 -- why a sweep that the words ask for was not done
 abbrev pub DoesNotSweep : Type 0 → List Text → Shelf → Shelf → Making → Failure → Type 0

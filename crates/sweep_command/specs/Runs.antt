@@ -1,25 +1,25 @@
--- The runs that a sweep makes, and the summaries of its cases: each case with each seed; or, where the words say how wide its interval may be, with
--- as few as make it no wider. A whole sweep is its only piece.
+-- The runs that a sweep makes, and the summaries of its settings: each setting with each seed; or, where the words say how wide its interval may be, with
+-- as few as make it no wider. A whole sweep is its only shard.
 use Rattle.std.specs.Prelude.{◌≡◌, ◌≤◌, ◌+◌, ℕ, Bool, Option, Some, None, List, length, map}
 use Rattle.std.specs.List.{AllZip}
 use Rattle.std.specs.Io.KnownBytes.{Appends}
 use Rattle.toml.specs.Data.{Data}
 use Rattle.trace.specs.Sinks.{AppendsBeginning}
-use Rattle.sweep_plan.specs.Sweep.{Sweep, case_count, run_count, seed_count}
-use Rattle.figures.specs.declared.summary.CaseSummary.{CaseSummary}
-use Rattle.shards.specs.declared.piece.Piece.{Piece}
-use Rattle.shards.specs.Pieces.{first_run, past_run, whole}
+use Rattle.sweep_plan.specs.Sweep.{Sweep, setting_count, run_count, seed_count}
+use Rattle.figures.specs.declared.summary.SettingSummary.{SettingSummary}
+use Rattle.shards.specs.declared.shard.Shard.{Shard}
+use Rattle.shards.specs.Shards.{first_run, past_run, whole}
 use Rattle.sweep.specs.Runs.{Made, noted}
 use Rattle.sweep.specs.Summaries.{SumUp}
-use Rattle.sweep.specs.Table.{tells_revived}
-use Rattle.sweep.specs.Pieces.{AreMadeIn, piece_table}
+use Rattle.sweep.specs.Table.{counts_revived}
+use Rattle.sweep.specs.Shards.{AreMadeIn, shard_table}
 use Rattle.sweep.specs.Resumed.{AreMadeBehind, IsBegun, RefusesBegun, rest_text}
 use Rattle.sweep.specs.declared.begun.BegunFault.{BegunFault}
-use Rattle.resume.specs.Begun.{IsBegunCases, RefusesBegunCases}
-use Rattle.sweep_until.specs.Pieces.{AreCasesBehind, AreCasesIn, cases_in}
+use Rattle.resume.specs.Begun.{IsBegunSettings, RefusesBegunSettings}
+use Rattle.sweep_until.specs.Shards.{AreSettingsBehind, AreSettingsIn, settings_in}
 use Rattle.sweep_until.specs.Until.{SumsUp, all_of}
 
--- how runs are listed: all of them in one list; with a width, those of each case in a list of their own
+-- how runs are listed: all of them in one list; with a width, those of each setting in a list of their own
 abbrev pub RunsBy : Option ℕ → Type 0
 RunsBy None = List Made
 RunsBy (Some width) = List (List Made)
@@ -29,28 +29,28 @@ abbrev pub listed : (until : Option ℕ) → RunsBy until → List Made
 listed None made = made
 listed (Some width) made = all_of made
 
--- these are the runs of the piece; with a width it is one of whole cases, each with as few as make its interval no wider, all where none do
-abbrev pub AreRuns : (until : Option ℕ) → Data → Sweep → Piece → RunsBy until → Type 0
+-- these are the runs of the shard; with a width it is one of whole settings, each with as few as make its interval no wider, all where none do
+abbrev pub AreRuns : (until : Option ℕ) → Data → Sweep → Shard → RunsBy until → Type 0
 AreRuns None tree plan p made = AreMadeIn tree plan p made
-AreRuns (Some width) tree plan p made = AreCasesIn tree plan width p made
+AreRuns (Some width) tree plan p made = AreSettingsIn tree plan width p made
 
 -- their table
-abbrev pub runs_table : (until : Option ℕ) → Data → List ℕ → Sweep → Piece → RunsBy until → List ℕ
-runs_table until tree mark plan p made = piece_table (tells_revived tree) mark plan p (listed until made)
+abbrev pub runs_table : (until : Option ℕ) → Data → List ℕ → Sweep → Shard → RunsBy until → List ℕ
+runs_table until tree mark plan p made = shard_table (counts_revived tree) mark plan p (listed until made)
 
--- these are summaries of the cases that they belong to, in order
-abbrev pub AreSummedUp : (until : Option ℕ) → Sweep → RunsBy until → List CaseSummary → Type 0
-AreSummedUp None plan made cases = SumUp (seed_count plan.seeds) (map noted made) cases
-AreSummedUp (Some width) plan made cases = AllZip SumsUp made cases
+-- these are summaries of the settings that they belong to, in order
+abbrev pub AreSummedUp : (until : Option ℕ) → Sweep → RunsBy until → List SettingSummary → Type 0
+AreSummedUp None plan made settings = SumUp (seed_count plan.seeds) (map noted made) settings
+AreSummedUp (Some width) plan made settings = AllZip SumsUp made settings
 
--- the runs of a piece were made: their table was appended
-pub record WritesRuns (until : Option ℕ) (tree : Data) (mark : List ℕ) (plan : Sweep) (p : Piece) (old new : Option (List ℕ)) : Type 0 where
+-- the runs of a shard were made: their table was appended
+pub record WritesRuns (until : Option ℕ) (tree : Data) (mark : List ℕ) (plan : Sweep) (p : Shard) (old new : Option (List ℕ)) : Type 0 where
   pub made : RunsBy until
   pub are : AreRuns until tree plan p made
   pub written : Appends old new (runs_table until tree mark plan p made)
 
 -- a beginning of their table was
-pub record BeginsRuns (until : Option ℕ) (tree : Data) (mark : List ℕ) (plan : Sweep) (p : Piece) (old new : Option (List ℕ)) : Type 0 where
+pub record BeginsRuns (until : Option ℕ) (tree : Data) (mark : List ℕ) (plan : Sweep) (p : Shard) (old new : Option (List ℕ)) : Type 0 where
   pub made : RunsBy until
   pub are : AreRuns until tree plan p made
   pub written : AppendsBeginning old new (runs_table until tree mark plan p made)
@@ -59,48 +59,48 @@ pub record BeginsRuns (until : Option ℕ) (tree : Data) (mark : List ℕ) (plan
 abbrev pub BeginsAllRuns : (until : Option ℕ) → Data → List ℕ → Sweep → Option (List ℕ) → Option (List ℕ) → Type 0
 BeginsAllRuns until tree mark plan old new = BeginsRuns until tree mark plan whole old new
 
--- all of them were made: their table was appended, and each case is summed up
-pub record MakesRuns (until : Option ℕ) (tree : Data) (mark : List ℕ) (plan : Sweep) (old new : Option (List ℕ)) (cases : List CaseSummary) : Type 0 where
+-- all of them were made: their table was appended, and each setting is summed up
+pub record MakesRuns (until : Option ℕ) (tree : Data) (mark : List ℕ) (plan : Sweep) (old new : Option (List ℕ)) (settings : List SettingSummary) : Type 0 where
   pub made : RunsBy until
   pub are : AreRuns until tree plan whole made
   pub written : Appends old new (runs_table until tree mark plan whole made)
-  pub all : length cases ≡ case_count plan.settings
-  pub told : AreSummedUp until plan made cases
+  pub all : length settings ≡ setting_count plan.swept_keys
+  pub told : AreSummedUp until plan made settings
 
--- ---- of a piece that goes on
+-- ---- of a shard that goes on
 
--- So much of the table of a piece stands in the text: so many bytes stay, with the lines of so many runs; with a width, of so many whole cases.
-abbrev pub AreBegun : Option ℕ → Bool → List ℕ → Sweep → Piece → List ℕ → ℕ → ℕ → Type 0
+-- So much of the table of a shard stands in the text: so many bytes stay, with the lines of so many runs; with a width, of so many whole settings.
+abbrev pub AreBegun : Option ℕ → Bool → List ℕ → Sweep → Shard → List ℕ → ℕ → ℕ → Type 0
 AreBegun None revived mark plan p text kept count = IsBegun revived mark plan p text kept count
-AreBegun (Some width) revived mark plan p text kept count = IsBegunCases revived mark plan width p text kept count
+AreBegun (Some width) revived mark plan p text kept count = IsBegunSettings revived mark plan width p text kept count
 
 -- why the text isn't so, unless memory was refused
-abbrev pub RefusesTable : Option ℕ → Bool → List ℕ → Sweep → Piece → List ℕ → BegunFault → Type 0
+abbrev pub RefusesTable : Option ℕ → Bool → List ℕ → Sweep → Shard → List ℕ → BegunFault → Type 0
 RefusesTable None revived mark plan p text fault = RefusesBegun revived mark plan p text fault
-RefusesTable (Some width) revived mark plan p text fault = RefusesBegunCases revived mark plan p text fault
+RefusesTable (Some width) revived mark plan p text fault = RefusesBegunSettings revived mark plan p text fault
 
--- so many runs, or cases, are no more than the piece has
-abbrev pub FitPiece : Option ℕ → Sweep → Piece → ℕ → Type 0
-FitPiece None plan p count = first_run p (run_count plan) + count ≤ past_run p (run_count plan)
-FitPiece (Some width) plan p count = count ≤ cases_in plan p
+-- so many runs, or settings, are no more than the shard has
+abbrev pub FitShard : Option ℕ → Sweep → Shard → ℕ → Type 0
+FitShard None plan p count = first_run p (run_count plan) + count ≤ past_run p (run_count plan)
+FitShard (Some width) plan p count = count ≤ settings_in plan p
 
--- these are the runs of the piece but for the first, so many, or for those of its first cases
-abbrev pub AreRunsBehind : (until : Option ℕ) → Data → Sweep → Piece → ℕ → RunsBy until → Type 0
+-- these are the runs of the shard but for the first, so many, or for those of its first settings
+abbrev pub AreRunsBehind : (until : Option ℕ) → Data → Sweep → Shard → ℕ → RunsBy until → Type 0
 AreRunsBehind None tree plan p count made = AreMadeBehind tree plan p count made
-AreRunsBehind (Some width) tree plan p count made = AreCasesBehind tree plan width p count made
+AreRunsBehind (Some width) tree plan p count made = AreSettingsBehind tree plan width p count made
 
--- what comes behind so many bytes of the table of the piece: what they lack of its first line, and the lines of these runs
-abbrev pub rest_table : (until : Option ℕ) → Data → List ℕ → Sweep → Piece → ℕ → RunsBy until → List ℕ
-rest_table until tree mark plan p kept made = rest_text (tells_revived tree) mark plan p kept (listed until made)
+-- what comes behind so many bytes of the table of the shard: what they lack of its first line, and the lines of these runs
+abbrev pub rest_table : (until : Option ℕ) → Data → List ℕ → Sweep → Shard → ℕ → RunsBy until → List ℕ
+rest_table until tree mark plan p kept made = rest_text (counts_revived tree) mark plan p kept (listed until made)
 
 -- the runs that were left were made: that was appended
-pub record WritesRunsBehind (until : Option ℕ) (tree : Data) (mark : List ℕ) (plan : Sweep) (p : Piece) (kept count : ℕ) (old new : Option (List ℕ)) : Type 0 where
+pub record WritesRunsBehind (until : Option ℕ) (tree : Data) (mark : List ℕ) (plan : Sweep) (p : Shard) (kept count : ℕ) (old new : Option (List ℕ)) : Type 0 where
   pub made : RunsBy until
   pub are : AreRunsBehind until tree plan p count made
   pub written : Appends old new (rest_table until tree mark plan p kept made)
 
 -- a beginning of it was
-pub record BeginsRunsBehind (until : Option ℕ) (tree : Data) (mark : List ℕ) (plan : Sweep) (p : Piece) (kept count : ℕ) (old new : Option (List ℕ)) : Type 0 where
+pub record BeginsRunsBehind (until : Option ℕ) (tree : Data) (mark : List ℕ) (plan : Sweep) (p : Shard) (kept count : ℕ) (old new : Option (List ℕ)) : Type 0 where
   pub made : RunsBy until
   pub are : AreRunsBehind until tree plan p count made
   pub written : AppendsBeginning old new (rest_table until tree mark plan p kept made)

@@ -6,7 +6,7 @@ ghost use Rattle.sweep_plan.specs.Missing.{missing_of};
 ghost use Rattle.sweep_plan.specs.Sweep.{Sweep};
 ghost use Rattle.sweep.specs.Runs.{IsAskedFor, planned_as};
 ghost use Rattle.sweep.specs.Judged.{AreAccepted, IsFirstRefused};
-ghost use Rattle.sweep_command.specs.Outcomes.{FailsSweepCheck, LacksItem, PassesSweepChecks, RefusesCase};
+ghost use Rattle.sweep_command.specs.Outcomes.{FailsSweepCheck, LacksItem, PassesSweepChecks, RefusesSetting};
 
 use crate::workers::sweep_workers;
 use base::Memory;
@@ -17,7 +17,7 @@ use scenario_files::{MarkedDocument, load_document};
 use std::alloc::Global;
 use std::thread::Threads;
 use sweep::{Refused, judge};
-use sweep_plan::{Plan, SettingKey, missing_item, settings_text};
+use sweep_plan::{Plan, SweptKey, choices_text, missing_item};
 use toml::Value;
 
 /// The number of the rule that stands for want of memory.
@@ -50,16 +50,16 @@ pub(crate) fn prepare_sweep<'a, F: Files>(
     let workers = sweep_workers(rt, words.workers)?;
     let marked = load_document(alloc, words.file, files)?;
     find_items(alloc, &words.plan, &marked.document)?;
-    judge_cases(alloc, &words.plan, &marked.document)?;
+    judge_settings(alloc, &words.plan, &marked.document)?;
     Ok(PreparedSweep { workers, marked })
 }
 
 /// Whether the document has the items of lists whose keys are set, each once.
 fn find_items(alloc: Global, plan: &Plan, document: &Value) -> Result<(), Failure<'static>>
-    ensures there { OnOk result (missing_of (view document.now) plan.now.settings ≡ None) }
+    ensures there { OnOk result (missing_of (view document.now) plan.now.swept_keys ≡ None) }
     ensures missing { IfErr result (LacksItem (view document.now) plan.now) }
 {
-    match missing_item(alloc, plan.settings(), document) {
+    match missing_item(alloc, plan.swept_keys(), document) {
         Ok(None) => Ok(()),
         Ok(Some(key)) => Err(item_failure(alloc, key)),
         Err(Memory) => Err(Failure::Memory),
@@ -67,8 +67,8 @@ fn find_items(alloc: Global, plan: &Plan, document: &Value) -> Result<(), Failur
 }
 
 /// The failure that the key of an item is told by which isn't there.
-fn item_failure(alloc: Global, key: SettingKey) -> Failure<'static>
-    ensures { (tree : Data) (plan : Sweep) → missing_of tree plan.settings ≡ Some key → LacksItem tree plan result }
+fn item_failure(alloc: Global, key: SweptKey) -> Failure<'static>
+    ensures { (tree : Data) (plan : Sweep) → missing_of tree plan.swept_keys ≡ Some key → LacksItem tree plan result }
 {
     match key.name(alloc) {
         Ok(key) => Failure::NoItem { key },
@@ -77,28 +77,28 @@ fn item_failure(alloc: Global, key: SettingKey) -> Failure<'static>
 }
 
 /// Whether the document of each run is accepted.
-fn judge_cases(alloc: Global, plan: &Plan, document: &Value) -> Result<(), Failure<'static>>
+fn judge_settings(alloc: Global, plan: &Plan, document: &Value) -> Result<(), Failure<'static>>
     requires { IsAskedFor plan.now }
     ensures accepted { OnOk result (AreAccepted (view document.now) plan.now) }
-    ensures refused { IfErr result (RefusesCase (view document.now) plan.now) }
+    ensures refused { IfErr result (RefusesSetting (view document.now) plan.now) }
 {
     match judge(alloc, plan, document) {
         Ok(()) => Ok(()),
-        Err(refused) => Err(case_failure(alloc, &refused)),
+        Err(refused) => Err(setting_failure(alloc, &refused)),
     }
 }
 
-/// The failure that a refused case is told by.
-fn case_failure(alloc: Global, refused: &Refused) -> Failure<'static>
-    ensures { (tree : Data) (plan : Sweep) → (refused.now.refusal.rule ≢ 11 → IsFirstRefused tree plan (planned_as refused.now.case.items refused.now.seed) refused.now.refusal.rule)
-        → RefusesCase tree plan result }
+/// The failure that a refused setting is told by.
+fn setting_failure(alloc: Global, refused: &Refused) -> Failure<'static>
+    ensures { (tree : Data) (plan : Sweep) → (refused.now.refusal.rule ≢ 11 → IsFirstRefused tree plan (planned_as refused.now.setting.items refused.now.seed) refused.now.refusal.rule)
+        → RefusesSetting tree plan result }
 {
     let rule = refused.refusal.rule;
     if rule == MEMORY_RULE {
         return Failure::Memory;
     }
-    match settings_text(alloc, &refused.case) {
-        Ok(settings) => Failure::Case { rule, settings },
+    match choices_text(alloc, &refused.setting) {
+        Ok(swept_keys) => Failure::Setting { rule, swept_keys },
         Err(Memory) => Failure::Memory,
     }
 }

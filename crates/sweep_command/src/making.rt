@@ -2,27 +2,27 @@
 ghost use Rattle.std.specs.Prelude.{◌≡◌, ◌<◌, ◌≤◌, ◌^◌, ◌+◌, IfOk, IfErr, OnErr, OnOk};
 ghost use Rattle.toml.specs.View.{view};
 ghost use Rattle.run_output.specs.Written.{sink_failures};
-ghost use Rattle.shards.specs.Pieces.{IsPiece};
+ghost use Rattle.shards.specs.Shards.{IsShard};
 ghost use Rattle.sweep.specs.Runs.{IsAskedFor};
 ghost use Rattle.sweep.specs.Judged.{AreAccepted};
 ghost use Rattle.sweep.specs.Table.{HasCause};
-ghost use Rattle.sweep_command.specs.Runs.{BeginsAllRuns, BeginsRuns, BeginsRunsBehind, FitPiece, MakesRuns, WritesRuns, WritesRunsBehind};
+ghost use Rattle.sweep_command.specs.Runs.{BeginsAllRuns, BeginsRuns, BeginsRunsBehind, FitShard, MakesRuns, WritesRuns, WritesRunsBehind};
 
 use base::Fault;
-use figures::CaseSummary;
+use figures::SettingSummary;
 use scenario::Workers;
-use shards::Piece;
+use shards::Shard;
 use std::alloc::Global;
 use std::thread::Threads;
-use sweep::{Begun, Progress, sweep, write_piece, write_rest};
+use sweep::{Begun, Progress, sweep, write_rest, write_shard};
 use sweep_plan::Plan;
-use sweep_until::{BegunCases, sweep_until, write_piece_until, write_rest_until};
+use sweep_until::{BegunSettings, sweep_until, write_rest_until, write_shard_until};
 use toml::Value;
 use trace::Sink;
 
 /// Makes the runs of a sweep, and writes their table, with `mark` as that of the scenario's text: each
-/// case with each seed; where the plan says how wide the interval of a case may be, with only as many
-/// as make it no wider, or all where none do. Gives what is told of each case, in their order. The
+/// setting with each seed; where the plan says how wide the interval of a setting may be, with only as many
+/// as make it no wider, or all where none do. Gives what is told of each setting, in their order. The
 /// document of each run must have been judged to be accepted. After a fault the table has got a
 /// beginning.
 ///
@@ -37,11 +37,11 @@ pub(crate) fn make_runs<S: Sink, P: Progress>(
     workers: Workers,
     progress: &mut P,
     table: &mut S,
-) -> Result<Vec<CaseSummary>, Fault>
+) -> Result<Vec<SettingSummary>, Fault>
     requires asked { IsAskedFor plan.now }
     requires judged { AreAccepted (view document.now) plan.now }
     requires countable { S.failed table.old < 2 ^ 63 }
-    ensures whole { IfOk result (λ cases. MakesRuns plan.now.until (view document.now) mark.now plan.now (S.held table.old) (S.held table.new) cases.items) }
+    ensures whole { IfOk result (λ settings. MakesRuns plan.now.until (view document.now) mark.now plan.now (S.held table.old) (S.held table.new) settings.items) }
     ensures part { OnErr result (BeginsAllRuns plan.now.until (view document.now) mark.now plan.now (S.held table.old) (S.held table.new)) }
     ensures causes { IfErr result (HasCause (view document.now) plan.now) }
     ensures failures { S.failed table.new ≡ S.failed table.old + sink_failures result }
@@ -54,13 +54,13 @@ pub(crate) fn make_runs<S: Sink, P: Progress>(
     }
 }
 
-/// Makes the runs of a piece of a sweep, and writes its table. Where the plan says how wide the interval of a case may be, it is
-/// a piece of whole cases. All else is as in `make_runs`.
-pub(crate) fn make_piece<S: Sink, P: Progress>(
+/// Makes the runs of a shard of a sweep, and writes its table. Where the plan says how wide the interval of a setting may be, it is
+/// a shard of whole settings. All else is as in `make_runs`.
+pub(crate) fn make_shard<S: Sink, P: Progress>(
     rt: &(impl Threads + Sync),
     alloc: Global,
     plan: &Plan,
-    piece: Piece,
+    shard: Shard,
     mark: &str,
     document: &Value,
     workers: Workers,
@@ -68,32 +68,32 @@ pub(crate) fn make_piece<S: Sink, P: Progress>(
     table: &mut S,
 ) -> Result<(), Fault>
     requires asked { IsAskedFor plan.now }
-    requires piece { IsPiece piece }
+    requires shard { IsShard shard }
     requires judged { AreAccepted (view document.now) plan.now }
     requires countable { S.failed table.old < 2 ^ 63 }
-    ensures whole { OnOk result (WritesRuns plan.now.until (view document.now) mark.now plan.now piece (S.held table.old) (S.held table.new)) }
-    ensures part { OnErr result (BeginsRuns plan.now.until (view document.now) mark.now plan.now piece (S.held table.old) (S.held table.new)) }
+    ensures whole { OnOk result (WritesRuns plan.now.until (view document.now) mark.now plan.now shard (S.held table.old) (S.held table.new)) }
+    ensures part { OnErr result (BeginsRuns plan.now.until (view document.now) mark.now plan.now shard (S.held table.old) (S.held table.new)) }
     ensures causes { IfErr result (HasCause (view document.now) plan.now) }
     ensures failures { S.failed table.new ≡ S.failed table.old + sink_failures result }
 {
     match plan.until() {
-        Some(_) => write_piece_until(
-            rt, alloc, plan, piece, mark, document, workers, progress, table,
+        Some(_) => write_shard_until(
+            rt, alloc, plan, shard, mark, document, workers, progress, table,
         ),
-        None => write_piece(
-            rt, alloc, plan, piece, mark, document, workers, progress, table,
+        None => write_shard(
+            rt, alloc, plan, shard, mark, document, workers, progress, table,
         ),
     }
 }
 
-/// Makes the runs of a piece that are left, and writes its table behind the bytes that stay of it. These have the lines of so
-/// many runs, or of so many whole cases where the plan says how wide the interval of a case may be. All else is as in
-/// `make_piece`.
+/// Makes the runs of a shard that are left, and writes its table behind the bytes that stay of it. These have the lines of so
+/// many runs, or of so many whole settings where the plan says how wide the interval of a setting may be. All else is as in
+/// `make_shard`.
 pub(crate) fn make_rest<S: Sink, P: Progress>(
     rt: &(impl Threads + Sync),
     alloc: Global,
     plan: &Plan,
-    piece: Piece,
+    shard: Shard,
     mark: &str,
     kept: usize,
     count: usize,
@@ -103,26 +103,29 @@ pub(crate) fn make_rest<S: Sink, P: Progress>(
     table: &mut S,
 ) -> Result<(), Fault>
     requires asked { IsAskedFor plan.now }
-    requires piece { IsPiece piece }
+    requires shard { IsShard shard }
     requires judged { AreAccepted (view document.now) plan.now }
-    requires few { FitPiece plan.now.until plan.now piece count }
+    requires few { FitShard plan.now.until plan.now shard count }
     requires countable { S.failed table.old < 2 ^ 63 }
-    ensures whole { OnOk result (WritesRunsBehind plan.now.until (view document.now) mark.now plan.now piece kept count (S.held table.old) (S.held table.new)) }
-    ensures part { OnErr result (BeginsRunsBehind plan.now.until (view document.now) mark.now plan.now piece kept count (S.held table.old) (S.held table.new)) }
+    ensures whole { OnOk result (WritesRunsBehind plan.now.until (view document.now) mark.now plan.now shard kept count (S.held table.old) (S.held table.new)) }
+    ensures part { OnErr result (BeginsRunsBehind plan.now.until (view document.now) mark.now plan.now shard kept count (S.held table.old) (S.held table.new)) }
     ensures causes { IfErr result (HasCause (view document.now) plan.now) }
     ensures failures { S.failed table.new ≡ S.failed table.old + sink_failures result }
 {
     match plan.until() {
         Some(_) => {
-            let begun = BegunCases { kept, cases: count };
+            let begun = BegunSettings {
+                kept,
+                settings: count,
+            };
             write_rest_until(
-                rt, alloc, plan, piece, mark, begun, document, workers, progress, table,
+                rt, alloc, plan, shard, mark, begun, document, workers, progress, table,
             )
         }
         None => {
             let begun = Begun { kept, runs: count };
             write_rest(
-                rt, alloc, plan, piece, mark, begun, document, workers, progress, table,
+                rt, alloc, plan, shard, mark, begun, document, workers, progress, table,
             )
         }
     }

@@ -3,7 +3,7 @@ ghost use Rattle.std.specs.Prelude.{◌≡◌, ◌<◌, ◌≤◌, ◌^◌, ◌+
 ghost use Rattle.toml.specs.Data.{Data};
 ghost use Rattle.toml.specs.View.{view};
 ghost use Rattle.goals.specs.Wants.{HasFewRuns, IsBounded};
-ghost use Rattle.sweep_plan.specs.Sweep.{Sweep, case_count};
+ghost use Rattle.sweep_plan.specs.Sweep.{Sweep, setting_count};
 ghost use Rattle.files.specs.Files.{AreThreeFiles};
 ghost use Rattle.trace.specs.Writers.{put_failures, writer_under};
 ghost use Rattle.run_output.specs.Written.{sink_failures};
@@ -17,17 +17,17 @@ use crate::making::make_runs;
 use crate::progressing::RunLines;
 use base::Fault;
 use command_line::{Failure, Release, SweepWords};
-use figures::CaseSummary;
+use figures::SettingSummary;
 use files::{Files, PairFault};
-use scenario_files::run_told;
+use scenario_files::run_result;
 use std::alloc::Global;
 use std::io::Write;
 use std::thread::Threads;
-use sweep::{NoProgress, Progress, tells_revived};
-use sweep_output::{SweepShown, cases_page, cases_told, put_text};
+use sweep::{NoProgress, Progress, counts_revived};
+use sweep_output::{SweepShown, put_text, settings_page, settings_printed};
 use trace::{Put, Sink, Stopped};
 
-/// Makes the runs, and writes their table to the file that the words name and a page of their cases
+/// Makes the runs, and writes their table to the file that the words name and a page of their settings
 /// to another. Either both files are made or neither is.
 pub(crate) fn store_paged<'a, F: Files, P: Write>(
     rt: &(impl Threads + Sync),
@@ -60,11 +60,11 @@ pub(crate) fn store_paged<'a, F: Files, P: Write>(
     );
     files.close(words.table, made_table);
     files.close(page, made_page);
-    run_told(outcome)
+    run_result(outcome)
 }
 
-/// Makes the runs, writes their table to one writer and a page of their cases to the other, and gives
-/// both back, with what is told of the cases.
+/// Makes the runs, writes their table to one writer and a page of their settings to the other, and gives
+/// both back, with what is told of the settings.
 fn fill_both<T: Write, U: Write, P: Write>(
     rt: &(impl Threads + Sync),
     alloc: Global,
@@ -108,8 +108,8 @@ fn fill_both<T: Write, U: Write, P: Write>(
     (table, page, outcome)
 }
 
-/// Makes the runs, writes their table and then a page of their cases, and answers what is told of the
-/// cases.
+/// Makes the runs, writes their table and then a page of their settings, and answers what is told of the
+/// settings.
 fn tell_both<S: Sink, U: Sink, P: Progress>(
     rt: &(impl Threads + Sync),
     alloc: Global,
@@ -134,7 +134,7 @@ fn tell_both<S: Sink, U: Sink, P: Progress>(
 {
     let mark = prepared.marked.mark.as_str();
     let document = &prepared.marked.document;
-    let cases = make_runs(
+    let settings = make_runs(
         rt,
         alloc,
         &words.plan,
@@ -144,33 +144,33 @@ fn tell_both<S: Sink, U: Sink, P: Progress>(
         progress,
         table,
     )?;
-    let revived = tells_revived(document);
-    let lines = cases_told(
+    let revived = counts_revived(document);
+    let lines = settings_printed(
         alloc,
         &words.plan,
         &words.wants,
         words.jsonl,
         revived,
-        &cases,
+        &settings,
     )?;
-    write_page(alloc, release, words, &cases, page)?;
+    write_page(alloc, release, words, &settings, page)?;
     Ok(lines)
 }
 
-/// Writes a page of the cases, which answers what is wanted.
+/// Writes a page of the settings, which answers what is wanted.
 fn write_page<U: Sink>(
     alloc: Global,
     release: &Release<'_>,
     words: &SweepWords<'_>,
-    cases: &[CaseSummary],
+    settings: &[SettingSummary],
     out: &mut U,
 ) -> Result<(), Fault>
     requires wants { All IsBounded words.now.wants.items }
-    requires few { All HasFewRuns cases.now }
-    requires all { length cases.now ≡ case_count words.now.plan.settings }
+    requires few { All HasFewRuns settings.now }
+    requires all { length settings.now ≡ setting_count words.now.plan.swept_keys }
     requires countable { U.failed out.old < 2 ^ 63 }
-    ensures whole { OnOk result (WritesPage words.now release.now.version.now cases.now (U.held out.old) (U.held out.new)) }
-    ensures part { OnErr result (BeginsPage words.now release.now.version.now cases.now (U.held out.old) (U.held out.new)) }
+    ensures whole { OnOk result (WritesPage words.now release.now.version.now settings.now (U.held out.old) (U.held out.new)) }
+    ensures part { OnErr result (BeginsPage words.now release.now.version.now settings.now (U.held out.old) (U.held out.new)) }
     ensures causes { (tree : Data) (plan : Sweep) → IfErr result (HasCause tree plan) }
     ensures failures { U.failed out.new ≡ U.failed out.old + sink_failures result }
 {
@@ -178,7 +178,7 @@ fn write_page<U: Sink>(
         name: words.file,
         release: release.version,
     };
-    let text = cases_page(alloc, &shown, &words.plan, &words.wants, cases)?;
+    let text = settings_page(alloc, &shown, &words.plan, &words.wants, settings)?;
     match put_text(text.as_bytes(), out) {
         Ok(()) => Ok(()),
         Err(Stopped) => Err(Fault::Write),

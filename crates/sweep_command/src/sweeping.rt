@@ -2,7 +2,7 @@
 ghost use Rattle.std.specs.Prelude.{◌≡◌, ◌<◌, ◌^◌, ◌+◌, All, Some, false, [], IfOk, IfErr, OnOk, OnErr, string_bytes};
 ghost use Rattle.std.specs.Option.{ForSome};
 ghost use Rattle.toml.specs.View.{view};
-ghost use Rattle.shards.specs.Pieces.{IsPiece};
+ghost use Rattle.shards.specs.Shards.{IsShard};
 ghost use Rattle.goals.specs.Wants.{IsBounded};
 ghost use Rattle.trace.specs.Writers.{put_failures, writer_under};
 ghost use Rattle.run_output.specs.Written.{sink_failures};
@@ -13,26 +13,26 @@ ghost use Rattle.sweep_command.specs.Outcomes.{AreApart, BeginsAsked, BeginsPart
 ghost use Rattle.sweep_command.specs.Runs.{BeginsAllRuns};
 
 use crate::checks::{PreparedSweep, prepare_sweep};
-use crate::making::{make_piece, make_rest, make_runs};
+use crate::making::{make_rest, make_runs, make_shard};
 use crate::paging::store_paged;
 use crate::progressing::RunLines;
 use crate::resuming::{Stays, find_standing};
 use base::Fault;
 use command_line::{Failure, Release, SweepWords};
 use files::Files;
-use scenario_files::{file_failure, run_told};
-use shards::Piece;
+use scenario_files::{file_failure, run_result};
+use shards::Shard;
 use std::alloc::Global;
 use std::io::Write;
 use std::thread::Threads;
-use sweep::{NoProgress, Progress, tells_revived};
-use sweep_output::cases_told;
+use sweep::{NoProgress, Progress, counts_revived};
+use sweep_output::settings_printed;
 use trace::{Put, Sink};
 
 /// Makes the runs that the words of a sweep ask for, and writes their table to a file, and a page of
-/// the cases to another where one is asked for. They are each case with each seed, or with only as
-/// many as make its interval narrow enough; or those of a piece, or what is left of these. They are
-/// made once all checks have passed. Answers what is told of the cases; nothing for a piece.
+/// the settings to another where one is asked for. They are each setting with each seed, or with only as
+/// many as make its interval narrow enough; or those of a shard, or what is left of these. They are
+/// made once all checks have passed. Answers what is told of the settings; nothing for a shard.
 /// `release` is what the page tells of the program. How far it has come goes to `progress`, where
 /// the words ask for that.
 pub fn sweep_file<'a, F: Files, P: Write>(
@@ -44,7 +44,7 @@ pub fn sweep_file<'a, F: Files, P: Write>(
     progress: &mut P,
 ) -> Result<String, Failure<'a>>
     requires asked { IsAskedFor words.now.plan }
-    requires piece { ForSome words.now.piece IsPiece }
+    requires shard { ForSome words.now.shard IsShard }
     requires wants { All IsBounded words.now.wants.items }
     ensures done { IfOk result
         (λ lines. SweepsAll release.now.version.now (F.known files.old) (F.known files.new) (F.making files.old) words.now (string_bytes lines)) }
@@ -68,7 +68,7 @@ fn store_asked<'a, F: Files, P: Write>(
     progress: &mut P,
 ) -> Result<String, Failure<'a>>
     requires asked { IsAskedFor words.now.plan }
-    requires piece { ForSome words.now.piece IsPiece }
+    requires shard { ForSome words.now.shard IsShard }
     requires wants { All IsBounded words.now.wants.items }
     requires judged { AreAccepted (view prepared.now.marked.document) words.now.plan }
     requires stood { GoesOn (view prepared.now.marked.document) (string_bytes prepared.now.marked.mark) words.now (F.known files.old words.now.table.now) stood.kept stood.count }
@@ -85,7 +85,7 @@ fn store_asked<'a, F: Files, P: Write>(
     }
 }
 
-/// The same where no page is asked for. Where a piece goes on, what stays of its table stands there at every moment.
+/// The same where no page is asked for. Where a shard goes on, what stays of its table stands there at every moment.
 fn store_table<'a, F: Files, P: Write>(
     rt: &(impl Threads + Sync),
     alloc: Global,
@@ -96,11 +96,11 @@ fn store_table<'a, F: Files, P: Write>(
     progress: &mut P,
 ) -> Result<String, Failure<'a>>
     requires asked { IsAskedFor words.now.plan }
-    requires piece { ForSome words.now.piece IsPiece }
+    requires shard { ForSome words.now.shard IsShard }
     requires wants { All IsBounded words.now.wants.items }
     requires judged { AreAccepted (view prepared.now.marked.document) words.now.plan }
     requires stood { GoesOn (view prepared.now.marked.document) (string_bytes prepared.now.marked.mark) words.now (F.known files.old words.now.table.now) stood.kept stood.count }
-    ensures done { IfOk result (λ lines. StoresPlain words.now.piece (view prepared.now.marked.document) (string_bytes prepared.now.marked.mark) words.now
+    ensures done { IfOk result (λ lines. StoresPlain words.now.shard (view prepared.now.marked.document) (string_bytes prepared.now.marked.mark) words.now
         (F.known files.old) (F.known files.new) (string_bytes lines)) }
     ensures apart { OnOk result ((F.making files.old).are_one words.now.file.now words.now.table.now ≡ false) }
     ensures failed { IfErr result (TableFails (F.refused files.old < F.refused files.new) (view prepared.now.marked.document) (string_bytes prepared.now.marked.mark)
@@ -113,10 +113,10 @@ fn store_table<'a, F: Files, P: Write>(
     };
     let (made, outcome) = fill_table(rt, alloc, words, prepared, stood, made, progress);
     files.close(words.table, made);
-    run_told(outcome)
+    run_result(outcome)
 }
 
-/// Makes the runs, writes their table to a writer, and gives it back, with what is told of the cases.
+/// Makes the runs, writes their table to a writer, and gives it back, with what is told of the settings.
 fn fill_table<T: Write, P: Write>(
     rt: &(impl Threads + Sync),
     alloc: Global,
@@ -127,13 +127,13 @@ fn fill_table<T: Write, P: Write>(
     progress: &mut P,
 ) -> (Put<T>, Result<String, Fault>)
     requires asked { IsAskedFor words.now.plan }
-    requires piece { ForSome words.now.piece IsPiece }
+    requires shard { ForSome words.now.shard IsShard }
     requires wants { All IsBounded words.now.wants.items }
     requires judged { AreAccepted (view prepared.now.marked.document) words.now.plan }
-    requires few { FitResumed words.now words.now.piece stood.count }
-    ensures whole { IfOk result.1 (λ lines. MakesAsked words.now.piece (view prepared.now.marked.document) (string_bytes prepared.now.marked.mark) words.now stood.kept stood.count
+    requires few { FitResumed words.now words.now.shard stood.count }
+    ensures whole { IfOk result.1 (λ lines. MakesAsked words.now.shard (view prepared.now.marked.document) (string_bytes prepared.now.marked.mark) words.now stood.kept stood.count
         (T.contents table) (T.contents (writer_under result.0)) (string_bytes lines)) }
-    ensures part { OnErr result.1 (BeginsAsked words.now.piece (view prepared.now.marked.document) (string_bytes prepared.now.marked.mark) words.now stood.kept stood.count
+    ensures part { OnErr result.1 (BeginsAsked words.now.shard (view prepared.now.marked.document) (string_bytes prepared.now.marked.mark) words.now stood.kept stood.count
         (T.contents table) (T.contents (writer_under result.0))) }
     ensures causes { IfErr result.1 (HasCause (view prepared.now.marked.document) words.now.plan) }
     ensures failures { put_failures result.0 ≡ sink_failures result.1 }
@@ -157,7 +157,7 @@ fn fill_table<T: Write, P: Write>(
     (table, outcome)
 }
 
-/// Makes the runs that are asked for, writes their table, and answers what is told of the cases; nothing for a piece.
+/// Makes the runs that are asked for, writes their table, and answers what is told of the settings; nothing for a shard.
 fn tell_asked<S: Sink, P: Progress>(
     rt: &(impl Threads + Sync),
     alloc: Global,
@@ -168,53 +168,53 @@ fn tell_asked<S: Sink, P: Progress>(
     table: &mut S,
 ) -> Result<String, Fault>
     requires asked { IsAskedFor words.now.plan }
-    requires piece { ForSome words.now.piece IsPiece }
+    requires shard { ForSome words.now.shard IsShard }
     requires wants { All IsBounded words.now.wants.items }
     requires judged { AreAccepted (view prepared.now.marked.document) words.now.plan }
-    requires few { FitResumed words.now words.now.piece stood.count }
+    requires few { FitResumed words.now words.now.shard stood.count }
     requires countable { S.failed table.old < 2 ^ 63 }
-    ensures whole { IfOk result (λ lines. MakesAsked words.now.piece (view prepared.now.marked.document) (string_bytes prepared.now.marked.mark) words.now stood.kept stood.count
+    ensures whole { IfOk result (λ lines. MakesAsked words.now.shard (view prepared.now.marked.document) (string_bytes prepared.now.marked.mark) words.now stood.kept stood.count
         (S.held table.old) (S.held table.new) (string_bytes lines)) }
-    ensures part { OnErr result (BeginsAsked words.now.piece (view prepared.now.marked.document) (string_bytes prepared.now.marked.mark) words.now stood.kept stood.count
+    ensures part { OnErr result (BeginsAsked words.now.shard (view prepared.now.marked.document) (string_bytes prepared.now.marked.mark) words.now stood.kept stood.count
         (S.held table.old) (S.held table.new)) }
     ensures causes { IfErr result (HasCause (view prepared.now.marked.document) words.now.plan) }
     ensures failures { S.failed table.new ≡ S.failed table.old + sink_failures result }
 {
-    match words.piece {
-        Some(piece) => tell_piece(rt, alloc, words, prepared, stood, piece, progress, table),
+    match words.shard {
+        Some(shard) => tell_shard(rt, alloc, words, prepared, stood, shard, progress, table),
         None => tell_runs(rt, alloc, words, prepared, progress, table),
     }
 }
 
-/// Makes the runs of a piece, all or what is left of them, and writes their table; there is nothing to tell of it.
-fn tell_piece<S: Sink, P: Progress>(
+/// Makes the runs of a shard, all or what is left of them, and writes their table; there is nothing to tell of it.
+fn tell_shard<S: Sink, P: Progress>(
     rt: &(impl Threads + Sync),
     alloc: Global,
     words: &SweepWords<'_>,
     prepared: &PreparedSweep,
     stood: Stays,
-    piece: Piece,
+    shard: Shard,
     progress: &mut P,
     table: &mut S,
 ) -> Result<String, Fault>
     requires asked { IsAskedFor words.now.plan }
-    requires piece { IsPiece piece }
+    requires shard { IsShard shard }
     requires judged { AreAccepted (view prepared.now.marked.document) words.now.plan }
-    requires few { FitResumed words.now (Some piece) stood.count }
+    requires few { FitResumed words.now (Some shard) stood.count }
     requires countable { S.failed table.old < 2 ^ 63 }
-    ensures whole { OnOk result (MakesPart words.now.resume (view prepared.now.marked.document) (string_bytes prepared.now.marked.mark) words.now piece stood.kept stood.count
+    ensures whole { OnOk result (MakesPart words.now.resume (view prepared.now.marked.document) (string_bytes prepared.now.marked.mark) words.now shard stood.kept stood.count
         (S.held table.old) (S.held table.new)) }
     ensures untold { IfOk result (λ lines. string_bytes lines ≡ []) }
-    ensures part { OnErr result (BeginsPart words.now.resume (view prepared.now.marked.document) (string_bytes prepared.now.marked.mark) words.now piece stood.kept stood.count
+    ensures part { OnErr result (BeginsPart words.now.resume (view prepared.now.marked.document) (string_bytes prepared.now.marked.mark) words.now shard stood.kept stood.count
         (S.held table.old) (S.held table.new)) }
     ensures causes { IfErr result (HasCause (view prepared.now.marked.document) words.now.plan) }
     ensures failures { S.failed table.new ≡ S.failed table.old + sink_failures result }
 {
-    write_part(rt, alloc, words, prepared, stood, piece, progress, table)?;
+    write_part(rt, alloc, words, prepared, stood, shard, progress, table)?;
     Ok(String::new(alloc))
 }
 
-/// Makes the runs of a piece, and writes their table: that of all, or, where the piece goes on, what comes behind the bytes
+/// Makes the runs of a shard, and writes their table: that of all, or, where the shard goes on, what comes behind the bytes
 /// that stay of it.
 fn write_part<S: Sink, P: Progress>(
     rt: &(impl Threads + Sync),
@@ -222,18 +222,18 @@ fn write_part<S: Sink, P: Progress>(
     words: &SweepWords<'_>,
     prepared: &PreparedSweep,
     stood: Stays,
-    piece: Piece,
+    shard: Shard,
     progress: &mut P,
     table: &mut S,
 ) -> Result<(), Fault>
     requires asked { IsAskedFor words.now.plan }
-    requires piece { IsPiece piece }
+    requires shard { IsShard shard }
     requires judged { AreAccepted (view prepared.now.marked.document) words.now.plan }
-    requires few { FitResumed words.now (Some piece) stood.count }
+    requires few { FitResumed words.now (Some shard) stood.count }
     requires countable { S.failed table.old < 2 ^ 63 }
-    ensures whole { OnOk result (MakesPart words.now.resume (view prepared.now.marked.document) (string_bytes prepared.now.marked.mark) words.now piece stood.kept stood.count
+    ensures whole { OnOk result (MakesPart words.now.resume (view prepared.now.marked.document) (string_bytes prepared.now.marked.mark) words.now shard stood.kept stood.count
         (S.held table.old) (S.held table.new)) }
-    ensures part { OnErr result (BeginsPart words.now.resume (view prepared.now.marked.document) (string_bytes prepared.now.marked.mark) words.now piece stood.kept stood.count
+    ensures part { OnErr result (BeginsPart words.now.resume (view prepared.now.marked.document) (string_bytes prepared.now.marked.mark) words.now shard stood.kept stood.count
         (S.held table.old) (S.held table.new)) }
     ensures causes { IfErr result (HasCause (view prepared.now.marked.document) words.now.plan) }
     ensures failures { S.failed table.new ≡ S.failed table.old + sink_failures result }
@@ -246,15 +246,15 @@ fn write_part<S: Sink, P: Progress>(
         let kept = stood.kept;
         let count = stood.count;
         return make_rest(
-            rt, alloc, plan, piece, mark, kept, count, document, workers, progress, table,
+            rt, alloc, plan, shard, mark, kept, count, document, workers, progress, table,
         );
     }
-    make_piece(
-        rt, alloc, plan, piece, mark, document, workers, progress, table,
+    make_shard(
+        rt, alloc, plan, shard, mark, document, workers, progress, table,
     )
 }
 
-/// Makes the runs of a whole sweep, writes their table, and answers what is told of the cases.
+/// Makes the runs of a whole sweep, writes their table, and answers what is told of the settings.
 fn tell_runs<S: Sink, P: Progress>(
     rt: &(impl Threads + Sync),
     alloc: Global,
@@ -274,7 +274,7 @@ fn tell_runs<S: Sink, P: Progress>(
 {
     let mark = prepared.marked.mark.as_str();
     let document = &prepared.marked.document;
-    let cases = make_runs(
+    let settings = make_runs(
         rt,
         alloc,
         &words.plan,
@@ -284,14 +284,14 @@ fn tell_runs<S: Sink, P: Progress>(
         progress,
         table,
     )?;
-    let revived = tells_revived(document);
-    let lines = cases_told(
+    let revived = counts_revived(document);
+    let lines = settings_printed(
         alloc,
         &words.plan,
         &words.wants,
         words.jsonl,
         revived,
-        &cases,
+        &settings,
     )?;
     Ok(lines)
 }

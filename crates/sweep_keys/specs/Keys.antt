@@ -2,43 +2,43 @@
 use Rattle.std.specs.Prelude.{ℕ, Bool, ◌+◌, ◌-◌, ◌/◌, ◌%◌, ◌^◌, ◌==◌, ◌&&◌, nat_le, if◌then◌else◌, min, max, List, [], ◌∷◌, ◌++◌, Option, None, codes, decimal, drop, fold, is_some, length, slice_get, take, unwrap_or}
 use Rattle.std.specs.List.{flat_map, range_with_len}
 use Rattle.std.specs.Option.{option_map_or}
-use Rattle.sweep_plan.specs.Cases.{cases_of}
+use Rattle.sweep_plan.specs.Settings.{settings_of}
 use Rattle.sweep_plan.specs.Asked.{names_text, values_text}
 use Rattle.sweep_plan.specs.Axes.{axes_of, place_count}
-use Rattle.sweep_plan.specs.Sweep.{KeyValues, case_count}
+use Rattle.sweep_plan.specs.Sweep.{KeyValues, setting_count}
 use Rattle.sweep_plan.specs.declared.choice.Choice.{Choice}
 use Rattle.drawing.specs.Axes.{axis_up}
 use Rattle.drawing.specs.Escaped.{escaped, markup}
 use Rattle.drawing.specs.Numbers.{place as place_on}
 use Rattle.drawing.specs.Shapes.{figure_opening, figure_end, plot_opening, plot_end}
-use Rattle.figures.specs.declared.summary.CaseSummary.{CaseSummary}
-use Rattle.sweep_keys.specs.Lines.{key_lines, case_place, width, middle, across, shared_out, statistic_words, early, median, late}
+use Rattle.figures.specs.declared.summary.SettingSummary.{SettingSummary}
+use Rattle.sweep_keys.specs.Lines.{key_lines, setting_place, width, middle, across, shared_out, statistic_words, early, median, late}
 use Rattle.sweep_cells.specs.Paths.{path_start, path_step}
 use Rattle.sweep_cells.specs.Cells.{cell, time_cell}
-use Rattle.sweep_cells.specs.Words.{count_words, settings_words}
+use Rattle.sweep_cells.specs.Words.{count_words, swept_keys_words}
 use Rattle.sweep_keys.specs.declared.lines.KeyLines.{KeyLines}
 use Rattle.sweep_keys.specs.declared.statistic.Statistic.{Statistic}
 use Rattle.sweep_keys.specs.declared.statistic.Statistic.TheVariants.{Suspected, Confirmed, Last}
 
--- the choices of a case but those for so many keys from a place on
+-- the choices of a setting but those for so many keys from a place on
 abbrev pub without : ℕ → ℕ → List Choice → List Choice
 without key keys chosen = take key chosen ++ drop (key + keys) chosen
 
 -- the values of the other keys, in words
 unfoldable pub others_words : List Choice → List ℕ
-others_words others = if length others == 0 then codes "all else as in the scenario" else settings_words others
+others_words others = if length others == 0 then codes "all else as in the scenario" else swept_keys_words others
 
--- the settings of the case at a place but those of so many keys from one on
+-- the choices of the setting at a place but those of so many keys from one on
 unfoldable pub others_at : List KeyValues → ℕ → ℕ → ℕ → List ℕ
-others_at settings key keys place = option_map_or (λ chosen. others_words (without key keys chosen)) (slice_get (cases_of settings) place) []
+others_at swept_keys key keys place = option_map_or (λ chosen. others_words (without key keys chosen)) (slice_get (settings_of swept_keys) place) []
 
--- an entry of the legend begins by a piece of its line
+-- an entry of the legend begins by a shard of its line
 unfoldable pub sample : ℕ → List ℕ
 sample line = codes "<li><svg class=\"sample\" viewBox=\"0 0 20 10\" aria-hidden=\"true\"><path class=\"path s" ++ decimal line ++ codes "\" d=\"M0 5H20\"/></svg><code>"
 
--- it tells the values of the other keys, which all cases of its line have
+-- it tells the values of the other keys, which all settings of its line have
 unfoldable pub legend_entry : List KeyValues → KeyLines → ℕ → ℕ → List ℕ
-legend_entry settings k key line = sample line ++ others_at settings key k.keys (case_place k line 0) ++ markup (codes "</code></li>")
+legend_entry swept_keys k key line = sample line ++ others_at swept_keys key k.keys (setting_place k line 0) ++ markup (codes "</code></li>")
 
 -- so many lines aren't drawn
 unfoldable pub more_undrawn : ℕ → List ℕ
@@ -48,56 +48,56 @@ more_undrawn more = markup (codes "<p class=\"soft\">") ++ count_words more (cod
 unfoldable pub undrawn_words : ℕ → List ℕ
 undrawn_words more = if more == 0 then [] else more_undrawn more
 
--- the legend of a key's lines, each by its first case
+-- the legend of a key's lines, each by its first setting
 unfoldable pub legend : List KeyValues → KeyLines → ℕ → List ℕ
-legend settings k key =
-    markup (codes "<ul class=\"legend\">") ++ flat_map (legend_entry settings k key) (range_with_len 0 k.lines) ++ markup (codes "</ul>")
-    ++ undrawn_words (case_count settings / max k.values 1 - k.lines)
+legend swept_keys k key =
+    markup (codes "<ul class=\"legend\">") ++ flat_map (legend_entry swept_keys k key) (range_with_len 0 k.lines) ++ markup (codes "</ul>")
+    ++ undrawn_words (setting_count swept_keys / max k.values 1 - k.lines)
 
--- the case that a line has over the value at a place
-abbrev pub case_over : List CaseSummary → KeyLines → ℕ → ℕ → Option CaseSummary
-case_over cases k line value = slice_get cases (case_place k line value)
+-- the setting that a line has over the value at a place
+abbrev pub setting_over : List SettingSummary → KeyLines → ℕ → ℕ → Option SettingSummary
+setting_over settings k line value = slice_get settings (setting_place k line value)
 
 -- its median time
-abbrev pub time_over : List CaseSummary → KeyLines → Statistic → ℕ → ℕ → Option ℕ
-time_over cases k s line value = option_map_or (median s) (case_over cases k line value) None
+abbrev pub time_over : List SettingSummary → KeyLines → Statistic → ℕ → ℕ → Option ℕ
+time_over settings k s line value = option_map_or (median s) (setting_over settings k line value) None
 
--- the greatest time that is drawn of a case; 0 where there is none
-unfoldable pub greatest_in : Statistic → CaseSummary → ℕ
-greatest_in s case = max (unwrap_or (early s case) 0) (max (unwrap_or (median s case) 0) (unwrap_or (late s case) 0))
+-- the greatest time that is drawn of a setting; 0 where there is none
+unfoldable pub greatest_in : Statistic → SettingSummary → ℕ
+greatest_in s setting = max (unwrap_or (early s setting) 0) (max (unwrap_or (median s setting) 0) (unwrap_or (late s setting) 0))
 
--- that of a line's case over the value at a place
-unfoldable pub greatest_over : List CaseSummary → KeyLines → Statistic → ℕ → ℕ → ℕ
-greatest_over cases k s line value = option_map_or (greatest_in s) (case_over cases k line value) 0
+-- that of a line's setting over the value at a place
+unfoldable pub greatest_over : List SettingSummary → KeyLines → Statistic → ℕ → ℕ → ℕ
+greatest_over settings k s line value = option_map_or (greatest_in s) (setting_over settings k line value) 0
 
 -- that of a line
-unfoldable pub greatest_of : List CaseSummary → KeyLines → Statistic → ℕ → ℕ
-greatest_of cases k s line = fold (λ most value. max most (greatest_over cases k s line value)) 0 (range_with_len 0 k.values)
+unfoldable pub greatest_of : List SettingSummary → KeyLines → Statistic → ℕ → ℕ
+greatest_of settings k s line = fold (λ most value. max most (greatest_over settings k s line value)) 0 (range_with_len 0 k.values)
 
 -- that of all lines, 1 at least
-unfoldable pub greatest_of_all : List CaseSummary → KeyLines → Statistic → ℕ
-greatest_of_all cases k s = fold (λ most line. max most (greatest_of cases k s line)) 1 (range_with_len 0 k.lines)
+unfoldable pub greatest_of_all : List SettingSummary → KeyLines → Statistic → ℕ
+greatest_of_all settings k s = fold (λ most line. max most (greatest_of settings k s line)) 1 (range_with_len 0 k.lines)
 
 -- room above a time, by which a bar to the top is told from one that ends at this time
 abbrev pub with_room : ℕ → ℕ
 with_room time = time + time / 16 + 1
 
 -- how high a plot is; a time of more than a billion billions isn't told from that
-unfoldable pub plot_height : List CaseSummary → KeyLines → Statistic → ℕ
-plot_height cases k s = with_room (min (greatest_of_all cases k s) (10 ^ 18))
+unfoldable pub plot_height : List SettingSummary → KeyLines → Statistic → ℕ
+plot_height settings k s = with_room (min (greatest_of_all settings k s) (10 ^ 18))
 
 -- a line has a time over the value before the one at a place
-abbrev pub goes_on : List CaseSummary → KeyLines → Statistic → ℕ → ℕ → Bool
-goes_on cases k s line value = nat_le 1 value && is_some (time_over cases k s line (value - 1))
+abbrev pub goes_on : List SettingSummary → KeyLines → Statistic → ℕ → ℕ → Bool
+goes_on settings k s line value = nat_le 1 value && is_some (time_over settings k s line (value - 1))
 
 -- it then goes on to its next corner, and else begins anew there
 unfoldable pub corner : Bool → ℕ → ℕ → List ℕ
 corner on at height = if on then path_step at height else path_start at height
 
 -- the corner over a value; none where the line has no time
-unfoldable pub corner_over : List CaseSummary → KeyLines → Statistic → ℕ → ℕ → ℕ → List ℕ
-corner_over cases k s most line value =
-    option_map_or (λ time. corner (goes_on cases k s line value) (across k line value) (most - time)) (time_over cases k s line value) []
+unfoldable pub corner_over : List SettingSummary → KeyLines → Statistic → ℕ → ℕ → ℕ → List ℕ
+corner_over settings k s most line value =
+    option_map_or (λ time. corner (goes_on settings k s line value) (across k line value) (most - time)) (time_over settings k s line value) []
 
 -- an upright bar between two heights, in the colour of a line; heights count from the top
 unfoldable pub reach_bar : ℕ → ℕ → ℕ → ℕ → List ℕ
@@ -108,30 +108,30 @@ reach_bar line at foot top =
 unfoldable pub median_dot : ℕ → ℕ → ℕ → List ℕ
 median_dot line at height = codes "<path class=\"mark s" ++ decimal line ++ codes "\" d=\"M" ++ decimal at ++ codes " " ++ decimal height ++ codes "h0\"/>"
 
--- the bar of a case goes from its 5th to its 95th percentile: to the top where it has no 95th, and there is none where it has no 5th
-unfoldable pub bar_of : Statistic → ℕ → ℕ → ℕ → CaseSummary → List ℕ
-bar_of s most line at case = option_map_or (λ time. reach_bar line at (most - time) (most - unwrap_or (late s case) most)) (early s case) []
+-- the bar of a setting goes from its 5th to its 95th percentile: to the top where it has no 95th, and there is none where it has no 5th
+unfoldable pub bar_of : Statistic → ℕ → ℕ → ℕ → SettingSummary → List ℕ
+bar_of s most line at setting = option_map_or (λ time. reach_bar line at (most - time) (most - unwrap_or (late s setting) most)) (early s setting) []
 
 -- its dot stands at its median, where it has one
-unfoldable pub dot_of : Statistic → ℕ → ℕ → ℕ → CaseSummary → List ℕ
-dot_of s most line at case = option_map_or (λ time. median_dot line at (most - time)) (median s case) []
+unfoldable pub dot_of : Statistic → ℕ → ℕ → ℕ → SettingSummary → List ℕ
+dot_of s most line at setting = option_map_or (λ time. median_dot line at (most - time)) (median s setting) []
 
--- both of a case
-unfoldable pub marks_of : Statistic → ℕ → ℕ → ℕ → CaseSummary → List ℕ
-marks_of s most line at case = bar_of s most line at case ++ dot_of s most line at case
+-- both of a setting
+unfoldable pub marks_of : Statistic → ℕ → ℕ → ℕ → SettingSummary → List ℕ
+marks_of s most line at setting = bar_of s most line at setting ++ dot_of s most line at setting
 
--- those of the case of a line over a value
-unfoldable pub marks_over : List CaseSummary → KeyLines → Statistic → ℕ → ℕ → ℕ → List ℕ
-marks_over cases k s most line value = option_map_or (marks_of s most line (across k line value)) (case_over cases k line value) []
+-- those of the setting of a line over a value
+unfoldable pub marks_over : List SettingSummary → KeyLines → Statistic → ℕ → ℕ → ℕ → List ℕ
+marks_over settings k s most line value = option_map_or (marks_of s most line (across k line value)) (setting_over settings k line value) []
 
 -- a line begins, in its colour
 unfoldable pub path_line : ℕ → List ℕ
 path_line line = codes "<path class=\"path s" ++ decimal line ++ codes "\" d=\""
 
 -- a line over the values, and then its bars and dots
-unfoldable pub line_over : List CaseSummary → KeyLines → Statistic → ℕ → ℕ → List ℕ
-line_over cases k s most line =
-    path_line line ++ flat_map (corner_over cases k s most line) (range_with_len 0 k.values) ++ markup (codes "\"/>") ++ flat_map (marks_over cases k s most line) (range_with_len 0 k.values)
+unfoldable pub line_over : List SettingSummary → KeyLines → Statistic → ℕ → ℕ → List ℕ
+line_over settings k s most line =
+    path_line line ++ flat_map (corner_over settings k s most line) (range_with_len 0 k.values) ++ markup (codes "\"/>") ++ flat_map (marks_over settings k s most line) (range_with_len 0 k.values)
 
 -- the values at a place under a plot, in the middle of their room
 unfoldable pub value_word : KeyLines → List KeyValues → ℕ → List ℕ
@@ -158,45 +158,45 @@ unfoldable pub lines_opening : KeyLines → ℕ → Statistic → List ℕ
 lines_opening k most s = plot_opening (codes "lines") (width k) most (statistic_words s) lines_words
 
 -- the lines of the plot
-unfoldable pub lines_plane : List CaseSummary → KeyLines → Statistic → ℕ → List ℕ
-lines_plane cases k s most =
-    markup (codes "<div class=\"plane\">") ++ lines_opening k most s ++ flat_map (line_over cases k s most) (range_with_len 0 k.lines) ++ plot_end ++ markup (codes "</div>")
+unfoldable pub lines_plane : List SettingSummary → KeyLines → Statistic → ℕ → List ℕ
+lines_plane settings k s most =
+    markup (codes "<div class=\"plane\">") ++ lines_opening k most s ++ flat_map (line_over settings k s most) (range_with_len 0 k.lines) ++ plot_end ++ markup (codes "</div>")
 
 -- a chart of a statistic over the values
-unfoldable pub key_chart : List CaseSummary → KeyLines → List KeyValues → Statistic → List ℕ
-key_chart cases k axis s =
-    chart_opening s ++ axis_up (plot_height cases k s) ++ lines_plane cases k s (plot_height cases k s) ++ values_under k axis ++ markup (codes "</div></div>")
+unfoldable pub key_chart : List SettingSummary → KeyLines → List KeyValues → Statistic → List ℕ
+key_chart settings k axis s =
+    chart_opening s ++ axis_up (plot_height settings k s) ++ lines_plane settings k s (plot_height settings k s) ++ values_under k axis ++ markup (codes "</div></div>")
 
--- what is drawn of a case, in cells
-unfoldable pub drawn_times : Statistic → CaseSummary → List ℕ
-drawn_times s case = time_cell (early s case) ++ time_cell (median s case) ++ time_cell (late s case)
+-- what is drawn of a setting, in cells
+unfoldable pub drawn_times : Statistic → SettingSummary → List ℕ
+drawn_times s setting = time_cell (early s setting) ++ time_cell (median s setting) ++ time_cell (late s setting)
 
--- the times of a case, in cells
-unfoldable pub times_of : CaseSummary → List ℕ
-times_of case = drawn_times Suspected case ++ drawn_times Confirmed case ++ time_cell case.confirm_p99 ++ drawn_times Last case ++ time_cell case.last_greatest
+-- the times of a setting, in cells
+unfoldable pub times_of : SettingSummary → List ℕ
+times_of setting = drawn_times Suspected setting ++ drawn_times Confirmed setting ++ time_cell setting.confirm_p99 ++ drawn_times Last setting ++ time_cell setting.last_greatest
 
--- those of a line's case with the value at a place
-unfoldable pub times_over : List CaseSummary → KeyLines → ℕ → ℕ → List ℕ
-times_over cases k line place = option_map_or times_of (case_over cases k line place) []
+-- those of a line's setting with the value at a place
+unfoldable pub times_over : List SettingSummary → KeyLines → ℕ → ℕ → List ℕ
+times_over settings k line place = option_map_or times_of (setting_over settings k line place) []
 
--- the row of a line's case with the values at a place: these, the other keys' values, and the times
-unfoldable pub key_row : List KeyValues → List CaseSummary → KeyLines → ℕ → List KeyValues → ℕ → ℕ → List ℕ
-key_row settings cases k key axis line place =
-    markup (codes "<tr>") ++ cell (values_text axis place) ++ markup (codes "<td>") ++ others_at settings key k.keys (case_place k line place) ++ markup (codes "</td>")
-    ++ times_over cases k line place ++ markup (codes "</tr>")
+-- the row of a line's setting with the values at a place: these, the other keys' values, and the times
+unfoldable pub key_row : List KeyValues → List SettingSummary → KeyLines → ℕ → List KeyValues → ℕ → ℕ → List ℕ
+key_row swept_keys settings k key axis line place =
+    markup (codes "<tr>") ++ cell (values_text axis place) ++ markup (codes "<td>") ++ others_at swept_keys key k.keys (setting_place k line place) ++ markup (codes "</td>")
+    ++ times_over settings k line place ++ markup (codes "</tr>")
 
 -- what the columns are
 unfoldable pub key_heads : List ℕ
 key_heads = codes "<details><summary>These figures in numbers</summary><div class=\"wide\"><table><caption>What is drawn, in ticks</caption><thead><tr><th scope=\"col\">value</th><th scope=\"col\">other keys</th><th scope=\"col\">suspected, 5th percentile</th><th scope=\"col\">suspected, median</th><th scope=\"col\">suspected, 95th percentile</th><th scope=\"col\">confirmed, 5th percentile</th><th scope=\"col\">confirmed, median</th><th scope=\"col\">confirmed, 95th percentile</th><th scope=\"col\">confirmed, 99th percentile</th><th scope=\"col\">last confirmed, 5th percentile</th><th scope=\"col\">last confirmed, median</th><th scope=\"col\">last confirmed, 95th percentile</th><th scope=\"col\">last confirmed, greatest</th></tr></thead><tbody>"
 
 -- the rows of a line
-unfoldable pub line_rows : List KeyValues → List CaseSummary → KeyLines → ℕ → List KeyValues → ℕ → List ℕ
-line_rows settings cases k key axis line = flat_map (key_row settings cases k key axis line) (range_with_len 0 (place_count axis))
+unfoldable pub line_rows : List KeyValues → List SettingSummary → KeyLines → ℕ → List KeyValues → ℕ → List ℕ
+line_rows swept_keys settings k key axis line = flat_map (key_row swept_keys settings k key axis line) (range_with_len 0 (place_count axis))
 
 -- the figures of an axis in numbers, folded
-unfoldable pub key_table : List KeyValues → List CaseSummary → KeyLines → ℕ → List KeyValues → List ℕ
-key_table settings cases k key axis =
-    key_heads ++ flat_map (line_rows settings cases k key axis) (range_with_len 0 k.lines) ++ markup (codes "</tbody></table></div></details>")
+unfoldable pub key_table : List KeyValues → List SettingSummary → KeyLines → ℕ → List KeyValues → List ℕ
+key_table swept_keys settings k key axis =
+    key_heads ++ flat_map (line_rows swept_keys settings k key axis) (range_with_len 0 k.lines) ++ markup (codes "</tbody></table></div></details>")
 
 -- by which name a key's figure is found
 abbrev pub key_id : ℕ → List ℕ
@@ -215,29 +215,29 @@ unfoldable pub key_opening : ℕ → List KeyValues → List ℕ
 key_opening key axis = figure_opening (key_id key) (key_heading axis) ++ marks_words
 
 -- its charts
-unfoldable pub key_charts : List CaseSummary → KeyLines → List KeyValues → List ℕ
-key_charts cases k axis =
-    markup (codes "<div class=\"many\">") ++ key_chart cases k axis Suspected ++ key_chart cases k axis Confirmed ++ key_chart cases k axis Last ++ markup (codes "</div>")
+unfoldable pub key_charts : List SettingSummary → KeyLines → List KeyValues → List ℕ
+key_charts settings k axis =
+    markup (codes "<div class=\"many\">") ++ key_chart settings k axis Suspected ++ key_chart settings k axis Confirmed ++ key_chart settings k axis Last ++ markup (codes "</div>")
 
 -- the figure of an axis with these lines, whose first key stands at a place: what the lines are, the charts, and the same in numbers
-unfoldable pub key_figure : List KeyValues → List CaseSummary → KeyLines → ℕ → List KeyValues → List ℕ
-key_figure settings cases k key axis =
-    key_opening key axis ++ legend settings k key ++ key_charts cases k axis ++ key_table settings cases k key axis ++ figure_end
+unfoldable pub key_figure : List KeyValues → List SettingSummary → KeyLines → ℕ → List KeyValues → List ℕ
+key_figure swept_keys settings k key axis =
+    key_opening key axis ++ legend swept_keys k key ++ key_charts settings k axis ++ key_table swept_keys settings k key axis ++ figure_end
 
 -- the lines over it: what stands for each value of the keys before is shared out among its own
-abbrev pub lines_of : List KeyValues → List CaseSummary → ℕ → List KeyValues → KeyLines
-lines_of settings cases key axis =
-    key_lines (length axis) (place_count axis) (shared_out (length cases) (take key settings) / max (place_count axis) 1) (length cases)
+abbrev pub lines_of : List KeyValues → List SettingSummary → ℕ → List KeyValues → KeyLines
+lines_of swept_keys settings key axis =
+    key_lines (length axis) (place_count axis) (shared_out (length settings) (take key swept_keys) / max (place_count axis) 1) (length settings)
 
 -- a figure, where the axis has more values than one
-unfoldable pub key_figure_of : List KeyValues → List CaseSummary → ℕ → List KeyValues → List ℕ
-key_figure_of settings cases key axis = if nat_le 2 (place_count axis) then key_figure settings cases (lines_of settings cases key axis) key axis else []
+unfoldable pub key_figure_of : List KeyValues → List SettingSummary → ℕ → List KeyValues → List ℕ
+key_figure_of swept_keys settings key axis = if nat_le 2 (place_count axis) then key_figure swept_keys settings (lines_of swept_keys settings key axis) key axis else []
 
 -- those of axes, the first of which begins at the key at a place
-abbrev pub figures_from : List KeyValues → List CaseSummary → ℕ → List (List KeyValues) → List ℕ
-figures_from settings cases key [] = []
-figures_from settings cases key (axis ∷ axes) = key_figure_of settings cases key axis ++ figures_from settings cases (key + length axis) axes
+abbrev pub figures_from : List KeyValues → List SettingSummary → ℕ → List (List KeyValues) → List ℕ
+figures_from swept_keys settings key [] = []
+figures_from swept_keys settings key (axis ∷ axes) = key_figure_of swept_keys settings key axis ++ figures_from swept_keys settings (key + length axis) axes
 
 -- the figures of all axes
-unfoldable pub key_figures : List KeyValues → List CaseSummary → List ℕ
-key_figures settings cases = figures_from settings cases 0 (axes_of settings)
+unfoldable pub key_figures : List KeyValues → List SettingSummary → List ℕ
+key_figures swept_keys settings = figures_from swept_keys settings 0 (axes_of swept_keys)

@@ -5,14 +5,14 @@ ghost use Rattle.std.specs.String.{string_bytes};
 ghost use Rattle.sweep_plan.specs.Axes.{place_count};
 ghost use Rattle.sweep_keys.specs.Keys.{greatest_in, greatest_over, greatest_of, greatest_of_all, plot_height, line_over, value_word, value_at, values_under, chart_opening, lines_words, lines_opening, lines_plane, key_chart};
 
-use crate::line::{Plot, case_over, push_line};
+use crate::line::{Plot, push_line, setting_over};
 use crate::lines::{KeyLines, middle};
 use crate::statistic::Statistic;
 use base::Memory;
 use drawing::{close_plot, open_plot, push_escaped, push_markup, push_place, push_up};
-use figures::CaseSummary;
+use figures::SettingSummary;
 use std::alloc::{AllocError, Global};
-use sweep_plan::{Setting, place_count, values_text};
+use sweep_plan::{Swept, place_count, values_text};
 
 /// The greatest time that a plot shows.
 const MOST: u64 = 1_000_000_000_000_000_000;
@@ -22,19 +22,19 @@ const MOST: u64 = 1_000_000_000_000_000_000;
 pub(crate) fn push_chart(
     alloc: Global,
     text: &mut String,
-    cases: &[CaseSummary],
-    axis: &[Setting],
+    settings: &[SettingSummary],
+    axis: &[Swept],
     lines: &KeyLines,
     statistic: Statistic,
 ) -> Result<(), Memory>
     ensures { OnOk result (string_bytes text.new ≡ string_bytes text.old
-        ++ key_chart cases.now lines.now axis.now statistic) }
+        ++ key_chart settings.now lines.now axis.now statistic) }
 {
-    let most = plot_height(cases, lines, statistic);
+    let most = plot_height(settings, lines, statistic);
     push_chart_opening(text, statistic)?;
     push_up(text, most)?;
     let plot = Plot {
-        cases,
+        settings,
         lines: *lines,
         statistic,
         most,
@@ -60,7 +60,7 @@ fn push_chart_opening(text: &mut String, statistic: Statistic) -> Result<(), All
 #[tactic(auto, unfolding(crate::specs::Keys::lines_plane))]
 fn push_plane(text: &mut String, plot: &Plot<'_>) -> Result<(), AllocError>
     ensures { OnOk result (string_bytes text.new ≡ string_bytes text.old
-        ++ lines_plane plot.now.cases.now plot.now.lines plot.now.statistic plot.now.most) }
+        ++ lines_plane plot.now.settings.now plot.now.lines plot.now.statistic plot.now.most) }
 {
     push_markup(text, "<div class=\"plane\">")?;
     open_lines(text, plot)?;
@@ -94,7 +94,7 @@ fn lines_words() -> &'static str
 /// Appends each line.
 fn push_lines(text: &mut String, plot: &Plot<'_>) -> Result<(), AllocError>
     ensures { OnOk result (string_bytes text.new ≡ string_bytes text.old
-        ++ flat_map (line_over plot.now.cases.now plot.now.lines plot.now.statistic plot.now.most)
+        ++ flat_map (line_over plot.now.settings.now plot.now.lines plot.now.statistic plot.now.most)
         (range_with_len 0 plot.now.lines.lines)) }
 {
     for line in 0..plot.lines.lines {
@@ -106,63 +106,68 @@ fn push_lines(text: &mut String, plot: &Plot<'_>) -> Result<(), AllocError>
 /// How high a plot is: the greatest time that it shows, and some room above it, so that a bar to
 /// the top is told from one to that time.
 #[tactic(auto, unfolding(crate::specs::Keys::plot_height))]
-fn plot_height(cases: &[CaseSummary], lines: &KeyLines, statistic: Statistic) -> u64
-    ensures is { result ≡ plot_height cases.now lines.now statistic }
+fn plot_height(settings: &[SettingSummary], lines: &KeyLines, statistic: Statistic) -> u64
+    ensures is { result ≡ plot_height settings.now lines.now statistic }
     ensures low { result < 2 ^ 63 }
 {
-    let time = greatest_of_all(cases, lines, statistic).min(MOST);
+    let time = greatest_of_all(settings, lines, statistic).min(MOST);
     time + time / 16 + 1
 }
 
 /// The greatest time of all lines; 1 at least.
 #[tactic(auto, unfolding(crate::specs::Keys::greatest_of_all))]
-fn greatest_of_all(cases: &[CaseSummary], lines: &KeyLines, statistic: Statistic) -> u64
-    ensures { result ≡ greatest_of_all cases.now lines.now statistic }
+fn greatest_of_all(settings: &[SettingSummary], lines: &KeyLines, statistic: Statistic) -> u64
+    ensures { result ≡ greatest_of_all settings.now lines.now statistic }
 {
     let mut most = 1;
     for line in 0..lines.lines {
-        most = most.max(greatest_of(cases, lines, statistic, line));
+        most = most.max(greatest_of(settings, lines, statistic, line));
     }
     most
 }
 
 /// The greatest time of a line; 0 where there is none.
 #[tactic(auto, unfolding(crate::specs::Keys::greatest_of))]
-fn greatest_of(cases: &[CaseSummary], lines: &KeyLines, statistic: Statistic, line: usize) -> u64
-    ensures { result ≡ greatest_of cases.now lines.now statistic line }
+fn greatest_of(
+    settings: &[SettingSummary],
+    lines: &KeyLines,
+    statistic: Statistic,
+    line: usize,
+) -> u64
+    ensures { result ≡ greatest_of settings.now lines.now statistic line }
 {
     let mut most = 0;
     for value in 0..lines.values {
-        most = most.max(greatest_over(cases, lines, statistic, line, value));
+        most = most.max(greatest_over(settings, lines, statistic, line, value));
     }
     most
 }
 
-/// The greatest time that is drawn of its case over the value at a place; 0 where there is none.
+/// The greatest time that is drawn of its setting over the value at a place; 0 where there is none.
 #[tactic(auto, unfolding(crate::specs::Keys::greatest_over))]
 fn greatest_over(
-    cases: &[CaseSummary],
+    settings: &[SettingSummary],
     lines: &KeyLines,
     statistic: Statistic,
     line: usize,
     value: usize,
 ) -> u64
-    ensures { result ≡ greatest_over cases.now lines.now statistic line value }
+    ensures { result ≡ greatest_over settings.now lines.now statistic line value }
 {
-    match case_over(cases, lines, line, value) {
-        Some(case) => greatest_in(statistic, &case),
+    match setting_over(settings, lines, line, value) {
+        Some(setting) => greatest_in(statistic, &setting),
         None => 0,
     }
 }
 
-/// The greatest time that is drawn of a case; 0 where there is none.
+/// The greatest time that is drawn of a setting; 0 where there is none.
 #[tactic(auto, unfolding(crate::specs::Keys::greatest_in))]
-fn greatest_in(statistic: Statistic, case: &CaseSummary) -> u64
-    ensures { result ≡ greatest_in statistic case.now }
+fn greatest_in(statistic: Statistic, setting: &SettingSummary) -> u64
+    ensures { result ≡ greatest_in statistic setting.now }
 {
-    let early = statistic.early(case).unwrap_or(0);
-    let median = statistic.median(case).unwrap_or(0);
-    let late = statistic.late(case).unwrap_or(0);
+    let early = statistic.early(setting).unwrap_or(0);
+    let median = statistic.median(setting).unwrap_or(0);
+    let late = statistic.late(setting).unwrap_or(0);
     early.max(median.max(late))
 }
 
@@ -171,7 +176,7 @@ fn greatest_in(statistic: Statistic, case: &CaseSummary) -> u64
 fn push_values(
     alloc: Global,
     text: &mut String,
-    axis: &[Setting],
+    axis: &[Swept],
     lines: &KeyLines,
 ) -> Result<(), Memory>
     ensures { OnOk result (string_bytes text.new ≡ string_bytes text.old ++ values_under lines.now axis.now) }
@@ -186,7 +191,7 @@ fn push_values(
 fn push_all_values(
     alloc: Global,
     text: &mut String,
-    axis: &[Setting],
+    axis: &[Swept],
     lines: &KeyLines,
 ) -> Result<(), Memory>
     ensures { OnOk result (string_bytes text.new ≡ string_bytes text.old
@@ -203,7 +208,7 @@ fn push_all_values(
 fn push_value_at(
     alloc: Global,
     text: &mut String,
-    axis: &[Setting],
+    axis: &[Swept],
     lines: &KeyLines,
     place: usize,
 ) -> Result<(), Memory>
@@ -221,7 +226,7 @@ fn push_value_at(
 fn push_value(
     alloc: Global,
     text: &mut String,
-    axis: &[Setting],
+    axis: &[Swept],
     lines: &KeyLines,
     place: usize,
 ) -> Result<(), Memory>

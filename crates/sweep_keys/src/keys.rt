@@ -11,38 +11,38 @@ use crate::rows::push_rows;
 use crate::statistic::Statistic;
 use base::Memory;
 use drawing::{close_figure, open_figure, push_markup};
-use figures::CaseSummary;
+use figures::SettingSummary;
 use std::alloc::{AllocError, Global};
-use sweep_plan::{Plan, Setting, axis_end, names_text, place_count};
+use sweep_plan::{Plan, Swept, axis_end, names_text, place_count};
 
-/// Appends a figure for each key that has more values than one, and one for keys that go together. It takes the summary of each case
+/// Appends a figure for each key that has more values than one, and one for keys that go together. It takes the summary of each setting
 /// of the plan, in their order, and fails only where memory is refused.
 #[tactic(auto, unfolding(crate::specs::Keys::key_figures))]
 pub fn push_keys(
     alloc: Global,
     text: &mut String,
     plan: &Plan,
-    cases: &[CaseSummary],
+    settings: &[SettingSummary],
 ) -> Result<(), Memory>
-    ensures { OnOk result (string_bytes text.new ≡ string_bytes text.old ++ key_figures plan.now.settings cases.now) }
+    ensures { OnOk result (string_bytes text.new ≡ string_bytes text.old ++ key_figures plan.now.swept_keys settings.now) }
 {
-    push_axes(alloc, text, plan, cases, plan.settings())
+    push_axes(alloc, text, plan, settings, plan.swept_keys())
 }
 
-/// Appends the figures of the axes of settings.
+/// Appends the figures of the axes of swept keys.
 fn push_axes(
     alloc: Global,
     text: &mut String,
     plan: &Plan,
-    cases: &[CaseSummary],
-    settings: &[Setting],
+    settings: &[SettingSummary],
+    swept_keys: &[Swept],
 ) -> Result<(), Memory>
-    ensures { OnOk result (string_bytes text.new ≡ string_bytes text.old ++ figures_from plan.now.settings cases.now 0 (axes_of settings.now)) }
+    ensures { OnOk result (string_bytes text.new ≡ string_bytes text.old ++ figures_from plan.now.swept_keys settings.now 0 (axes_of swept_keys.now)) }
 {
     let mut from = 0;
-    while from < settings.len() {
-        let end = axis_end(settings, from);
-        push_key(alloc, text, plan, cases, from, &settings[from..end])?;
+    while from < swept_keys.len() {
+        let end = axis_end(swept_keys, from);
+        push_key(alloc, text, plan, settings, from, &swept_keys[from..end])?;
         from = end;
     }
     Ok(())
@@ -54,28 +54,33 @@ fn push_key(
     alloc: Global,
     text: &mut String,
     plan: &Plan,
-    cases: &[CaseSummary],
+    settings: &[SettingSummary],
     key: usize,
-    axis: &[Setting],
+    axis: &[Swept],
 ) -> Result<(), Memory>
     ensures { OnOk result (string_bytes text.new ≡ string_bytes text.old
-        ++ key_figure_of plan.now.settings cases.now key axis.now) }
+        ++ key_figure_of plan.now.swept_keys settings.now key axis.now) }
 {
     if place_count(axis) < 2 {
         return Ok(());
     }
-    let lines = lines_of(plan.settings(), cases, key, axis);
-    push_figure(alloc, text, plan, cases, key, axis, &lines)
+    let lines = lines_of(plan.swept_keys(), settings, key, axis);
+    push_figure(alloc, text, plan, settings, key, axis, &lines)
 }
 
 /// The lines over an axis.
-fn lines_of(settings: &[Setting], cases: &[CaseSummary], key: usize, axis: &[Setting]) -> KeyLines
-    ensures { result ≡ lines_of settings.now cases.now key axis.now }
+fn lines_of(
+    swept_keys: &[Swept],
+    settings: &[SettingSummary],
+    key: usize,
+    axis: &[Swept],
+) -> KeyLines
+    ensures { result ≡ lines_of swept_keys.now settings.now key axis.now }
 {
-    let keys_before = &settings[..key.min(settings.len())];
+    let keys_before = &swept_keys[..key.min(swept_keys.len())];
     let values = place_count(axis);
-    let after = shared_out(cases.len(), keys_before) / values.max(1);
-    KeyLines::new(axis.len(), values, after, cases.len())
+    let after = shared_out(settings.len(), keys_before) / values.max(1);
+    KeyLines::new(axis.len(), values, after, settings.len())
 }
 
 /// Appends the figure of an axis.
@@ -84,30 +89,25 @@ fn push_figure(
     alloc: Global,
     text: &mut String,
     plan: &Plan,
-    cases: &[CaseSummary],
+    settings: &[SettingSummary],
     key: usize,
-    axis: &[Setting],
+    axis: &[Swept],
     lines: &KeyLines,
 ) -> Result<(), Memory>
     ensures { OnOk result (string_bytes text.new ≡ string_bytes text.old
-        ++ key_figure plan.now.settings cases.now lines.now key axis.now) }
+        ++ key_figure plan.now.swept_keys settings.now lines.now key axis.now) }
 {
     push_opening(alloc, text, key, axis)?;
     push_legend(alloc, text, plan, key, lines)?;
-    push_charts(alloc, text, cases, axis, lines)?;
-    push_rows(alloc, text, plan, cases, key, axis, lines)?;
+    push_charts(alloc, text, settings, axis, lines)?;
+    push_rows(alloc, text, plan, settings, key, axis, lines)?;
     close_figure(text)?;
     Ok(())
 }
 
 /// Begins the figure of an axis by its name, and by what its plots show.
 #[tactic(auto, unfolding(crate::specs::Keys::key_opening))]
-fn push_opening(
-    alloc: Global,
-    text: &mut String,
-    key: usize,
-    axis: &[Setting],
-) -> Result<(), Memory>
+fn push_opening(alloc: Global, text: &mut String, key: usize, axis: &[Swept]) -> Result<(), Memory>
     ensures { OnOk result (string_bytes text.new ≡ string_bytes text.old ++ key_opening key axis.now) }
 {
     let id = key_id(alloc, key)?;
@@ -138,7 +138,7 @@ fn key_id(alloc: Global, key: usize) -> Result<String, Memory>
 }
 
 /// What the figure of an axis is called.
-fn key_heading(alloc: Global, axis: &[Setting]) -> Result<String, Memory>
+fn key_heading(alloc: Global, axis: &[Swept]) -> Result<String, Memory>
     ensures { IfOk result (λ heading. string_bytes heading ≡ key_heading axis.now) }
 {
     let name = names_text(alloc, axis)?;
@@ -150,16 +150,16 @@ fn key_heading(alloc: Global, axis: &[Setting]) -> Result<String, Memory>
 fn push_charts(
     alloc: Global,
     text: &mut String,
-    cases: &[CaseSummary],
-    axis: &[Setting],
+    settings: &[SettingSummary],
+    axis: &[Swept],
     lines: &KeyLines,
 ) -> Result<(), Memory>
-    ensures { OnOk result (string_bytes text.new ≡ string_bytes text.old ++ key_charts cases.now lines.now axis.now) }
+    ensures { OnOk result (string_bytes text.new ≡ string_bytes text.old ++ key_charts settings.now lines.now axis.now) }
 {
     push_markup(text, "<div class=\"many\">")?;
-    push_chart(alloc, text, cases, axis, lines, Statistic::Suspected)?;
-    push_chart(alloc, text, cases, axis, lines, Statistic::Confirmed)?;
-    push_chart(alloc, text, cases, axis, lines, Statistic::Last)?;
+    push_chart(alloc, text, settings, axis, lines, Statistic::Suspected)?;
+    push_chart(alloc, text, settings, axis, lines, Statistic::Confirmed)?;
+    push_chart(alloc, text, settings, axis, lines, Statistic::Last)?;
     push_markup(text, "</div>")?;
     Ok(())
 }

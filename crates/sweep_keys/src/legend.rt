@@ -8,7 +8,7 @@ use crate::lines::KeyLines;
 use base::Memory;
 use drawing::push_markup;
 use std::alloc::{AllocError, Global};
-use sweep_cells::{push_count, push_settings};
+use sweep_cells::{push_count, push_swept_keys};
 use sweep_plan::{Choice, Plan};
 
 /// Appends what each line is: the values of the other keys.
@@ -20,12 +20,12 @@ pub(crate) fn push_legend(
     key: usize,
     lines: &KeyLines,
 ) -> Result<(), Memory>
-    ensures { OnOk result (string_bytes text.new ≡ string_bytes text.old ++ legend plan.now.settings lines.now key) }
+    ensures { OnOk result (string_bytes text.new ≡ string_bytes text.old ++ legend plan.now.swept_keys lines.now key) }
 {
     push_markup(text, "<ul class=\"legend\">")?;
     push_entries(alloc, text, plan, key, lines)?;
     push_markup(text, "</ul>")?;
-    let all = plan.cases() / lines.values.max(1);
+    let all = plan.settings() / lines.values.max(1);
     push_undrawn(text, all.saturating_sub(lines.lines))?;
     Ok(())
 }
@@ -38,7 +38,7 @@ fn push_entries(
     key: usize,
     lines: &KeyLines,
 ) -> Result<(), Memory>
-    ensures { OnOk result (string_bytes text.new ≡ string_bytes text.old ++ flat_map (legend_entry plan.now.settings lines.now key) (range_with_len 0 lines.now.lines)) }
+    ensures { OnOk result (string_bytes text.new ≡ string_bytes text.old ++ flat_map (legend_entry plan.now.swept_keys lines.now key) (range_with_len 0 lines.now.lines)) }
 {
     for line in 0..lines.lines {
         push_entry(alloc, text, plan, key, lines, line)?;
@@ -56,7 +56,7 @@ fn push_entry(
     lines: &KeyLines,
     line: usize,
 ) -> Result<(), Memory>
-    ensures { OnOk result (string_bytes text.new ≡ string_bytes text.old ++ legend_entry plan.now.settings lines.now key line) }
+    ensures { OnOk result (string_bytes text.new ≡ string_bytes text.old ++ legend_entry plan.now.swept_keys lines.now key line) }
 {
     let first = lines.place(line, 0);
     push_sample(text, line)?;
@@ -65,7 +65,7 @@ fn push_entry(
     Ok(())
 }
 
-/// Begins an entry of the legend by a piece of its line.
+/// Begins an entry of the legend by a shard of its line.
 #[tactic(auto, unfolding(crate::specs::Keys::sample))]
 fn push_sample(text: &mut String, line: usize) -> Result<(), AllocError>
     ensures { OnOk result (string_bytes text.new ≡ string_bytes text.old ++ sample line) }
@@ -101,7 +101,7 @@ fn push_more(text: &mut String, more: usize) -> Result<(), AllocError>
     )
 }
 
-/// Appends the settings of the case at a place without so many of its keys.
+/// Appends the choices of the setting at a place without so many of its keys.
 #[tactic(auto, unfolding(crate::specs::Keys::others_at))]
 pub(crate) fn push_others_at(
     alloc: Global,
@@ -111,18 +111,18 @@ pub(crate) fn push_others_at(
     keys: usize,
     place: usize,
 ) -> Result<(), Memory>
-    ensures { OnOk result (string_bytes text.new ≡ string_bytes text.old ++ others_at plan.now.settings key keys place) }
+    ensures { OnOk result (string_bytes text.new ≡ string_bytes text.old ++ others_at plan.now.swept_keys key keys place) }
 {
-    if place >= plan.cases() {
+    if place >= plan.settings() {
         return Ok(());
     }
-    let chosen = plan.case_at(alloc, place)?;
+    let chosen = plan.setting_at(alloc, place)?;
     let others = without(alloc, &chosen, key, keys)?;
     push_others(alloc, text, &others)?;
     Ok(())
 }
 
-/// The choices of a case without those of so many keys from a place on.
+/// The choices of a setting without those of so many keys from a place on.
 fn without(alloc: Global, chosen: &[Choice], key: usize, keys: usize) -> Result<Vec<Choice>, Memory>
     ensures { IfOk result (λ others. others.items ≡ without key keys chosen.now) }
 {
@@ -134,7 +134,7 @@ fn without(alloc: Global, chosen: &[Choice], key: usize, keys: usize) -> Result<
     Ok(others)
 }
 
-/// Appends these settings.
+/// Appends these choices.
 #[tactic(auto, unfolding(crate::specs::Keys::others_words))]
 fn push_others(alloc: Global, text: &mut String, others: &[Choice]) -> Result<(), Memory>
     ensures { OnOk result (string_bytes text.new ≡ string_bytes text.old ++ others_words others.now) }
@@ -143,5 +143,5 @@ fn push_others(alloc: Global, text: &mut String, others: &[Choice]) -> Result<()
         text.push_str("all else as in the scenario")?;
         return Ok(());
     }
-    push_settings(alloc, text, others)
+    push_swept_keys(alloc, text, others)
 }

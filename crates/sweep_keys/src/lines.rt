@@ -1,8 +1,8 @@
-//! The cases that differ in one axis alone, as lines over its values.
+//! The settings that differ in one axis alone, as lines over its values.
 ghost use Rattle.std.specs.Prelude.{◌≡◌};
-ghost use Rattle.sweep_keys.specs.Lines.{key_lines, case_place, width, middle, across, shared_out};
+ghost use Rattle.sweep_keys.specs.Lines.{key_lines, setting_place, width, middle, across, shared_out};
 
-use sweep_plan::Setting;
+use sweep_plan::Swept;
 
 /// The most lines that are drawn over a key.
 const MOST_LINES: usize = 8;
@@ -10,7 +10,7 @@ const MOST_LINES: usize = 8;
 /// How wide the room of a value is, in the units of a plot.
 const ROOM: u64 = 32;
 
-/// Where the cases of a key lie among all: its values come again each time that the keys before it
+/// Where the settings of a key lie among all: its values come again each time that the keys before it
 /// change, and each value stays while the keys after it take all of theirs.
 #[derive(Clone, Copy)]
 pub struct KeyLines {
@@ -18,19 +18,19 @@ pub struct KeyLines {
     pub keys: usize,
     /// How many values the key has.
     pub values: usize,
-    /// How many cases the keys after it make.
+    /// How many settings the keys after it make.
     pub after: usize,
     /// How many lines are drawn.
     pub lines: usize,
 }
 
 impl KeyLines {
-    /// The lines over so many keys of so many values, of so many cases.
+    /// The lines over so many keys of so many values, of so many settings.
     #[tactic(auto, unfolding(crate::specs::Lines::key_lines))]
-    pub(crate) fn new(keys: usize, values: usize, after: usize, cases: usize) -> KeyLines
-        ensures { result ≡ key_lines keys values after cases }
+    pub(crate) fn new(keys: usize, values: usize, after: usize, settings: usize) -> KeyLines
+        ensures { result ≡ key_lines keys values after settings }
     {
-        let lines = (cases / values.max(1)).min(MOST_LINES);
+        let lines = (settings / values.max(1)).min(MOST_LINES);
         KeyLines {
             keys,
             values,
@@ -39,10 +39,10 @@ impl KeyLines {
         }
     }
 
-    /// The place among all cases of a line's case with the value at a place.
-    #[tactic(auto, unfolding(crate::specs::Lines::case_place))]
+    /// The place among all settings of a line's setting with the value at a place.
+    #[tactic(auto, unfolding(crate::specs::Lines::setting_place))]
     pub(crate) fn place(&self, line: usize, value: usize) -> usize
-        ensures { result ≡ case_place self.now line value }
+        ensures { result ≡ setting_place self.now line value }
     {
         let after = self.after.max(1);
         let round = after.saturating_mul(self.values);
@@ -80,13 +80,13 @@ pub(crate) fn middle(value: usize) -> u64
     (value as u64).saturating_mul(ROOM).saturating_add(ROOM / 2)
 }
 
-/// How many of so many cases stand for each choice that these keys leave.
-pub(crate) fn shared_out(cases: usize, settings: &[Setting]) -> usize
-    ensures { result ≡ shared_out cases settings.now }
+/// How many of so many settings stand for each choice that these keys leave.
+pub(crate) fn shared_out(settings: usize, swept_keys: &[Swept]) -> usize
+    ensures { result ≡ shared_out settings swept_keys.now }
 {
-    let mut left = cases;
-    for setting in settings {
-        left /= setting.choice_count().max(1);
+    let mut left = settings;
+    for swept in swept_keys {
+        left /= swept.choice_count().max(1);
     }
     left
 }

@@ -5,27 +5,27 @@ ghost use Rattle.std.specs.String.{string_bytes};
 ghost use Rattle.sweep_keys.specs.Keys.{drawn_times, times_of, times_over, key_row, key_heads, line_rows, key_table};
 
 use crate::legend::push_others_at;
-use crate::line::case_over;
+use crate::line::setting_over;
 use crate::lines::KeyLines;
 use crate::statistic::Statistic;
 use base::Memory;
 use drawing::push_markup;
-use figures::CaseSummary;
+use figures::SettingSummary;
 use std::alloc::{AllocError, Global};
 use sweep_cells::{push_cell, push_time_cell};
-use sweep_plan::{Plan, Setting, place_count, values_text};
+use sweep_plan::{Plan, Swept, place_count, values_text};
 
 /// What the rows of a key are of.
 #[derive(Clone, Copy)]
 struct Table<'a> {
     /// The sweep.
     plan: &'a Plan,
-    /// All its cases, in their order.
-    cases: &'a [CaseSummary],
+    /// All its settings, in their order.
+    settings: &'a [SettingSummary],
     /// The first key's place among those that are set.
     key: usize,
     /// The keys that go together.
-    axis: &'a [Setting],
+    axis: &'a [Swept],
     /// The lines over these.
     lines: KeyLines,
 }
@@ -36,17 +36,17 @@ pub(crate) fn push_rows(
     alloc: Global,
     text: &mut String,
     plan: &Plan,
-    cases: &[CaseSummary],
+    settings: &[SettingSummary],
     key: usize,
-    axis: &[Setting],
+    axis: &[Swept],
     lines: &KeyLines,
 ) -> Result<(), Memory>
     ensures { OnOk result (string_bytes text.new ≡ string_bytes text.old
-        ++ key_table plan.now.settings cases.now lines.now key axis.now) }
+        ++ key_table plan.now.swept_keys settings.now lines.now key axis.now) }
 {
     let table = Table {
         plan,
-        cases,
+        settings,
         key,
         axis,
         lines: *lines,
@@ -85,7 +85,7 @@ fn push_heads(text: &mut String) -> Result<(), AllocError>
 /// Appends the rows of each line.
 fn push_lines(alloc: Global, text: &mut String, table: &Table<'_>) -> Result<(), Memory>
     ensures { OnOk result (string_bytes text.new ≡ string_bytes text.old
-        ++ flat_map (line_rows table.now.plan.now.settings table.now.cases.now table.now.lines table.now.key table.now.axis.now)
+        ++ flat_map (line_rows table.now.plan.now.swept_keys table.now.settings.now table.now.lines table.now.key table.now.axis.now)
         (range_with_len 0 table.now.lines.lines)) }
 {
     for line in 0..table.lines.lines {
@@ -103,7 +103,7 @@ fn push_line_rows(
     line: usize,
 ) -> Result<(), Memory>
     ensures { OnOk result (string_bytes text.new ≡ string_bytes text.old
-        ++ line_rows table.now.plan.now.settings table.now.cases.now table.now.lines table.now.key table.now.axis.now line) }
+        ++ line_rows table.now.plan.now.swept_keys table.now.settings.now table.now.lines table.now.key table.now.axis.now line) }
 {
     for place in 0..place_count(table.axis) {
         push_row(alloc, text, table, line, place)?;
@@ -111,7 +111,7 @@ fn push_line_rows(
     Ok(())
 }
 
-/// Appends the row of a line's case with the values at a place.
+/// Appends the row of a line's setting with the values at a place.
 #[tactic(auto, unfolding(crate::specs::Keys::key_row))]
 fn push_row(
     alloc: Global,
@@ -121,7 +121,7 @@ fn push_row(
     place: usize,
 ) -> Result<(), Memory>
     ensures { OnOk result (string_bytes text.new ≡ string_bytes text.old
-        ++ key_row table.now.plan.now.settings table.now.cases.now table.now.lines table.now.key table.now.axis.now line place) }
+        ++ key_row table.now.plan.now.swept_keys table.now.settings.now table.now.lines table.now.key table.now.axis.now line place) }
 {
     let words = values_text(alloc, table.axis, place)?;
     push_markup(text, "<tr>")?;
@@ -141,7 +141,7 @@ fn push_row(
     Ok(())
 }
 
-/// Appends the times of a line's case with the value at a place.
+/// Appends the times of a line's setting with the value at a place.
 #[tactic(auto, unfolding(crate::specs::Keys::times_over))]
 fn push_times_over(
     text: &mut String,
@@ -150,36 +150,36 @@ fn push_times_over(
     place: usize,
 ) -> Result<(), AllocError>
     ensures { OnOk result (string_bytes text.new ≡ string_bytes text.old
-        ++ times_over table.now.cases.now table.now.lines line place) }
+        ++ times_over table.now.settings.now table.now.lines line place) }
 {
-    match case_over(table.cases, &table.lines, line, place) {
-        Some(case) => push_times(text, &case),
+    match setting_over(table.settings, &table.lines, line, place) {
+        Some(setting) => push_times(text, &setting),
         None => Ok(()),
     }
 }
 
-/// Appends the times of a case.
+/// Appends the times of a setting.
 #[tactic(auto, unfolding(crate::specs::Keys::times_of))]
-fn push_times(text: &mut String, case: &CaseSummary) -> Result<(), AllocError>
-    ensures { OnOk result (string_bytes text.new ≡ string_bytes text.old ++ times_of case.now) }
+fn push_times(text: &mut String, setting: &SettingSummary) -> Result<(), AllocError>
+    ensures { OnOk result (string_bytes text.new ≡ string_bytes text.old ++ times_of setting.now) }
 {
-    push_drawn_times(text, Statistic::Suspected, case)?;
-    push_drawn_times(text, Statistic::Confirmed, case)?;
-    push_time_cell(text, case.confirm_p99)?;
-    push_drawn_times(text, Statistic::Last, case)?;
-    push_time_cell(text, case.last_greatest)
+    push_drawn_times(text, Statistic::Suspected, setting)?;
+    push_drawn_times(text, Statistic::Confirmed, setting)?;
+    push_time_cell(text, setting.confirm_p99)?;
+    push_drawn_times(text, Statistic::Last, setting)?;
+    push_time_cell(text, setting.last_greatest)
 }
 
-/// Appends what is drawn of a case.
+/// Appends what is drawn of a setting.
 #[tactic(auto, unfolding(crate::specs::Keys::drawn_times))]
 fn push_drawn_times(
     text: &mut String,
     statistic: Statistic,
-    case: &CaseSummary,
+    setting: &SettingSummary,
 ) -> Result<(), AllocError>
-    ensures { OnOk result (string_bytes text.new ≡ string_bytes text.old ++ drawn_times statistic case.now) }
+    ensures { OnOk result (string_bytes text.new ≡ string_bytes text.old ++ drawn_times statistic setting.now) }
 {
-    push_time_cell(text, statistic.early(case))?;
-    push_time_cell(text, statistic.median(case))?;
-    push_time_cell(text, statistic.late(case))
+    push_time_cell(text, statistic.early(setting))?;
+    push_time_cell(text, statistic.median(setting))?;
+    push_time_cell(text, statistic.late(setting))
 }

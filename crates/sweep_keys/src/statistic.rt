@@ -1,10 +1,10 @@
-//! What is drawn of a case.
+//! What is drawn of a setting.
 ghost use Rattle.std.specs.Prelude.{◌≡◌};
 ghost use Rattle.sweep_keys.specs.Lines.{statistic_words, early, median, late};
 
-use figures::CaseSummary;
+use figures::SettingSummary;
 
-/// What is drawn of a case.
+/// What is drawn of a setting.
 #[derive(Clone, Copy)]
 pub enum Statistic {
     /// The time until a crash was first suspected.
@@ -28,39 +28,39 @@ impl Statistic {
         }
     }
 
-    /// Its 5th percentile, where a case has one.
+    /// Its 5th percentile, where a setting has one.
     #[tactic(auto, unfolding(crate::specs::Lines::early))]
-    pub(crate) fn early(self, case: &CaseSummary) -> Option<u64>
-        ensures { result ≡ early self case.now }
+    pub(crate) fn early(self, setting: &SettingSummary) -> Option<u64>
+        ensures { result ≡ early self setting.now }
     {
         match self {
-            Statistic::Suspected => case.suspect_p5,
-            Statistic::Confirmed => case.confirm_p5,
-            Statistic::Last => case.last_p5,
+            Statistic::Suspected => setting.suspect_p5,
+            Statistic::Confirmed => setting.confirm_p5,
+            Statistic::Last => setting.last_p5,
         }
     }
 
-    /// Its median, where a case has one.
+    /// Its median, where a setting has one.
     #[tactic(auto, unfolding(crate::specs::Lines::median))]
-    pub(crate) fn median(self, case: &CaseSummary) -> Option<u64>
-        ensures { result ≡ median self case.now }
+    pub(crate) fn median(self, setting: &SettingSummary) -> Option<u64>
+        ensures { result ≡ median self setting.now }
     {
         match self {
-            Statistic::Suspected => case.suspect_p50,
-            Statistic::Confirmed => case.confirm_p50,
-            Statistic::Last => case.last_p50,
+            Statistic::Suspected => setting.suspect_p50,
+            Statistic::Confirmed => setting.confirm_p50,
+            Statistic::Last => setting.last_p50,
         }
     }
 
-    /// Its 95th percentile, where a case has one.
+    /// Its 95th percentile, where a setting has one.
     #[tactic(auto, unfolding(crate::specs::Lines::late))]
-    pub(crate) fn late(self, case: &CaseSummary) -> Option<u64>
-        ensures { result ≡ late self case.now }
+    pub(crate) fn late(self, setting: &SettingSummary) -> Option<u64>
+        ensures { result ≡ late self setting.now }
     {
         match self {
-            Statistic::Suspected => case.suspect_p95,
-            Statistic::Confirmed => case.confirm_p95,
-            Statistic::Last => case.last_p95,
+            Statistic::Suspected => setting.suspect_p95,
+            Statistic::Confirmed => setting.confirm_p95,
+            Statistic::Last => setting.last_p95,
         }
     }
 }

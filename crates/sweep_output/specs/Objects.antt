@@ -1,15 +1,15 @@
--- The cases of a sweep as JSON objects, each on a line of its own.
+-- The settings of a sweep as JSON objects, each on a line of its own.
 use Rattle.std.specs.Prelude.{◌≡◌, ℕ, ◌+◌, ◌==◌, List, [], ◌∷◌, ◌++◌, Bool, true, false, Option, Some, None, codes, decimal, length, map, if◌then◌else◌}
 use Rattle.std.specs.List.{join_with_byte, zip}
 use Rattle.std.specs.Option.{option_map_or}
 use Rattle.sweep_plan.specs.Keys.{key_name}
 use Rattle.sweep_plan.specs.Values.{value_text}
 use Rattle.sweep_plan.specs.Sweep.{KeyValues}
-use Rattle.sweep_plan.specs.Cases.{cases_of}
+use Rattle.sweep_plan.specs.Settings.{settings_of}
 use Rattle.sweep_plan.specs.declared.choice.Choice.{Choice}
 use Rattle.figures.specs.Lines.{where_told}
-use Rattle.figures.specs.CaseLines.{first_words, hundredths, last_words, tenths}
-use Rattle.figures.specs.declared.summary.CaseSummary.{CaseSummary}
+use Rattle.figures.specs.SettingLines.{first_words, hundredths, last_words, tenths}
+use Rattle.figures.specs.declared.summary.SettingSummary.{SettingSummary}
 use Rattle.goals.specs.Front.{is_on_front}
 use Rattle.goals.specs.Wants.{IsBestOf, may_meet, meets}
 use Rattle.goals.specs.declared.want.Want.{Want}
@@ -30,65 +30,65 @@ or_null text figure = option_map_or text figure (codes "null")
 abbrev pub choice_member : Choice → List ℕ
 choice_member chosen = member (key_name chosen.key) (value_text chosen.value)
 
--- The figures of a case, in the order of the columns of its line: times in ticks, shares in percent, rates with two digits behind the point.
-abbrev pub first_figures : CaseSummary → List (List ℕ)
-first_figures case =
-    decimal case.runs ∷ or_null decimal case.suspect_p50 ∷ or_null decimal case.confirm_p50 ∷ or_null decimal case.confirm_p99 ∷ or_null decimal case.confirm_greatest
-    ∷ or_null decimal case.last_p50 ∷ or_null decimal case.last_greatest ∷ hundredths case.false_suspect ∷ decimal case.thrown_out ∷ []
+-- The figures of a setting, in the order of the columns of its line: times in ticks, shares in percent, rates with two digits behind the point.
+abbrev pub first_figures : SettingSummary → List (List ℕ)
+first_figures setting =
+    decimal setting.runs ∷ or_null decimal setting.suspect_p50 ∷ or_null decimal setting.confirm_p50 ∷ or_null decimal setting.confirm_p99 ∷ or_null decimal setting.confirm_greatest
+    ∷ or_null decimal setting.last_p50 ∷ or_null decimal setting.last_greatest ∷ hundredths setting.false_suspect ∷ decimal setting.thrown_out ∷ []
 
-abbrev pub last_figures : CaseSummary → List (List ℕ)
-last_figures case = decimal case.runs_with ∷ tenths case.share_low ∷ tenths case.share_high ∷ or_null hundredths case.messages ∷ []
+abbrev pub last_figures : SettingSummary → List (List ℕ)
+last_figures setting = decimal setting.runs_with ∷ tenths setting.share_low ∷ tenths setting.share_high ∷ or_null hundredths setting.messages ∷ []
 
 -- each with the word over its column
 abbrev pub named : List (List ℕ) → List (List ℕ) → List (List ℕ)
 named words figures = map (λ told. member told.0 told.1) (zip words figures)
 
-unfoldable pub first_members : CaseSummary → List (List ℕ)
-first_members case = named first_words (first_figures case)
+unfoldable pub first_members : SettingSummary → List (List ℕ)
+first_members setting = named first_words (first_figures setting)
 
-unfoldable pub last_members : CaseSummary → List (List ℕ)
-last_members case = named last_words (last_figures case)
+unfoldable pub last_members : SettingSummary → List (List ℕ)
+last_members setting = named last_words (last_figures setting)
 
-unfoldable pub figure_members : Bool → CaseSummary → List (List ℕ)
-figure_members revived case = first_members case ++ (where_told revived (member (codes "revived") (decimal case.revived) ∷ []) ++ last_members case)
+unfoldable pub figure_members : Bool → SettingSummary → List (List ℕ)
+figure_members revived setting = first_members setting ++ (where_told revived (member (codes "revived") (decimal setting.revived) ∷ []) ++ last_members setting)
 
--- what a case answers to what is wanted
-abbrev pub answer_word : List Want → CaseSummary → List ℕ
-answer_word wants case = if meets wants case then codes "\"yes\"" else (if may_meet wants case then codes "\"may\"" else codes "\"no\"")
+-- what a setting answers to what is wanted
+abbrev pub answer_word : List Want → SettingSummary → List ℕ
+answer_word wants setting = if meets wants setting then codes "\"yes\"" else (if may_meet wants setting then codes "\"may\"" else codes "\"no\"")
 
 -- that, and whether it is the best, where anything is wanted
-abbrev pub wanted_members : List Want → Bool → CaseSummary → List (List ℕ)
-wanted_members wants best case = if length wants == 0 then [] else member (codes "meets") (answer_word wants case) ∷ member (codes "best") (truth best) ∷ []
+abbrev pub wanted_members : List Want → Bool → SettingSummary → List (List ℕ)
+wanted_members wants best setting = if length wants == 0 then [] else member (codes "meets") (answer_word wants setting) ∷ member (codes "best") (truth best) ∷ []
 
--- the members of a case among all: its settings, its figures, whether no other beats it, and what it answers
-abbrev pub members_of : Bool → List Want → List CaseSummary → Bool → List Choice → CaseSummary → List (List ℕ)
-members_of revived wants all best chosen case =
-    map choice_member chosen ++ (figure_members revived case ++ (member (codes "front") (truth (is_on_front case all)) ∷ wanted_members wants best case))
+-- the members of a setting among all: its choices, its figures, whether no other beats it, and what it answers
+abbrev pub members_of : Bool → List Want → List SettingSummary → Bool → List Choice → SettingSummary → List (List ℕ)
+members_of revived wants all best chosen setting =
+    map choice_member chosen ++ (figure_members revived setting ++ (member (codes "front") (truth (is_on_front setting all)) ∷ wanted_members wants best setting))
 
 -- the members with commas between them, in braces, on a line
 unfoldable pub object_line : List (List ℕ) → List ℕ
 object_line members = codes "{" ++ (join_with_byte 44 members ++ codes "}\n")
 
--- the best case stands at this place
+-- the best setting stands at this place
 abbrev pub is_at : Option ℕ → ℕ → Bool
 is_at None place = false
 is_at (Some best) place = best == place
 
--- the lines of cases with these settings and summaries, of which the first has this place among all
-abbrev pub lines_from : (ℕ → List Choice → CaseSummary → List ℕ) → ℕ → List (List Choice) → List CaseSummary → List ℕ
-lines_from line place (chosen ∷ more) (case ∷ cases) = line place chosen case ++ lines_from line (place + 1) more cases
+-- the lines of settings of these swept keys and summaries, of which the first has this place among all
+abbrev pub lines_from : (ℕ → List Choice → SettingSummary → List ℕ) → ℕ → List (List Choice) → List SettingSummary → List ℕ
+lines_from line place (chosen ∷ more) (setting ∷ settings) = line place chosen setting ++ lines_from line (place + 1) more settings
 lines_from line place _ _ = []
 
--- the line of a case
-abbrev pub case_object : Bool → List Want → List CaseSummary → Option ℕ → ℕ → List Choice → CaseSummary → List ℕ
-case_object revived wants all best place chosen case = object_line (members_of revived wants all (is_at best place) chosen case)
+-- the line of a setting
+abbrev pub setting_object : Bool → List Want → List SettingSummary → Option ℕ → ℕ → List Choice → SettingSummary → List ℕ
+setting_object revived wants all best place chosen setting = object_line (members_of revived wants all (is_at best place) chosen setting)
 
--- those of all cases
-abbrev pub objects_text : Bool → List KeyValues → List Want → List CaseSummary → Option ℕ → List ℕ
-objects_text revived settings wants cases best = lines_from (case_object revived wants cases best) 0 (cases_of settings) cases
+-- those of all settings
+abbrev pub objects_text : Bool → List KeyValues → List Want → List SettingSummary → Option ℕ → List ℕ
+objects_text revived swept_keys wants settings best = lines_from (setting_object revived wants settings best) 0 (settings_of swept_keys) settings
 
--- the text has a line for each case, and tells which of them is best
-pub record TellsObjects (revived : Bool) (settings : List KeyValues) (wants : List Want) (cases : List CaseSummary) (text : List ℕ) : Type 0 where
+-- the text has a line for each setting, and tells which of them is best
+pub record TellsObjects (revived : Bool) (swept_keys : List KeyValues) (wants : List Want) (settings : List SettingSummary) (text : List ℕ) : Type 0 where
   pub best : Option ℕ
-  pub chosen : IsBestOf wants cases best
-  pub told : text ≡ objects_text revived settings wants cases best
+  pub chosen : IsBestOf wants settings best
+  pub told : text ≡ objects_text revived swept_keys wants settings best

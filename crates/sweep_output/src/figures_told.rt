@@ -1,41 +1,45 @@
-//! The figures of a case, as members.
+//! The figures of a setting, as members.
 ghost use Rattle.std.specs.Prelude.{◌≡◌, ◌++◌, ◌∷◌, [], OnOk, codes, decimal, map, string_bytes};
 ghost use Rattle.figures.specs.Lines.{where_told};
 ghost use Rattle.sweep_output.specs.Objects.{figure_members, first_members, last_members, member};
 
 use crate::members::{push_hundredths, push_number, push_rate, push_tenths, push_time};
 use base::Memory;
-use figures::CaseSummary;
+use figures::SettingSummary;
 use std::alloc::Global;
 
-/// Adds the figures of a case, each with the name of its column; how often members were taken for alive again where that is told.
+/// Adds the figures of a setting, each with the name of its column; how often members were taken for alive again where that is told.
 pub(crate) fn push_figures(
     alloc: Global,
     members: &mut Vec<String>,
     revived: bool,
-    case: &CaseSummary,
+    setting: &SettingSummary,
 ) -> Result<(), Memory>
-    ensures { OnOk result (map string_bytes members.new.items ≡ map string_bytes members.old.items ++ figure_members revived case.now) }
+    ensures { OnOk result (map string_bytes members.new.items ≡ map string_bytes members.old.items ++ figure_members revived setting.now) }
 {
-    push_first(alloc, members, case)?;
-    push_revived(alloc, members, revived, case.revived)?;
-    push_last(alloc, members, case)
+    push_first(alloc, members, setting)?;
+    push_revived(alloc, members, revived, setting.revived)?;
+    push_last(alloc, members, setting)
 }
 
 /// Adds the first of them.
 #[tactic(auto, unfolding(crate::specs::Objects::first_members))]
-fn push_first(alloc: Global, members: &mut Vec<String>, case: &CaseSummary) -> Result<(), Memory>
-    ensures { OnOk result (map string_bytes members.new.items ≡ map string_bytes members.old.items ++ first_members case.now) }
+fn push_first(
+    alloc: Global,
+    members: &mut Vec<String>,
+    setting: &SettingSummary,
+) -> Result<(), Memory>
+    ensures { OnOk result (map string_bytes members.new.items ≡ map string_bytes members.old.items ++ first_members setting.now) }
 {
-    push_number(alloc, members, "runs", u128::from(case.runs))?;
-    push_time(alloc, members, "suspect_p50", case.suspect_p50)?;
-    push_time(alloc, members, "confirm_p50", case.confirm_p50)?;
-    push_time(alloc, members, "confirm_p99", case.confirm_p99)?;
-    push_time(alloc, members, "confirm_greatest", case.confirm_greatest)?;
-    push_time(alloc, members, "last_p50", case.last_p50)?;
-    push_time(alloc, members, "last_greatest", case.last_greatest)?;
-    push_hundredths(alloc, members, "false_suspect", case.false_suspect)?;
-    push_number(alloc, members, "thrown_out", case.thrown_out)
+    push_number(alloc, members, "runs", u128::from(setting.runs))?;
+    push_time(alloc, members, "suspect_p50", setting.suspect_p50)?;
+    push_time(alloc, members, "confirm_p50", setting.confirm_p50)?;
+    push_time(alloc, members, "confirm_p99", setting.confirm_p99)?;
+    push_time(alloc, members, "confirm_greatest", setting.confirm_greatest)?;
+    push_time(alloc, members, "last_p50", setting.last_p50)?;
+    push_time(alloc, members, "last_greatest", setting.last_greatest)?;
+    push_hundredths(alloc, members, "false_suspect", setting.false_suspect)?;
+    push_number(alloc, members, "thrown_out", setting.thrown_out)
 }
 
 /// Adds how often members were taken for alive again, where that is told.
@@ -56,11 +60,15 @@ fn push_revived(
 
 /// Adds the last of them.
 #[tactic(auto, unfolding(crate::specs::Objects::last_members))]
-fn push_last(alloc: Global, members: &mut Vec<String>, case: &CaseSummary) -> Result<(), Memory>
-    ensures { OnOk result (map string_bytes members.new.items ≡ map string_bytes members.old.items ++ last_members case.now) }
+fn push_last(
+    alloc: Global,
+    members: &mut Vec<String>,
+    setting: &SettingSummary,
+) -> Result<(), Memory>
+    ensures { OnOk result (map string_bytes members.new.items ≡ map string_bytes members.old.items ++ last_members setting.now) }
 {
-    push_number(alloc, members, "runs_with", u128::from(case.runs_with))?;
-    push_tenths(alloc, members, "share_low", case.share_low)?;
-    push_tenths(alloc, members, "share_high", case.share_high)?;
-    push_rate(alloc, members, "messages", case.messages)
+    push_number(alloc, members, "runs_with", u128::from(setting.runs_with))?;
+    push_tenths(alloc, members, "share_low", setting.share_low)?;
+    push_tenths(alloc, members, "share_high", setting.share_high)?;
+    push_rate(alloc, members, "messages", setting.messages)
 }

@@ -1,4 +1,4 @@
-//! What is told of the cases of a sweep: their lines or their objects, and the page of them.
+//! What is told of the settings of a sweep: their lines or their objects, and the page of them.
 #![tactic(auto)]
 
 mod figures_told;
@@ -7,9 +7,9 @@ mod objects;
 mod paging;
 mod telling;
 
-pub use paging::{cases_page, put_text};
+pub use paging::{put_text, settings_page};
 pub use sweep_page::SweepShown;
-pub use telling::cases_told;
+pub use telling::settings_printed;
 
 #[cfg(test)]
 mod tests;

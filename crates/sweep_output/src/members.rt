@@ -1,6 +1,6 @@
 //! Members of an object, as texts.
 ghost use Rattle.std.specs.Prelude.{◌≡◌, ◌++◌, ◌∷◌, [], OnOk, IfOk, codes, decimal, map, string_bytes};
-ghost use Rattle.figures.specs.CaseLines.{hundredths, tenths};
+ghost use Rattle.figures.specs.SettingLines.{hundredths, tenths};
 ghost use Rattle.sweep_output.specs.Objects.{member, or_null, truth};
 
 use base::Memory;

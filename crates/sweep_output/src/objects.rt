@@ -1,51 +1,51 @@
 //! The objects, one a line.
 ghost use Rattle.std.specs.Prelude.{◌≡◌, ◌<◌, ◌++◌, ◌∷◌, ◌==◌, [], if◌then◌else◌, All, List, OnOk, IfOk, Some, codes, length, map, slice_get, string_bytes};
 ghost use Rattle.std.specs.List.{join_with_byte};
-ghost use Rattle.sweep_plan.specs.Sweep.{case_count};
-ghost use Rattle.sweep_plan.specs.Cases.{cases_of};
+ghost use Rattle.sweep_plan.specs.Sweep.{setting_count};
+ghost use Rattle.sweep_plan.specs.Settings.{settings_of};
 ghost use Rattle.sweep_plan.specs.declared.choice.Choice.{Choice as AnyChoice};
 ghost use Rattle.goals.specs.Wants.{HasFewRuns, IsBounded};
 ghost use Rattle.goals.specs.Front.{is_on_front};
-ghost use Rattle.sweep_output.specs.Objects.{TellsObjects, answer_word, case_object, choice_member, is_at, member, members_of, object_line, truth, wanted_members};
+ghost use Rattle.sweep_output.specs.Objects.{TellsObjects, answer_word, setting_object, choice_member, is_at, member, members_of, object_line, truth, wanted_members};
 
 use crate::figures_told::push_figures;
 use crate::members::{push_member, push_truth};
 use base::Memory;
-use figures::CaseSummary;
+use figures::SettingSummary;
 use goals::{Want, best_of, is_on_front, may_meet, meets};
 use std::alloc::Global;
 use sweep_plan::{Choice, Plan};
 
-/// The cases of a sweep as JSON objects, each on a line of its own that ends in a line feed. An object has first the keys that
-/// are set, by their names, with numbers or `true` and `false`; then the figures of its case, by the names of the columns of its
+/// The settings of a sweep as JSON objects, each on a line of its own that ends in a line feed. An object has first the keys that
+/// are set, by their names, with numbers or `true` and `false`; then the figures of its setting, by the names of the columns of its
 /// line: times in ticks, shares in percent, rates with two digits behind the point, `null` where the line has a dash, and
-/// `revived` where that is told. Then come `front`, whether no other case beats it, and, where something is wanted,
-/// `meets`, which is `"yes"` where the case shows that it meets all, `"may"` where it may and `"no"` else, and `best`, whether
-/// it is the first that is best. There must be a summary for each case, in their order.
-pub fn case_objects(
+/// `revived` where that is told. Then come `front`, whether no other setting beats it, and, where something is wanted,
+/// `meets`, which is `"yes"` where the setting shows that it meets all, `"may"` where it may and `"no"` else, and `best`, whether
+/// it is the first that is best. There must be a summary for each setting, in their order.
+pub fn setting_objects(
     alloc: Global,
     revived: bool,
     plan: &Plan,
     wants: &[Want],
-    cases: &[CaseSummary],
+    settings: &[SettingSummary],
 ) -> Result<String, Memory>
     requires bounded { All IsBounded wants.now }
-    requires few { All HasFewRuns cases.now }
-    requires all { length cases.now ≡ case_count plan.now.settings }
-    ensures { IfOk result (λ text. TellsObjects revived plan.now.settings wants.now cases.now (string_bytes text)) }
+    requires few { All HasFewRuns settings.now }
+    requires all { length settings.now ≡ setting_count plan.now.swept_keys }
+    ensures { IfOk result (λ text. TellsObjects revived plan.now.swept_keys wants.now settings.now (string_bytes text)) }
 {
-    let best = best_of(wants, cases);
+    let best = best_of(wants, settings);
     let mut text = String::new(alloc);
-    for (place, case) in cases.iter().enumerate() {
+    for (place, setting) in settings.iter().enumerate() {
         let is_best = is_at(best, place);
-        push_case(
-            alloc, &mut text, revived, plan, wants, cases, is_best, place, case,
+        push_setting(
+            alloc, &mut text, revived, plan, wants, settings, is_best, place, setting,
         )?;
     }
     Ok(text)
 }
 
-/// Whether the best case stands at a place.
+/// Whether the best setting stands at a place.
 fn is_at(best: Option<usize>, place: usize) -> bool
     ensures { result ≡ is_at best place }
 {
@@ -55,48 +55,48 @@ fn is_at(best: Option<usize>, place: usize) -> bool
     }
 }
 
-/// Adds the line of the case at a place among all.
-fn push_case(
+/// Adds the line of the setting at a place among all.
+fn push_setting(
     alloc: Global,
     text: &mut String,
     revived: bool,
     plan: &Plan,
     wants: &[Want],
-    all: &[CaseSummary],
+    all: &[SettingSummary],
     is_best: bool,
     place: usize,
-    case: &CaseSummary,
+    setting: &SettingSummary,
 ) -> Result<(), Memory>
     requires bounded { All IsBounded wants.now }
-    requires few { HasFewRuns case.now }
-    requires within { place < case_count plan.now.settings }
-    ensures { OnOk result ((chosen : List AnyChoice) → slice_get (cases_of plan.now.settings) place ≡ Some chosen
-        → string_bytes text.new ≡ string_bytes text.old ++ object_line (members_of revived wants.now all.now is_best chosen case.now)) }
+    requires few { HasFewRuns setting.now }
+    requires within { place < setting_count plan.now.swept_keys }
+    ensures { OnOk result ((chosen : List AnyChoice) → slice_get (settings_of plan.now.swept_keys) place ≡ Some chosen
+        → string_bytes text.new ≡ string_bytes text.old ++ object_line (members_of revived wants.now all.now is_best chosen setting.now)) }
 {
-    let chosen = plan.case_at(alloc, place)?;
-    let members = members_of(alloc, revived, wants, all, is_best, &chosen, case)?;
+    let chosen = plan.setting_at(alloc, place)?;
+    let members = members_of(alloc, revived, wants, all, is_best, &chosen, setting)?;
     push_line(text, &members)
 }
 
-/// The members of a case.
+/// The members of a setting.
 fn members_of(
     alloc: Global,
     revived: bool,
     wants: &[Want],
-    all: &[CaseSummary],
+    all: &[SettingSummary],
     is_best: bool,
     chosen: &[Choice],
-    case: &CaseSummary,
+    setting: &SettingSummary,
 ) -> Result<Vec<String>, Memory>
     requires bounded { All IsBounded wants.now }
-    requires few { HasFewRuns case.now }
-    ensures { IfOk result (λ members. map string_bytes members.items ≡ members_of revived wants.now all.now is_best chosen.now case.now) }
+    requires few { HasFewRuns setting.now }
+    ensures { IfOk result (λ members. map string_bytes members.items ≡ members_of revived wants.now all.now is_best chosen.now setting.now) }
 {
     let mut members = Vec::new(alloc);
     push_choices(alloc, &mut members, chosen)?;
-    push_figures(alloc, &mut members, revived, case)?;
-    push_truth(alloc, &mut members, "front", is_on_front(case, all))?;
-    push_wanted(alloc, &mut members, wants, is_best, case)?;
+    push_figures(alloc, &mut members, revived, setting)?;
+    push_truth(alloc, &mut members, "front", is_on_front(setting, all))?;
+    push_wanted(alloc, &mut members, wants, is_best, setting)?;
     Ok(members)
 }
 
@@ -119,35 +119,35 @@ fn push_choice(alloc: Global, members: &mut Vec<String>, choice: &Choice) -> Res
     push_member(alloc, members, name.as_str(), value.as_str())
 }
 
-/// Adds what a case answers to what is wanted, and whether it is the best; nothing where nothing is wanted.
+/// Adds what a setting answers to what is wanted, and whether it is the best; nothing where nothing is wanted.
 fn push_wanted(
     alloc: Global,
     members: &mut Vec<String>,
     wants: &[Want],
     is_best: bool,
-    case: &CaseSummary,
+    setting: &SettingSummary,
 ) -> Result<(), Memory>
     requires bounded { All IsBounded wants.now }
-    requires few { HasFewRuns case.now }
-    ensures { OnOk result (map string_bytes members.new.items ≡ map string_bytes members.old.items ++ wanted_members wants.now is_best case.now) }
+    requires few { HasFewRuns setting.now }
+    ensures { OnOk result (map string_bytes members.new.items ≡ map string_bytes members.old.items ++ wanted_members wants.now is_best setting.now) }
 {
     if wants.is_empty() {
         return Ok(());
     }
-    push_member(alloc, members, "meets", answer_word(wants, case))?;
+    push_member(alloc, members, "meets", answer_word(wants, setting))?;
     push_truth(alloc, members, "best", is_best)
 }
 
-/// What a case answers to what is wanted.
-fn answer_word(wants: &[Want], case: &CaseSummary) -> &'static str
+/// What a setting answers to what is wanted.
+fn answer_word(wants: &[Want], setting: &SettingSummary) -> &'static str
     requires bounded { All IsBounded wants.now }
-    requires few { HasFewRuns case.now }
-    ensures { result.now ≡ answer_word wants.now case.now }
+    requires few { HasFewRuns setting.now }
+    ensures { result.now ≡ answer_word wants.now setting.now }
 {
-    if meets(wants, case) {
+    if meets(wants, setting) {
         return "\"yes\"";
     }
-    if may_meet(wants, case) {
+    if may_meet(wants, setting) {
         return "\"may\"";
     }
     "\"no\""

@@ -1,46 +1,46 @@
-//! The page of the cases of a sweep.
+//! The page of the settings of a sweep.
 ghost use Rattle.std.specs.Prelude.{◌≡◌, All, ◌<◌, ◌^◌, ◌+◌, IfOk, OnOk, OnErr, length, string_bytes};
 ghost use Rattle.std.specs.Io.KnownBytes.{Appends};
 ghost use Rattle.goals.specs.Wants.{HasFewRuns, IsBounded};
-ghost use Rattle.sweep_plan.specs.Sweep.{case_count};
+ghost use Rattle.sweep_plan.specs.Sweep.{setting_count};
 ghost use Rattle.trace.specs.Sinks.{AppendsBeginning, failure_if_stopped};
 ghost use Rattle.sweep_output.specs.Telling.{IsSweepPage, front_of};
 
 use base::Memory;
-use figures::CaseSummary;
+use figures::SettingSummary;
 use goals::{Want, best_of, is_on_front};
 use std::alloc::Global;
 use sweep_page::{Question, SweepShown, page};
 use sweep_plan::Plan;
 use trace::{Sink, Stopped, put_all};
 
-/// The page of the cases of a sweep, which tells of the scenario and the release what `shown` says, and answers what is wanted
-/// as the lines do. There must be a summary for each case, in their order.
-pub fn cases_page(
+/// The page of the settings of a sweep, which tells of the scenario and the release what `shown` says, and answers what is wanted
+/// as the lines do. There must be a summary for each setting, in their order.
+pub fn settings_page(
     alloc: Global,
     shown: &SweepShown<'_>,
     plan: &Plan,
     wants: &[Want<'_>],
-    cases: &[CaseSummary],
+    settings: &[SettingSummary],
 ) -> Result<String, Memory>
     requires wants { All IsBounded wants.now }
-    requires few { All HasFewRuns cases.now }
-    requires all { length cases.now ≡ case_count plan.now.settings }
-    ensures { IfOk result (λ text. IsSweepPage shown.now.name.now shown.now.release.now plan.now wants.now cases.now (string_bytes text)) }
+    requires few { All HasFewRuns settings.now }
+    requires all { length settings.now ≡ setting_count plan.now.swept_keys }
+    ensures { IfOk result (λ text. IsSweepPage shown.now.name.now shown.now.release.now plan.now wants.now settings.now (string_bytes text)) }
 {
-    let best = best_of(wants, cases);
-    let front = front_of(alloc, cases)?;
+    let best = best_of(wants, settings);
+    let front = front_of(alloc, settings)?;
     let question = Question { wants, best };
-    page(alloc, shown, plan, &question, cases, front.as_slice())
+    page(alloc, shown, plan, &question, settings, front.as_slice())
 }
 
-/// Which cases no other beats.
-fn front_of(alloc: Global, cases: &[CaseSummary]) -> Result<Vec<bool>, Memory>
-    ensures { IfOk result (λ front. front.items ≡ front_of cases.now) }
+/// Which settings no other beats.
+fn front_of(alloc: Global, settings: &[SettingSummary]) -> Result<Vec<bool>, Memory>
+    ensures { IfOk result (λ front. front.items ≡ front_of settings.now) }
 {
     let mut front = Vec::new(alloc);
-    for case in cases {
-        front.push(is_on_front(case, cases))?;
+    for setting in settings {
+        front.push(is_on_front(setting, settings))?;
     }
     Ok(front)
 }

@@ -1,12 +1,12 @@
-//! The objects of two cases.
-use crate::objects::case_objects;
-use figures::{CaseSummary, Histogram};
+//! The objects of two settings.
+use crate::objects::setting_objects;
+use figures::{Histogram, SettingSummary};
 use goals::Want;
 use std::test::Fail;
 use sweep_plan::Plan;
 
 /// Three runs, of which members were thrown out in two; not all crashes were confirmed.
-const THREE_RUNS: CaseSummary = CaseSummary {
+const THREE_RUNS: SettingSummary = SettingSummary {
     runs: 3,
     crashes: 6,
     suspect_p5: Some(0),
@@ -35,7 +35,7 @@ const THREE_RUNS: CaseSummary = CaseSummary {
 };
 
 /// One run that ends at moment 0.
-const ONE_RUN: CaseSummary = CaseSummary {
+const ONE_RUN: SettingSummary = SettingSummary {
     runs: 1,
     crashes: 0,
     suspect_p5: None,
@@ -76,14 +76,14 @@ const LINES: &str =
 ";
 
 #[test]
-fn cases_are_objects(rt: HostRuntime) -> Result<(), Fail> {
+fn settings_are_objects(rt: HostRuntime) -> Result<(), Fail> {
     let words = ["swim.period=200,250", "lifeguard.probe=true"];
     let plan = Plan::read(rt.alloc(), &words, None, None)?;
     let want = Want::read("confirm_p50<=500").expect(&rt, "a want");
-    if plan.cases() != 2 {
+    if plan.settings() != 2 {
         panic!(&rt; "two cases");
     }
-    let text = case_objects(rt.alloc(), true, &plan, &[want], &[THREE_RUNS, ONE_RUN])?;
+    let text = setting_objects(rt.alloc(), true, &plan, &[want], &[THREE_RUNS, ONE_RUN])?;
     assert!(rt; text.as_str() == LINES, "{text}");
     Ok(())
 }

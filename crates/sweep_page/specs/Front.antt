@@ -1,4 +1,4 @@
--- The figure of all cases, each by how fast and how safe it is.
+-- The figure of all settings, each by how fast and how safe it is.
 use Rattle.std.specs.Prelude.{ℕ, Bool, true, false, fold, ◌+◌, ◌-◌, ◌/◌, ◌^◌, ◌==◌, if◌then◌else◌, min, max, not, List, [], ◌++◌, Option, codes, decimal, length, slice_get, unwrap_or}
 use Rattle.std.specs.List.{flat_map, range_with_len}
 use Rattle.std.specs.Option.{option_map_or}
@@ -8,8 +8,8 @@ use Rattle.drawing.specs.Escaped.{markup}
 use Rattle.drawing.specs.Numbers.{place as place_on}
 use Rattle.drawing.specs.Rounds.{round_step}
 use Rattle.drawing.specs.Shapes.{figure_opening, figure_end, plot_opening, plot_end}
-use Rattle.figures.specs.declared.summary.CaseSummary.{CaseSummary}
-use Rattle.sweep_cells.specs.Words.{percent_words, rate_words, thousandths, share_of, number_words, settings_at}
+use Rattle.figures.specs.declared.summary.SettingSummary.{SettingSummary}
+use Rattle.sweep_cells.specs.Words.{percent_words, rate_words, thousandths, share_of, number_words, swept_keys_at}
 use Rattle.sweep_page.specs.Points.{across_of, is_marked}
 use Rattle.sweep_cells.specs.Paths.{path_start, path_step}
 use Rattle.sweep_cells.specs.Cells.{time_cell}
@@ -17,25 +17,25 @@ use Rattle.sweep_page.specs.Table.{share_cells}
 use Rattle.sweep_page.specs.declared.front.Reach.{Reach}
 use Rattle.sweep_page.specs.declared.front_points.FrontPoint.{FrontPoint}
 
--- the case that is farthest across; 1 at least
-abbrev pub farthest : Bool → List CaseSummary → ℕ
-farthest crashed cases = fold (λ (most : ℕ) (case : CaseSummary). max most (unwrap_or (across_of crashed case) 0)) 1 cases
+-- the setting that is farthest across; 1 at least
+abbrev pub farthest : Bool → List SettingSummary → ℕ
+farthest crashed settings = fold (λ (most : ℕ) (setting : SettingSummary). max most (unwrap_or (across_of crashed setting) 0)) 1 settings
 
 -- the greatest upper end of an interval; a percent at least
-abbrev pub highest : List CaseSummary → ℕ
-highest cases = fold (λ (most : ℕ) (case : CaseSummary). max most (thousandths case.share_high)) 10 cases
+abbrev pub highest : List SettingSummary → ℕ
+highest settings = fold (λ (most : ℕ) (setting : SettingSummary). max most (thousandths setting.share_high)) 10 settings
 
 -- the greatest number of messages; 1 at least
-abbrev pub most_messages : List CaseSummary → ℕ
-most_messages cases = fold (λ (most : ℕ) (case : CaseSummary). max most (unwrap_or case.messages 0)) 1 cases
+abbrev pub most_messages : List SettingSummary → ℕ
+most_messages settings = fold (λ (most : ℕ) (setting : SettingSummary). max most (unwrap_or setting.messages 0)) 1 settings
 
--- a sixteenth past the farthest case, that its mark is whole; an axis reaches a billion billions at most
+-- a sixteenth past the farthest setting, that its mark is whole; an axis reaches a billion billions at most
 abbrev pub past : ℕ → ℕ
 past far = min far (10 ^ 18) + min far (10 ^ 18) / 16
 
 -- how far the plot reaches: across, up, and by the sizes of its dots
-unfoldable pub reach_of : Bool → List CaseSummary → Reach
-reach_of crashed cases = record { across = past (farthest crashed cases); up = highest cases; messages = most_messages cases; crashed = crashed }
+unfoldable pub reach_of : Bool → List SettingSummary → Reach
+reach_of crashed settings = record { across = past (farthest crashed settings); up = highest settings; messages = most_messages settings; crashed = crashed }
 
 -- the class of what is on the front
 unfoldable pub best_class : Bool → List ℕ
@@ -55,29 +55,29 @@ share_dot class size at middle =
 unfoldable pub size_of : Option ℕ → ℕ → ℕ
 size_of messages most = min (min (unwrap_or messages 0) most / (most / 5 + 1)) 4 + 1
 
--- a case's bar and dot over where it stands across; heights count from the top
-unfoldable pub mark_over : Reach → Bool → CaseSummary → ℕ → List ℕ
-mark_over reach best case across =
-    interval_bar (best_class best) (min across reach.across) (reach.up - thousandths case.share_high) (reach.up - thousandths case.share_low)
-    ++ share_dot (best_class best) (size_of case.messages reach.messages) (min across reach.across) (reach.up - share_of case)
+-- a setting's bar and dot over where it stands across; heights count from the top
+unfoldable pub mark_over : Reach → Bool → SettingSummary → ℕ → List ℕ
+mark_over reach best setting across =
+    interval_bar (best_class best) (min across reach.across) (reach.up - thousandths setting.share_high) (reach.up - thousandths setting.share_low)
+    ++ share_dot (best_class best) (size_of setting.messages reach.messages) (min across reach.across) (reach.up - share_of setting)
 
 -- nothing where it stands nowhere
-unfoldable pub case_mark : Reach → Bool → CaseSummary → List ℕ
-case_mark reach best case = option_map_or (mark_over reach best case) (across_of reach.crashed case) []
+unfoldable pub setting_mark : Reach → Bool → SettingSummary → List ℕ
+setting_mark reach best setting = option_map_or (mark_over reach best setting) (across_of reach.crashed setting) []
 
--- the case at a place is on the front where those are asked for, or not on it where the others are
+-- the setting at a place is on the front where those are asked for, or not on it where the others are
 abbrev pub is_among : List Bool → Bool → ℕ → Bool
 is_among front best place = if best then is_marked front place else not (is_marked front place)
 
 -- its mark, where it is among these
-unfoldable pub mark_at : Reach → List CaseSummary → List Bool → Bool → ℕ → List ℕ
-mark_at reach cases front best place = if is_among front best place then option_map_or (case_mark reach best) (slice_get cases place) [] else []
+unfoldable pub mark_at : Reach → List SettingSummary → List Bool → Bool → ℕ → List ℕ
+mark_at reach settings front best place = if is_among front best place then option_map_or (setting_mark reach best) (slice_get settings place) [] else []
 
--- the marks of all cases among these
-abbrev pub all_marks : Reach → List CaseSummary → List Bool → Bool → List ℕ
-all_marks reach cases front best = flat_map (mark_at reach cases front best) (range_with_len 0 (length cases))
+-- the marks of all settings among these
+abbrev pub all_marks : Reach → List SettingSummary → List Bool → Bool → List ℕ
+all_marks reach settings front best = flat_map (mark_at reach settings front best) (range_with_len 0 (length settings))
 
--- the line through the front goes on to a case; it begins at the first
+-- the line through the front goes on to a setting; it begins at the first
 unfoldable pub joint : Reach → ℕ → FrontPoint → List ℕ
 joint reach place p = if place == 0 then path_start (min p.across reach.across) (reach.up - p.share) else path_step (min p.across reach.across) (reach.up - p.share)
 
@@ -90,7 +90,7 @@ unfoldable pub joined : Reach → List FrontPoint → List ℕ
 joined reach points =
     markup (codes "<path class=\"joined\" d=\"") ++ flat_map (joint_at reach points) (range_with_len 0 (length points)) ++ markup (codes "\"/>")
 
--- the number of a case on the front, beside its dot
+-- the number of a setting on the front, beside its dot
 unfoldable pub number_mark : Reach → FrontPoint → List ℕ
 number_mark reach p =
     markup (codes "<span class=\"number\" aria-hidden=\"true\" style=\"left:") ++ place_on p.across reach.across ++ markup (codes ";bottom:") ++ place_on p.share reach.up
@@ -122,29 +122,29 @@ plane_title crashed = if crashed then codes "Every setting by its speed and its 
 unfoldable pub plane_opening : Reach → List ℕ
 plane_opening reach = plot_opening (codes "cases") reach.across reach.up (plane_title reach.crashed) (plane_words reach.crashed)
 
--- the plot: the other cases, the line through the front, those on the front, and their numbers
-unfoldable pub plane : Reach → List CaseSummary → List Bool → List FrontPoint → List ℕ
-plane reach cases front points =
-    markup (codes "<div class=\"plane\">") ++ plane_opening reach ++ all_marks reach cases front false ++ joined reach points ++ all_marks reach cases front true ++ plot_end
+-- the plot: the other settings, the line through the front, those on the front, and their numbers
+unfoldable pub plane : Reach → List SettingSummary → List Bool → List FrontPoint → List ℕ
+plane reach settings front points =
+    markup (codes "<div class=\"plane\">") ++ plane_opening reach ++ all_marks reach settings front false ++ joined reach points ++ all_marks reach settings front true ++ plot_end
     ++ flat_map (number_mark reach) points ++ markup (codes "</div>")
 
--- the row of a case on the front
-unfoldable pub front_row : List KeyValues → ℕ → CaseSummary → List ℕ
-front_row settings place case =
-    markup (codes "<tr><th scope=\"row\">") ++ number_words place ++ markup (codes "</th><td>") ++ settings_at settings place ++ markup (codes "</td>") ++ time_cell case.confirm_p50
-    ++ share_cells case ++ markup (codes "<td>") ++ rate_words case.messages ++ markup (codes "</td></tr>")
+-- the row of a setting on the front
+unfoldable pub front_row : List KeyValues → ℕ → SettingSummary → List ℕ
+front_row swept_keys place setting =
+    markup (codes "<tr><th scope=\"row\">") ++ number_words place ++ markup (codes "</th><td>") ++ swept_keys_at swept_keys place ++ markup (codes "</td>") ++ time_cell setting.confirm_p50
+    ++ share_cells setting ++ markup (codes "<td>") ++ rate_words setting.messages ++ markup (codes "</td></tr>")
 
--- that of a case by its place
-unfoldable pub front_row_of : List KeyValues → List CaseSummary → FrontPoint → List ℕ
-front_row_of settings cases p = option_map_or (front_row settings p.place) (slice_get cases p.place) []
+-- that of a setting by its place
+unfoldable pub front_row_of : List KeyValues → List SettingSummary → FrontPoint → List ℕ
+front_row_of swept_keys settings p = option_map_or (front_row swept_keys p.place) (slice_get settings p.place) []
 
 -- what its columns are
 unfoldable pub front_heads : List ℕ
 front_heads = codes "<details><summary>The front in numbers</summary><div class=\"wide\"><table><caption>The settings on the front</caption><thead><tr><th scope=\"col\">number</th><th scope=\"col\">setting</th><th scope=\"col\">confirmed, median</th><th scope=\"col\">runs with a false death</th><th scope=\"col\">their share</th><th scope=\"col\">95&nbsp;% interval</th><th scope=\"col\">false deaths per run</th><th scope=\"col\">messages per member per 1,000 ticks</th></tr></thead><tbody>"
 
 -- the figures of the front, folded
-unfoldable pub front_table : List KeyValues → List CaseSummary → List FrontPoint → List ℕ
-front_table settings cases points = front_heads ++ flat_map (front_row_of settings cases) points ++ markup (codes "</tbody></table></div></details>")
+unfoldable pub front_table : List KeyValues → List SettingSummary → List FrontPoint → List ℕ
+front_table swept_keys settings points = front_heads ++ flat_map (front_row_of swept_keys settings) points ++ markup (codes "</tbody></table></div></details>")
 
 -- what the plot shows, where runs have crashes, and where none has
 unfoldable pub speed_words : List ℕ
@@ -157,15 +157,15 @@ unfoldable pub front_words : Bool → List ℕ
 front_words crashed = if crashed then speed_words else messages_words
 
 -- the plot with its axes
-unfoldable pub front_chart : Reach → List CaseSummary → List Bool → List FrontPoint → List ℕ
-front_chart reach cases front points =
-    markup (codes "<div class=\"chart\">") ++ shares_up reach.up ++ plane reach cases front points ++ axis_across reach.across (unit_words reach.crashed) ++ markup (codes "</div>")
+unfoldable pub front_chart : Reach → List SettingSummary → List Bool → List FrontPoint → List ℕ
+front_chart reach settings front points =
+    markup (codes "<div class=\"chart\">") ++ shares_up reach.up ++ plane reach settings front points ++ axis_across reach.across (unit_words reach.crashed) ++ markup (codes "</div>")
 
 -- what the figure is called
 unfoldable pub front_heading : Bool → List ℕ
 front_heading crashed = if crashed then codes "Fast or safe: every setting" else codes "Few messages or safe: every setting"
 
 -- the whole figure
-unfoldable pub front_figure : Bool → List KeyValues → List CaseSummary → List Bool → List FrontPoint → List ℕ
-front_figure crashed settings cases front points =
-    figure_opening (codes "front") (front_heading crashed) ++ front_words crashed ++ front_chart (reach_of crashed cases) cases front points ++ front_table settings cases points ++ figure_end
+unfoldable pub front_figure : Bool → List KeyValues → List SettingSummary → List Bool → List FrontPoint → List ℕ
+front_figure crashed swept_keys settings front points =
+    figure_opening (codes "front") (front_heading crashed) ++ front_words crashed ++ front_chart (reach_of crashed settings) settings front points ++ front_table swept_keys settings points ++ figure_end

@@ -5,7 +5,7 @@ use Rattle.goals.specs.declared.want.Want.{Want}
 use Rattle.sweep_plan.specs.Sweep.{Sweep}
 use Rattle.drawing.specs.Escaped.{escaped, markup}
 use Rattle.drawing.specs.Pages.{page_opening}
-use Rattle.figures.specs.declared.summary.CaseSummary.{CaseSummary}
+use Rattle.figures.specs.declared.summary.SettingSummary.{SettingSummary}
 use Rattle.sweep_keys.specs.Keys.{key_figures}
 use Rattle.sweep_page.specs.Front.{front_figure}
 use Rattle.sweep_page.specs.Points.{front_points, places_of}
@@ -25,20 +25,20 @@ unfoldable pub page_end : List ℕ → List ℕ
 page_end release = markup (codes "<footer class=\"soft\">swimsim ") ++ escaped release ++ markup (codes "</footer></main></body></html>\n")
 
 -- how times spread, and what each key changes: nothing where no run has a crash
-unfoldable pub time_figures : Sweep → List CaseSummary → List FrontPoint → List ℕ
-time_figures sweep cases points = times_figure sweep.settings cases (places_of points) ++ key_figures sweep.settings cases
+unfoldable pub time_figures : Sweep → List SettingSummary → List FrontPoint → List ℕ
+time_figures sweep settings points = times_figure sweep.swept_keys settings (places_of points) ++ key_figures sweep.swept_keys settings
 
-unfoldable pub times_where : Bool → Sweep → List CaseSummary → List FrontPoint → List ℕ
-times_where crashed sweep cases points = if crashed then time_figures sweep cases points else []
+unfoldable pub times_where : Bool → Sweep → List SettingSummary → List FrontPoint → List ℕ
+times_where crashed sweep settings points = if crashed then time_figures sweep settings points else []
 
--- the page from its head to its end, with these cases on the front, in this order, and whether a run has a crash
-unfoldable pub page_over : List ℕ → List ℕ → Sweep → List Want → Option ℕ → List CaseSummary → List Bool → Bool → List FrontPoint → List ℕ
-page_over name release sweep wants best cases front crashed points =
-    page_head name ++ question crashed sweep.settings wants cases best ++ summary crashed sweep cases points ++ front_figure crashed sweep.settings cases front points
-    ++ times_where crashed sweep cases points ++ table sweep.settings cases front ++ page_end release
+-- the page from its head to its end, with these settings on the front, in this order, and whether a run has a crash
+unfoldable pub page_over : List ℕ → List ℕ → Sweep → List Want → Option ℕ → List SettingSummary → List Bool → Bool → List FrontPoint → List ℕ
+page_over name release sweep wants best settings front crashed points =
+    page_head name ++ question crashed sweep.swept_keys wants settings best ++ summary crashed sweep settings points ++ front_figure crashed sweep.swept_keys settings front points
+    ++ times_where crashed sweep settings points ++ table sweep.swept_keys settings front ++ page_end release
 
--- the page of a sweep of the scenario with this name, of the summaries of its cases, of which are on the front, and of what is wanted of them: of those that
+-- the page of a sweep of the scenario with this name, of the summaries of its settings, of which are on the front, and of what is wanted of them: of those that
 -- meet all, the best stands at this place
-abbrev pub page_text : List ℕ → List ℕ → Sweep → List Want → Option ℕ → List CaseSummary → List Bool → List ℕ
-page_text name release sweep wants best cases front =
-    page_over name release sweep wants best cases front (has_crash cases) (front_points (has_crash cases) cases front)
+abbrev pub page_text : List ℕ → List ℕ → Sweep → List Want → Option ℕ → List SettingSummary → List Bool → List ℕ
+page_text name release sweep wants best settings front =
+    page_over name release sweep wants best settings front (has_crash settings) (front_points (has_crash settings) settings front)

@@ -9,8 +9,8 @@ use Rattle.goals.specs.declared.want.Want.{Want}
 use Rattle.sweep_plan.specs.Sweep.{KeyValues}
 use Rattle.drawing.specs.Escaped.{escaped, markup}
 use Rattle.drawing.specs.Shapes.{figure_opening, figure_end}
-use Rattle.figures.specs.declared.summary.CaseSummary.{CaseSummary}
-use Rattle.sweep_cells.specs.Words.{number_words, settings_at}
+use Rattle.figures.specs.declared.summary.SettingSummary.{SettingSummary}
+use Rattle.sweep_cells.specs.Words.{number_words, swept_keys_at}
 use Rattle.sweep_page.specs.Items.{caution_at, item_at}
 
 -- what a statistic is, in words
@@ -34,7 +34,7 @@ goal_item want = markup (codes "<li>") ++ markup (statistic_words want.statistic
 unfoldable pub goals_words : List Want → List ℕ
 goals_words wants = markup (codes "<p class=\"lead\">Is there a setting with</p><ul class=\"goals\">") ++ flat_map goal_item wants ++ markup (codes "</ul>\n")
 
--- how many more runs would decide whether a case meets them
+-- how many more runs would decide whether a setting meets them
 unfoldable pub needed_words : ℕ → List ℕ
 needed_words more = if more == 1 then codes "</b> more run would decide" else codes "</b> more runs would decide"
 
@@ -44,53 +44,53 @@ runs_needed more = markup (codes "<b>") ++ decimal more ++ markup (needed_words 
 unfoldable pub more_needed : Option ℕ → List ℕ
 more_needed more = option_map_or runs_needed more (codes "no number of runs would decide: its share of runs with a false death is the goal itself")
 
--- a case that may meet them
+-- a setting that may meet them
 unfoldable pub open_item : List KeyValues → ℕ → Option ℕ → List ℕ
-open_item settings place more =
-    markup (codes "<li class=\"unknown\"><span class=\"number\">") ++ number_words place ++ markup (codes "</span><code>") ++ settings_at settings place ++ markup (codes "</code><span>")
+open_item swept_keys place more =
+    markup (codes "<li class=\"unknown\"><span class=\"number\">") ++ number_words place ++ markup (codes "</span><code>") ++ swept_keys_at swept_keys place ++ markup (codes "</code><span>")
     ++ more_needed more ++ markup (codes "</span></li>")
 
--- nothing where a case doesn't
-unfoldable pub open_item_of : List KeyValues → List Want → ℕ → CaseSummary → List ℕ
-open_item_of settings wants place case = if may_meet wants case then open_item settings place (more_runs wants case) else []
+-- nothing where a setting doesn't
+unfoldable pub open_item_of : List KeyValues → List Want → ℕ → SettingSummary → List ℕ
+open_item_of swept_keys wants place setting = if may_meet wants setting then open_item swept_keys place (more_runs wants setting) else []
 
--- that of the case at a place
-unfoldable pub open_item_at : List KeyValues → List Want → List CaseSummary → ℕ → List ℕ
-open_item_at settings wants cases place = option_map_or (open_item_of settings wants place) (slice_get cases place) []
+-- that of the setting at a place
+unfoldable pub open_item_at : List KeyValues → List Want → List SettingSummary → ℕ → List ℕ
+open_item_at swept_keys wants settings place = option_map_or (open_item_of swept_keys wants place) (slice_get settings place) []
 
--- some case may meet all that is wanted
-abbrev pub is_open : List Want → List CaseSummary → Bool
-is_open wants cases = list_any (may_meet wants) cases
+-- some setting may meet all that is wanted
+abbrev pub is_open : List Want → List SettingSummary → Bool
+is_open wants settings = list_any (may_meet wants) settings
 
 -- those that may
-unfoldable pub open_answer : List KeyValues → List Want → List CaseSummary → List ℕ
-open_answer settings wants cases =
+unfoldable pub open_answer : List KeyValues → List Want → List SettingSummary → List ℕ
+open_answer swept_keys wants settings =
     markup (codes "<p class=\"lead\">No setting is shown to meet all of this yet. These may; so many more runs of each would decide, if its share of runs with a false death stays as it is:</p><ol class=\"answers\">")
-    ++ flat_map (open_item_at settings wants cases) (range_with_len 0 (length cases)) ++ markup (codes "</ol>\n")
+    ++ flat_map (open_item_at swept_keys wants settings) (range_with_len 0 (length settings)) ++ markup (codes "</ol>\n")
 
 -- or none can
 unfoldable pub no_answer : List ℕ
 no_answer = codes "<p class=\"lead\">No. Each setting that was tried is shown to miss one of these goals.</p>\n"
 
-unfoldable pub unmet_answer : List KeyValues → List Want → List CaseSummary → List ℕ
-unmet_answer settings wants cases = if is_open wants cases then open_answer settings wants cases else no_answer
+unfoldable pub unmet_answer : List KeyValues → List Want → List SettingSummary → List ℕ
+unmet_answer swept_keys wants settings = if is_open wants settings then open_answer swept_keys wants settings else no_answer
 
 -- the best of those that meet them, and whether it is safe
-unfoldable pub best_answer : Bool → List KeyValues → List CaseSummary → ℕ → List ℕ
-best_answer crashed settings cases place =
-    markup (codes "<p class=\"lead\">Yes. Of the settings that are shown to meet all of this, the best is</p><ol class=\"answers\">") ++ item_at crashed settings cases place ++ markup (codes "</ol>\n")
-    ++ caution_at cases place
+unfoldable pub best_answer : Bool → List KeyValues → List SettingSummary → ℕ → List ℕ
+best_answer crashed swept_keys settings place =
+    markup (codes "<p class=\"lead\">Yes. Of the settings that are shown to meet all of this, the best is</p><ol class=\"answers\">") ++ item_at crashed swept_keys settings place ++ markup (codes "</ol>\n")
+    ++ caution_at settings place
 
--- the answer, where the best case, if there is one, stands at this place
-abbrev pub answer : Bool → List KeyValues → List Want → List CaseSummary → Option ℕ → List ℕ
-answer crashed settings wants cases (Some place) = best_answer crashed settings cases place
-answer crashed settings wants cases None = unmet_answer settings wants cases
+-- the answer, where the best setting, if there is one, stands at this place
+abbrev pub answer : Bool → List KeyValues → List Want → List SettingSummary → Option ℕ → List ℕ
+answer crashed swept_keys wants settings (Some place) = best_answer crashed swept_keys settings place
+answer crashed swept_keys wants settings None = unmet_answer swept_keys wants settings
 
 -- the section
-unfoldable pub question_figure : Bool → List KeyValues → List Want → List CaseSummary → Option ℕ → List ℕ
-question_figure crashed settings wants cases best =
-    figure_opening (codes "answer") (codes "The question and its answer") ++ goals_words wants ++ answer crashed settings wants cases best ++ figure_end
+unfoldable pub question_figure : Bool → List KeyValues → List Want → List SettingSummary → Option ℕ → List ℕ
+question_figure crashed swept_keys wants settings best =
+    figure_opening (codes "answer") (codes "The question and its answer") ++ goals_words wants ++ answer crashed swept_keys wants settings best ++ figure_end
 
 -- nothing where nothing is wanted
-unfoldable pub question : Bool → List KeyValues → List Want → List CaseSummary → Option ℕ → List ℕ
-question crashed settings wants cases best = if length wants == 0 then [] else question_figure crashed settings wants cases best
+unfoldable pub question : Bool → List KeyValues → List Want → List SettingSummary → Option ℕ → List ℕ
+question crashed swept_keys wants settings best = if length wants == 0 then [] else question_figure crashed swept_keys wants settings best

@@ -1,28 +1,28 @@
--- The trade-off in words: the cases on the front, the fastest first; where no run has a crash, those of the fewest messages first.
+-- The trade-off in words: the settings on the front, the fastest first; where no run has a crash, those of the fewest messages first.
 use Rattle.std.specs.Prelude.{ℕ, Bool, ◌-◌, ◌==◌, if◌then◌else◌, min, List, [], ◌++◌, Option, codes, length, slice_get}
 use Rattle.std.specs.List.{flat_map, range_with_len}
 use Rattle.std.specs.Option.{option_map_or}
-use Rattle.sweep_plan.specs.Sweep.{KeyValues, Sweep, case_count, seed_count}
+use Rattle.sweep_plan.specs.Sweep.{KeyValues, Sweep, setting_count, seed_count}
 use Rattle.drawing.specs.Escaped.{markup}
 use Rattle.drawing.specs.Numbers.{grouped}
 use Rattle.drawing.specs.Shapes.{figure_opening, figure_end}
-use Rattle.figures.specs.declared.summary.CaseSummary.{CaseSummary}
+use Rattle.figures.specs.declared.summary.SettingSummary.{SettingSummary}
 use Rattle.sweep_cells.specs.Words.{count_words}
 use Rattle.sweep_page.specs.Items.{item_at}
 use Rattle.sweep_page.specs.declared.front_points.FrontPoint.{FrontPoint}
 
--- a case may have fewer seeds where its runs end once its interval is so narrow
+-- a setting may have fewer seeds where its runs end once its interval is so narrow
 unfoldable pub at_most : Option ℕ → List ℕ
 at_most until = option_map_or (λ width. markup (codes "at most ")) until []
 
--- how many cases there are, and how often each ran
+-- how many settings there are, and how often each ran
 unfoldable pub size_words : Sweep → List ℕ
 size_words sweep =
-    markup (codes "<p class=\"soft\">Settings tried: ") ++ grouped (case_count sweep.settings) ++ markup (codes ". Seeds for each: ") ++ at_most sweep.until ++ grouped (seed_count sweep.seeds) ++ markup (codes ".</p>\n")
+    markup (codes "<p class=\"soft\">Settings tried: ") ++ grouped (setting_count sweep.swept_keys) ++ markup (codes ". Seeds for each: ") ++ at_most sweep.until ++ grouped (seed_count sweep.seeds) ++ markup (codes ".</p>\n")
 
 -- the one at a place among those on the front
-unfoldable pub told_at : Bool → List KeyValues → List CaseSummary → List FrontPoint → ℕ → List ℕ
-told_at crashed settings cases points place = option_map_or (λ (p : FrontPoint). item_at crashed settings cases p.place) (slice_get points place) []
+unfoldable pub told_at : Bool → List KeyValues → List SettingSummary → List FrontPoint → ℕ → List ℕ
+told_at crashed swept_keys settings points place = option_map_or (λ (p : FrontPoint). item_at crashed swept_keys settings p.place) (slice_get points place) []
 
 -- what the list of them is, where runs have crashes, and where none has
 unfoldable pub speed_opening : List ℕ
@@ -34,7 +34,7 @@ messages_opening = codes "<p class=\"lead\">No run has a crash, so settings are 
 unfoldable pub front_opening : Bool → List ℕ
 front_opening crashed = if crashed then speed_opening else messages_opening
 
--- what the words for how safe a case is mean
+-- what the words for how safe a setting is mean
 unfoldable pub safety_words : List ℕ
 safety_words = codes "<p class=\"soft\">A false death: a member that has neither crashed nor left is declared dead. Safe: the whole 95&nbsp;% interval of the share of runs with a false death is at most 5&nbsp;%. Unsafe: the whole interval is above 5&nbsp;%. Unknown: only a part of it is, so more runs would decide.</p><ol class=\"answers\">"
 
@@ -48,11 +48,11 @@ unfoldable pub untold_words : ℕ → List ℕ
 untold_words more = if more == 0 then [] else more_words more
 
 -- the first twelve of them, and how many more there are
-unfoldable pub told_words : Bool → List KeyValues → List CaseSummary → List FrontPoint → List ℕ
-told_words crashed settings cases points =
-    front_opening crashed ++ safety_words ++ flat_map (told_at crashed settings cases points) (range_with_len 0 (min (length points) 12)) ++ markup (codes "</ol>\n") ++ untold_words (length points - 12)
+unfoldable pub told_words : Bool → List KeyValues → List SettingSummary → List FrontPoint → List ℕ
+told_words crashed swept_keys settings points =
+    front_opening crashed ++ safety_words ++ flat_map (told_at crashed swept_keys settings points) (range_with_len 0 (min (length points) 12)) ++ markup (codes "</ol>\n") ++ untold_words (length points - 12)
 
--- where there are none: no case confirms half of its crashes, or none has moments in which messages could be sent
+-- where there are none: no setting confirms half of its crashes, or none has moments in which messages could be sent
 unfoldable pub unconfirmed_words : List ℕ
 unconfirmed_words = codes "<p class=\"lead\">No setting confirms half of its crashes.</p>\n"
 
@@ -62,10 +62,10 @@ momentless_words = codes "<p class=\"lead\">Each run ends at moment 0, so there 
 unfoldable pub none_words : Bool → List ℕ
 none_words crashed = if crashed then unconfirmed_words else momentless_words
 
-unfoldable pub front_words_of : Bool → List KeyValues → List CaseSummary → List FrontPoint → List ℕ
-front_words_of crashed settings cases points = if length points == 0 then none_words crashed else told_words crashed settings cases points
+unfoldable pub front_words_of : Bool → List KeyValues → List SettingSummary → List FrontPoint → List ℕ
+front_words_of crashed swept_keys settings points = if length points == 0 then none_words crashed else told_words crashed swept_keys settings points
 
 -- the section
-unfoldable pub summary : Bool → Sweep → List CaseSummary → List FrontPoint → List ℕ
-summary crashed sweep cases points =
-    figure_opening (codes "trade-off") (codes "The trade-off") ++ size_words sweep ++ front_words_of crashed sweep.settings cases points ++ figure_end
+unfoldable pub summary : Bool → Sweep → List SettingSummary → List FrontPoint → List ℕ
+summary crashed sweep settings points =
+    figure_opening (codes "trade-off") (codes "The trade-off") ++ size_words sweep ++ front_words_of crashed sweep.swept_keys settings points ++ figure_end

@@ -1,4 +1,4 @@
-//! Each case by how fast and how safe it is.
+//! Each setting by how fast and how safe it is.
 ghost use Rattle.std.specs.Prelude.{◌≡◌, ◌≤◌, ◌<◌, ◌^◌, ◌++◌, OnOk, length};
 ghost use Rattle.std.specs.List.{flat_map, range_with_len};
 ghost use Rattle.std.specs.String.{string_bytes};
@@ -14,10 +14,11 @@ use drawing::{
     close_figure, close_plot, open_figure, open_plot, push_across, push_markup, push_place,
     round_step,
 };
-use figures::CaseSummary;
+use figures::SettingSummary;
 use std::alloc::{AllocError, Global};
 use sweep_cells::{
-    case_at, push_number, push_percent, push_rate, push_settings_at, push_time_cell, thousandths,
+    push_number, push_percent, push_rate, push_swept_keys_at, push_time_cell, setting_at,
+    thousandths,
 };
 use sweep_plan::Plan;
 
@@ -27,7 +28,7 @@ const MOST: u64 = 1_000_000_000_000_000_000;
 /// How far the plot reaches.
 #[derive(Clone, Copy)]
 pub struct Reach {
-    /// Ticks across, or messages in hundredths; past the farthest case.
+    /// Ticks across, or messages in hundredths; past the farthest setting.
     pub across: u64,
     /// Thousandths up: the greatest upper end of an interval.
     pub up: u64,
@@ -37,17 +38,17 @@ pub struct Reach {
     pub crashed: bool,
 }
 
-/// How far a plot of these cases reaches.
+/// How far a plot of these settings reaches.
 #[tactic(auto, unfolding(crate::specs::Front::reach_of))]
-fn reach_of(crashed: bool, cases: &[CaseSummary]) -> Reach
-    ensures is { result ≡ reach_of crashed cases.now }
+fn reach_of(crashed: bool, settings: &[SettingSummary]) -> Reach
+    ensures is { result ≡ reach_of crashed settings.now }
     ensures across { result.across < 2 ^ 63 }
     ensures up { result.up < 2 ^ 63 }
 {
-    let farthest = farthest(crashed, cases).min(MOST);
+    let farthest = farthest(crashed, settings).min(MOST);
     let across = farthest + farthest / 16;
-    let up = highest(cases);
-    let messages = most_messages(cases);
+    let up = highest(settings);
+    let messages = most_messages(settings);
     Reach {
         across,
         up,
@@ -56,59 +57,59 @@ fn reach_of(crashed: bool, cases: &[CaseSummary]) -> Reach
     }
 }
 
-/// How far across the farthest case stands; 1 at least.
-fn farthest(crashed: bool, cases: &[CaseSummary]) -> u64
-    ensures { result ≡ farthest crashed cases.now }
+/// How far across the farthest setting stands; 1 at least.
+fn farthest(crashed: bool, settings: &[SettingSummary]) -> u64
+    ensures { result ≡ farthest crashed settings.now }
 {
     let mut most = 1;
-    for case in cases {
-        most = most.max(across_of(crashed, case).unwrap_or(0));
+    for setting in settings {
+        most = most.max(across_of(crashed, setting).unwrap_or(0));
     }
     most
 }
 
 /// The greatest upper end of an interval, in thousandths; a percent at least.
-fn highest(cases: &[CaseSummary]) -> u64
-    ensures is { result ≡ highest cases.now }
+fn highest(settings: &[SettingSummary]) -> u64
+    ensures is { result ≡ highest settings.now }
     ensures low { result < 2 ^ 63 }
 {
     let mut most = 10;
-    for case in cases {
-        most = most.max(thousandths(case.share_high));
+    for setting in settings {
+        most = most.max(thousandths(setting.share_high));
     }
     most
 }
 
 /// The greatest number of messages, in hundredths; 1 at least.
-fn most_messages(cases: &[CaseSummary]) -> u128
-    ensures { result ≡ most_messages cases.now }
+fn most_messages(settings: &[SettingSummary]) -> u128
+    ensures { result ≡ most_messages settings.now }
 {
     let mut most = 1;
-    for case in cases {
-        most = most.max(case.messages.unwrap_or(0));
+    for setting in settings {
+        most = most.max(setting.messages.unwrap_or(0));
     }
     most
 }
 
-/// Appends the plot of all cases, those on the front joined and named, and their figures in a
+/// Appends the plot of all settings, those on the front joined and named, and their figures in a
 /// table.
 #[tactic(auto, unfolding(crate::specs::Front::front_figure))]
 pub(crate) fn push_front(
     alloc: Global,
     text: &mut String,
     plan: &Plan,
-    cases: &[CaseSummary],
+    settings: &[SettingSummary],
     front: &[bool],
     points: &[FrontPoint],
     crashed: bool,
 ) -> Result<(), Memory>
-    ensures { OnOk result (string_bytes text.new ≡ string_bytes text.old ++ front_figure crashed plan.now.settings cases.now front.now points.now) }
+    ensures { OnOk result (string_bytes text.new ≡ string_bytes text.old ++ front_figure crashed plan.now.swept_keys settings.now front.now points.now) }
 {
-    let reach = reach_of(crashed, cases);
+    let reach = reach_of(crashed, settings);
     open_figure(text, "front", front_heading(crashed))?;
     push_words(text, crashed)?;
-    push_chart(text, cases, front, points, &reach)?;
-    push_rows(alloc, text, plan, cases, points)?;
+    push_chart(text, settings, front, points, &reach)?;
+    push_rows(alloc, text, plan, settings, points)?;
     close_figure(text)?;
     Ok(())
 }
@@ -155,18 +156,18 @@ fn push_messages_words(text: &mut String) -> Result<(), AllocError>
 #[tactic(auto, unfolding(crate::specs::Front::front_chart))]
 fn push_chart(
     text: &mut String,
-    cases: &[CaseSummary],
+    settings: &[SettingSummary],
     front: &[bool],
     points: &[FrontPoint],
     reach: &Reach,
 ) -> Result<(), AllocError>
     requires across { reach.now.across < 2 ^ 63 }
     requires up { reach.now.up < 2 ^ 63 }
-    ensures { OnOk result (string_bytes text.new ≡ string_bytes text.old ++ front_chart reach.now cases.now front.now points.now) }
+    ensures { OnOk result (string_bytes text.new ≡ string_bytes text.old ++ front_chart reach.now settings.now front.now points.now) }
 {
     push_markup(text, "<div class=\"chart\">")?;
     push_shares_up(text, reach.up)?;
-    push_plane(text, cases, front, points, reach)?;
+    push_plane(text, settings, front, points, reach)?;
     push_across(text, reach.across, unit_words(reach.crashed))?;
     push_markup(text, "</div>")
 }
@@ -210,18 +211,18 @@ fn push_share_tick(text: &mut String, share: u64, up: u64) -> Result<(), AllocEr
 #[tactic(auto, unfolding(crate::specs::Front::plane))]
 fn push_plane(
     text: &mut String,
-    cases: &[CaseSummary],
+    settings: &[SettingSummary],
     front: &[bool],
     points: &[FrontPoint],
     reach: &Reach,
 ) -> Result<(), AllocError>
-    ensures { OnOk result (string_bytes text.new ≡ string_bytes text.old ++ plane reach.now cases.now front.now points.now) }
+    ensures { OnOk result (string_bytes text.new ≡ string_bytes text.old ++ plane reach.now settings.now front.now points.now) }
 {
     push_markup(text, "<div class=\"plane\">")?;
     open_plane(text, reach)?;
-    push_marks(text, cases, front, false, reach)?;
+    push_marks(text, settings, front, false, reach)?;
     push_joined(text, points, reach)?;
-    push_marks(text, cases, front, true, reach)?;
+    push_marks(text, settings, front, true, reach)?;
     close_plot(text)?;
     push_numbers(text, points, reach)?;
     push_markup(text, "</div>")
@@ -287,19 +288,19 @@ fn front_heading(crashed: bool) -> &'static str
     }
 }
 
-/// Appends the figures of the cases on the front, folded.
+/// Appends the figures of the settings on the front, folded.
 #[tactic(auto, unfolding(crate::specs::Front::front_table))]
 fn push_rows(
     alloc: Global,
     text: &mut String,
     plan: &Plan,
-    cases: &[CaseSummary],
+    settings: &[SettingSummary],
     points: &[FrontPoint],
 ) -> Result<(), Memory>
-    ensures { OnOk result (string_bytes text.new ≡ string_bytes text.old ++ front_table plan.now.settings cases.now points.now) }
+    ensures { OnOk result (string_bytes text.new ≡ string_bytes text.old ++ front_table plan.now.swept_keys settings.now points.now) }
 {
     push_heads(text)?;
-    push_rows_of(alloc, text, plan, cases, points)?;
+    push_rows_of(alloc, text, plan, settings, points)?;
     push_markup(text, "</tbody></table></div></details>")?;
     Ok(())
 }
@@ -319,59 +320,59 @@ fn push_heads(text: &mut String) -> Result<(), AllocError>
     )
 }
 
-/// Appends the rows of these cases.
+/// Appends the rows of these settings.
 fn push_rows_of(
     alloc: Global,
     text: &mut String,
     plan: &Plan,
-    cases: &[CaseSummary],
+    settings: &[SettingSummary],
     points: &[FrontPoint],
 ) -> Result<(), Memory>
-    ensures { OnOk result (string_bytes text.new ≡ string_bytes text.old ++ flat_map (front_row_of plan.now.settings cases.now) points.now) }
+    ensures { OnOk result (string_bytes text.new ≡ string_bytes text.old ++ flat_map (front_row_of plan.now.swept_keys settings.now) points.now) }
 {
     for point in points {
-        push_row_of(alloc, text, plan, cases, point)?;
+        push_row_of(alloc, text, plan, settings, point)?;
     }
     Ok(())
 }
 
-/// Appends the row of a case on the front.
+/// Appends the row of a setting on the front.
 #[tactic(auto, unfolding(crate::specs::Front::front_row_of))]
 fn push_row_of(
     alloc: Global,
     text: &mut String,
     plan: &Plan,
-    cases: &[CaseSummary],
+    settings: &[SettingSummary],
     point: &FrontPoint,
 ) -> Result<(), Memory>
-    ensures { OnOk result (string_bytes text.new ≡ string_bytes text.old ++ front_row_of plan.now.settings cases.now point.now) }
+    ensures { OnOk result (string_bytes text.new ≡ string_bytes text.old ++ front_row_of plan.now.swept_keys settings.now point.now) }
 {
-    match case_at(cases, point.place) {
-        Some(case) => push_row(alloc, text, plan, point.place, &case),
+    match setting_at(settings, point.place) {
+        Some(setting) => push_row(alloc, text, plan, point.place, &setting),
         None => Ok(()),
     }
 }
 
-/// Appends the row of the case at a place, with its summary.
+/// Appends the row of the setting at a place, with its summary.
 #[tactic(auto, unfolding(crate::specs::Front::front_row))]
 fn push_row(
     alloc: Global,
     text: &mut String,
     plan: &Plan,
     place: usize,
-    case: &CaseSummary,
+    setting: &SettingSummary,
 ) -> Result<(), Memory>
-    ensures { OnOk result (string_bytes text.new ≡ string_bytes text.old ++ front_row plan.now.settings place case.now) }
+    ensures { OnOk result (string_bytes text.new ≡ string_bytes text.old ++ front_row plan.now.swept_keys place setting.now) }
 {
     push_markup(text, "<tr><th scope=\"row\">")?;
     push_number(text, place)?;
     push_markup(text, "</th><td>")?;
-    push_settings_at(alloc, text, plan, place)?;
+    push_swept_keys_at(alloc, text, plan, place)?;
     push_markup(text, "</td>")?;
-    push_time_cell(text, case.confirm_p50)?;
-    push_shares(text, case)?;
+    push_time_cell(text, setting.confirm_p50)?;
+    push_shares(text, setting)?;
     push_markup(text, "<td>")?;
-    push_rate(text, case.messages)?;
+    push_rate(text, setting.messages)?;
     push_markup(text, "</td></tr>")?;
     Ok(())
 }

@@ -5,37 +5,37 @@ ghost use Rattle.sweep_page.specs.Items.{caution, caution_at, caution_words, con
 
 use base::Memory;
 use drawing::push_markup;
-use figures::CaseSummary;
+use figures::SettingSummary;
 use std::alloc::{AllocError, Global};
 use sweep_cells::{
-    case_at, push_deaths, push_interval, push_number, push_rate, push_runs_with, push_settings_at,
-    push_time, thousandths,
+    push_deaths, push_interval, push_number, push_rate, push_runs_with, push_swept_keys_at,
+    push_time, setting_at, thousandths,
 };
 use sweep_plan::Plan;
 
 /// Five percent, in thousandths: what a safe setting's interval doesn't reach beyond.
 const SAFE: u64 = 50;
 
-/// Appends the case at a place; nothing where there is none. `crashed` is whether a run of the sweep
+/// Appends the setting at a place; nothing where there is none. `crashed` is whether a run of the sweep
 /// has a crash.
 #[tactic(auto, unfolding(crate::specs::Items::item_at))]
 pub(crate) fn push_item_at(
     alloc: Global,
     text: &mut String,
     plan: &Plan,
-    cases: &[CaseSummary],
+    settings: &[SettingSummary],
     crashed: bool,
     place: usize,
 ) -> Result<(), Memory>
-    ensures { OnOk result (string_bytes text.new ≡ string_bytes text.old ++ item_at crashed plan.now.settings cases.now place) }
+    ensures { OnOk result (string_bytes text.new ≡ string_bytes text.old ++ item_at crashed plan.now.swept_keys settings.now place) }
 {
-    match case_at(cases, place) {
-        Some(case) => push_item(alloc, text, plan, crashed, place, &case),
+    match setting_at(settings, place) {
+        Some(setting) => push_item(alloc, text, plan, crashed, place, &setting),
         None => Ok(()),
     }
 }
 
-/// Appends the case at a place, with its summary.
+/// Appends the setting at a place, with its summary.
 #[tactic(auto, unfolding(crate::specs::Items::item))]
 fn push_item(
     alloc: Global,
@@ -43,68 +43,68 @@ fn push_item(
     plan: &Plan,
     crashed: bool,
     place: usize,
-    case: &CaseSummary,
+    setting: &SettingSummary,
 ) -> Result<(), Memory>
-    ensures { OnOk result (string_bytes text.new ≡ string_bytes text.old ++ item crashed plan.now.settings place case.now) }
+    ensures { OnOk result (string_bytes text.new ≡ string_bytes text.old ++ item crashed plan.now.swept_keys place setting.now) }
 {
-    let class = safety(case);
+    let class = safety(setting);
     push_item_opening(text, class, place)?;
-    push_settings_at(alloc, text, plan, place)?;
+    push_swept_keys_at(alloc, text, plan, place)?;
     push_markup(text, "</code>")?;
-    push_speed(text, crashed, case)?;
-    push_share(text, case)?;
-    push_cost(text, case)?;
+    push_speed(text, crashed, setting)?;
+    push_share(text, setting)?;
+    push_cost(text, setting)?;
     push_item_end(text, class)?;
     Ok(())
 }
 
-/// Whether a case is safe, unsafe or neither is known, by the 95 % interval of its share of runs with
+/// Whether a setting is safe, unsafe or neither is known, by the 95 % interval of its share of runs with
 /// a false death: all of it is at most 5 %, all is above, or neither.
 #[tactic(auto, unfolding(crate::specs::Items::safety))]
-fn safety(case: &CaseSummary) -> &'static str
-    ensures { result.now ≡ safety case.now }
+fn safety(setting: &SettingSummary) -> &'static str
+    ensures { result.now ≡ safety setting.now }
 {
-    if thousandths(case.share_high) <= SAFE {
+    if thousandths(setting.share_high) <= SAFE {
         "safe"
-    } else if thousandths(case.share_low) > SAFE {
+    } else if thousandths(setting.share_low) > SAFE {
         "unsafe"
     } else {
         "unknown"
     }
 }
 
-/// Appends what is said of the best case, which stands at this place, where it isn't safe.
+/// Appends what is said of the best setting, which stands at this place, where it isn't safe.
 #[tactic(auto, unfolding(crate::specs::Items::caution_at))]
 pub(crate) fn push_caution_at(
     text: &mut String,
-    cases: &[CaseSummary],
+    settings: &[SettingSummary],
     place: usize,
 ) -> Result<(), AllocError>
-    ensures { OnOk result (string_bytes text.new ≡ string_bytes text.old ++ caution_at cases.now place) }
+    ensures { OnOk result (string_bytes text.new ≡ string_bytes text.old ++ caution_at settings.now place) }
 {
-    match case_at(cases, place) {
-        Some(case) => push_caution(text, &case),
+    match setting_at(settings, place) {
+        Some(setting) => push_caution(text, &setting),
         None => Ok(()),
     }
 }
 
-/// Appends what is said of the best case, where it isn't safe.
+/// Appends what is said of the best setting, where it isn't safe.
 #[tactic(auto, unfolding(crate::specs::Items::caution))]
-fn push_caution(text: &mut String, case: &CaseSummary) -> Result<(), AllocError>
-    ensures { OnOk result (string_bytes text.new ≡ string_bytes text.old ++ caution case.now) }
+fn push_caution(text: &mut String, setting: &SettingSummary) -> Result<(), AllocError>
+    ensures { OnOk result (string_bytes text.new ≡ string_bytes text.old ++ caution setting.now) }
 {
-    let words = caution_words(case);
+    let words = caution_words(setting);
     push_markup(text, words)
 }
 
-/// What is said of the best case, where it isn't safe.
+/// What is said of the best setting, where it isn't safe.
 #[tactic(auto, unfolding(crate::specs::Items::caution_words))]
-fn caution_words(case: &CaseSummary) -> &'static str
-    ensures { result.now ≡ caution_words case.now }
+fn caution_words(setting: &SettingSummary) -> &'static str
+    ensures { result.now ≡ caution_words setting.now }
 {
-    if thousandths(case.share_high) <= SAFE {
+    if thousandths(setting.share_high) <= SAFE {
         ""
-    } else if thousandths(case.share_low) > SAFE {
+    } else if thousandths(setting.share_low) > SAFE {
         "<p class=\"lead\">But it is unsafe: the whole 95&nbsp;% interval of its share of runs with a false \
          death is above 5&nbsp;%. The goals allow that.</p>\n"
     } else {
@@ -125,59 +125,59 @@ fn push_item_opening(text: &mut String, class: &str, place: usize) -> Result<(),
     push_markup(text, "</span><code>")
 }
 
-/// Appends how fast a case is, or how many false deaths it has where no run has a crash.
+/// Appends how fast a setting is, or how many false deaths it has where no run has a crash.
 #[tactic(auto, unfolding(crate::specs::Items::speed_span))]
-fn push_speed(text: &mut String, crashed: bool, case: &CaseSummary) -> Result<(), AllocError>
-    ensures { OnOk result (string_bytes text.new ≡ string_bytes text.old ++ speed_span crashed case.now) }
+fn push_speed(text: &mut String, crashed: bool, setting: &SettingSummary) -> Result<(), AllocError>
+    ensures { OnOk result (string_bytes text.new ≡ string_bytes text.old ++ speed_span crashed setting.now) }
 {
     if crashed {
-        push_confirm(text, case)
+        push_confirm(text, setting)
     } else {
-        push_false_deaths(text, case)
+        push_false_deaths(text, setting)
     }
 }
 
 /// Appends the median time until a crash was confirmed.
 #[tactic(auto, unfolding(crate::specs::Items::confirm_span))]
-fn push_confirm(text: &mut String, case: &CaseSummary) -> Result<(), AllocError>
-    ensures { OnOk result (string_bytes text.new ≡ string_bytes text.old ++ confirm_span case.now) }
+fn push_confirm(text: &mut String, setting: &SettingSummary) -> Result<(), AllocError>
+    ensures { OnOk result (string_bytes text.new ≡ string_bytes text.old ++ confirm_span setting.now) }
 {
     push_markup(text, "<span>first confirmed after <b>")?;
-    push_time(text, case.confirm_p50)?;
+    push_time(text, setting.confirm_p50)?;
     push_markup(text, "</b> ticks, median</span>")
 }
 
 /// Appends how many false deaths there were per run.
 #[tactic(auto, unfolding(crate::specs::Items::deaths_span))]
-fn push_false_deaths(text: &mut String, case: &CaseSummary) -> Result<(), AllocError>
-    ensures { OnOk result (string_bytes text.new ≡ string_bytes text.old ++ deaths_span case.now) }
+fn push_false_deaths(text: &mut String, setting: &SettingSummary) -> Result<(), AllocError>
+    ensures { OnOk result (string_bytes text.new ≡ string_bytes text.old ++ deaths_span setting.now) }
 {
     push_markup(text, "<span><b>")?;
-    push_deaths(text, case)?;
+    push_deaths(text, setting)?;
     push_markup(text, "</b> false deaths per run</span>")
 }
 
-/// Appends how safe a case is.
+/// Appends how safe a setting is.
 #[tactic(auto, unfolding(crate::specs::Items::share_span))]
-fn push_share(text: &mut String, case: &CaseSummary) -> Result<(), AllocError>
-    ensures { OnOk result (string_bytes text.new ≡ string_bytes text.old ++ share_span case.now) }
+fn push_share(text: &mut String, setting: &SettingSummary) -> Result<(), AllocError>
+    ensures { OnOk result (string_bytes text.new ≡ string_bytes text.old ++ share_span setting.now) }
 {
-    let low = thousandths(case.share_low);
-    let high = thousandths(case.share_high);
+    let low = thousandths(setting.share_low);
+    let high = thousandths(setting.share_high);
     push_markup(text, "<span>a false death in <b>")?;
-    push_runs_with(text, case)?;
+    push_runs_with(text, setting)?;
     push_markup(text, "</b> runs (")?;
     push_interval(text, low, high)?;
     push_markup(text, ")</span>")
 }
 
-/// Appends what a case costs.
+/// Appends what a setting costs.
 #[tactic(auto, unfolding(crate::specs::Items::cost_span))]
-fn push_cost(text: &mut String, case: &CaseSummary) -> Result<(), AllocError>
-    ensures { OnOk result (string_bytes text.new ≡ string_bytes text.old ++ cost_span case.now) }
+fn push_cost(text: &mut String, setting: &SettingSummary) -> Result<(), AllocError>
+    ensures { OnOk result (string_bytes text.new ≡ string_bytes text.old ++ cost_span setting.now) }
 {
     push_markup(text, "<span><b>")?;
-    push_rate(text, case.messages)?;
+    push_rate(text, setting.messages)?;
     push_markup(text, "</b> messages per member per 1,000 ticks</span>")
 }
 

@@ -1,55 +1,55 @@
-//! The marks of cases in the plot of all: a dot and a bar for each, a line through those on the
+//! The marks of settings in the plot of all: a dot and a bar for each, a line through those on the
 //! front, and their numbers.
 ghost use Rattle.std.specs.Prelude.{◌≡◌, ◌++◌, OnOk, length};
 ghost use Rattle.std.specs.List.{flat_map, range_with_len};
 ghost use Rattle.std.specs.String.{string_bytes};
-ghost use Rattle.sweep_page.specs.Front.{best_class, interval_bar, share_dot, size_of, mark_over, case_mark, is_among, mark_at, all_marks, joint, joint_at, joined, number_mark};
+ghost use Rattle.sweep_page.specs.Front.{best_class, interval_bar, share_dot, size_of, mark_over, setting_mark, is_among, mark_at, all_marks, joint, joint_at, joined, number_mark};
 
 use crate::front::Reach;
 use crate::front_points::{FrontPoint, across_of, is_marked};
 use drawing::{push_markup, push_place};
-use figures::CaseSummary;
+use figures::SettingSummary;
 use std::alloc::AllocError;
-use sweep_cells::{case_at, push_number, push_start, push_step, share_of, thousandths};
+use sweep_cells::{push_number, push_start, push_step, setting_at, share_of, thousandths};
 
-/// Appends the marks of the cases on the front, or of the others.
+/// Appends the marks of the settings on the front, or of the others.
 pub(crate) fn push_marks(
     text: &mut String,
-    cases: &[CaseSummary],
+    settings: &[SettingSummary],
     front: &[bool],
     best: bool,
     reach: &Reach,
 ) -> Result<(), AllocError>
-    ensures { OnOk result (string_bytes text.new ≡ string_bytes text.old ++ all_marks reach.now cases.now front.now best) }
+    ensures { OnOk result (string_bytes text.new ≡ string_bytes text.old ++ all_marks reach.now settings.now front.now best) }
 {
-    for place in 0..cases.len() {
-        push_mark_at(text, cases, front, best, reach, place)?;
+    for place in 0..settings.len() {
+        push_mark_at(text, settings, front, best, reach, place)?;
     }
     Ok(())
 }
 
-/// Appends the mark of the case at a place, where it is among these.
+/// Appends the mark of the setting at a place, where it is among these.
 #[tactic(auto, unfolding(crate::specs::Front::mark_at))]
 fn push_mark_at(
     text: &mut String,
-    cases: &[CaseSummary],
+    settings: &[SettingSummary],
     front: &[bool],
     best: bool,
     reach: &Reach,
     place: usize,
 ) -> Result<(), AllocError>
-    ensures { OnOk result (string_bytes text.new ≡ string_bytes text.old ++ mark_at reach.now cases.now front.now best place) }
+    ensures { OnOk result (string_bytes text.new ≡ string_bytes text.old ++ mark_at reach.now settings.now front.now best place) }
 {
     if !is_among(front, best, place) {
         return Ok(());
     }
-    match case_at(cases, place) {
-        Some(case) => push_case(text, &case, best, reach),
+    match setting_at(settings, place) {
+        Some(setting) => push_setting(text, &setting, best, reach),
         None => Ok(()),
     }
 }
 
-/// Whether the case at a place is on the front, where those are asked for, or isn't, where the
+/// Whether the setting at a place is on the front, where those are asked for, or isn't, where the
 /// others are.
 fn is_among(front: &[bool], best: bool, place: usize) -> bool
     ensures { result ≡ is_among front.now best place }
@@ -58,18 +58,18 @@ fn is_among(front: &[bool], best: bool, place: usize) -> bool
     if best { marked } else { !marked }
 }
 
-/// Appends a case's bar and dot, where it stands somewhere across.
-#[tactic(auto, unfolding(crate::specs::Front::case_mark))]
-fn push_case(
+/// Appends a setting's bar and dot, where it stands somewhere across.
+#[tactic(auto, unfolding(crate::specs::Front::setting_mark))]
+fn push_setting(
     text: &mut String,
-    case: &CaseSummary,
+    setting: &SettingSummary,
     best: bool,
     reach: &Reach,
 ) -> Result<(), AllocError>
-    ensures { OnOk result (string_bytes text.new ≡ string_bytes text.old ++ case_mark reach.now best case.now) }
+    ensures { OnOk result (string_bytes text.new ≡ string_bytes text.old ++ setting_mark reach.now best setting.now) }
 {
-    match across_of(reach.crashed, case) {
-        Some(time) => push_mark_over(text, case, time, best, reach),
+    match across_of(reach.crashed, setting) {
+        Some(time) => push_mark_over(text, setting, time, best, reach),
         None => Ok(()),
     }
 }
@@ -78,19 +78,19 @@ fn push_case(
 #[tactic(auto, unfolding(crate::specs::Front::mark_over))]
 fn push_mark_over(
     text: &mut String,
-    case: &CaseSummary,
+    setting: &SettingSummary,
     time: u64,
     best: bool,
     reach: &Reach,
 ) -> Result<(), AllocError>
-    ensures { OnOk result (string_bytes text.new ≡ string_bytes text.old ++ mark_over reach.now best case.now time) }
+    ensures { OnOk result (string_bytes text.new ≡ string_bytes text.old ++ mark_over reach.now best setting.now time) }
 {
     let class = best_class(best);
     let at = time.min(reach.across);
-    let top = reach.up.saturating_sub(thousandths(case.share_high));
-    let bottom = reach.up.saturating_sub(thousandths(case.share_low));
-    let middle = reach.up.saturating_sub(share_of(case));
-    let size = size_of(case.messages, reach.messages);
+    let top = reach.up.saturating_sub(thousandths(setting.share_high));
+    let bottom = reach.up.saturating_sub(thousandths(setting.share_low));
+    let middle = reach.up.saturating_sub(share_of(setting));
+    let size = size_of(setting.messages, reach.messages);
     push_interval_bar(text, class, at, top, bottom)?;
     push_share_dot(text, class, size, at, middle)
 }
@@ -206,7 +206,7 @@ fn push_joint(
     }
 }
 
-/// Appends the numbers of the cases on the front, beside their dots.
+/// Appends the numbers of the settings on the front, beside their dots.
 pub(crate) fn push_numbers(
     text: &mut String,
     points: &[FrontPoint],
@@ -220,7 +220,7 @@ pub(crate) fn push_numbers(
     Ok(())
 }
 
-/// Appends the number of a case on the front.
+/// Appends the number of a setting on the front.
 #[tactic(auto, unfolding(crate::specs::Front::number_mark))]
 fn push_number_mark(text: &mut String, point: &FrontPoint, reach: &Reach) -> Result<(), AllocError>
     ensures { OnOk result (string_bytes text.new ≡ string_bytes text.old ++ number_mark reach.now point.now) }

@@ -8,10 +8,10 @@ ghost use Rattle.sweep_page.specs.Question.{answer, best_answer, goal_item, goal
 use crate::items::{push_caution_at, push_item_at};
 use base::Memory;
 use drawing::{close_figure, open_figure, push_escaped, push_markup};
-use figures::CaseSummary;
+use figures::SettingSummary;
 use goals::{Statistic, Want, may_meet, more_runs};
 use std::alloc::{AllocError, Global};
-use sweep_cells::{push_number, push_settings_at};
+use sweep_cells::{push_number, push_swept_keys_at};
 use sweep_plan::Plan;
 
 /// What is wanted of a setting, and the best that meets it.
@@ -19,7 +19,7 @@ use sweep_plan::Plan;
 pub struct Question<'a> {
     /// What is wanted.
     pub wants: &'a [Want<'a>],
-    /// The place of the best case, where one meets all.
+    /// The place of the best setting, where one meets all.
     pub best: Option<usize>,
 }
 
@@ -31,18 +31,18 @@ pub(crate) fn push_question(
     text: &mut String,
     plan: &Plan,
     asked: &Question<'_>,
-    cases: &[CaseSummary],
+    settings: &[SettingSummary],
     crashed: bool,
 ) -> Result<(), Memory>
     requires bounded { All IsBounded asked.now.wants.now }
-    requires few { All HasFewRuns cases.now }
+    requires few { All HasFewRuns settings.now }
     ensures { OnOk result (string_bytes text.new ≡ string_bytes text.old
-        ++ question crashed plan.now.settings asked.now.wants.now cases.now asked.now.best) }
+        ++ question crashed plan.now.swept_keys asked.now.wants.now settings.now asked.now.best) }
 {
     if asked.wants.is_empty() {
         return Ok(());
     }
-    push_question_figure(alloc, text, plan, asked, cases, crashed)
+    push_question_figure(alloc, text, plan, asked, settings, crashed)
 }
 
 /// Appends the section.
@@ -52,17 +52,17 @@ fn push_question_figure(
     text: &mut String,
     plan: &Plan,
     asked: &Question<'_>,
-    cases: &[CaseSummary],
+    settings: &[SettingSummary],
     crashed: bool,
 ) -> Result<(), Memory>
     requires bounded { All IsBounded asked.now.wants.now }
-    requires few { All HasFewRuns cases.now }
+    requires few { All HasFewRuns settings.now }
     ensures { OnOk result (string_bytes text.new ≡ string_bytes text.old
-        ++ question_figure crashed plan.now.settings asked.now.wants.now cases.now asked.now.best) }
+        ++ question_figure crashed plan.now.swept_keys asked.now.wants.now settings.now asked.now.best) }
 {
     open_figure(text, "answer", "The question and its answer")?;
     push_goals(text, asked.wants)?;
-    push_answer(alloc, text, plan, asked, cases, crashed)?;
+    push_answer(alloc, text, plan, asked, settings, crashed)?;
     close_figure(text)?;
     Ok(())
 }
@@ -128,78 +128,78 @@ fn push_answer(
     text: &mut String,
     plan: &Plan,
     asked: &Question<'_>,
-    cases: &[CaseSummary],
+    settings: &[SettingSummary],
     crashed: bool,
 ) -> Result<(), Memory>
     requires bounded { All IsBounded asked.now.wants.now }
-    requires few { All HasFewRuns cases.now }
+    requires few { All HasFewRuns settings.now }
     ensures { OnOk result (string_bytes text.new ≡ string_bytes text.old
-        ++ answer crashed plan.now.settings asked.now.wants.now cases.now asked.now.best) }
+        ++ answer crashed plan.now.swept_keys asked.now.wants.now settings.now asked.now.best) }
 {
     match asked.best {
-        Some(place) => push_best(alloc, text, plan, cases, crashed, place),
-        None => push_unmet(alloc, text, plan, asked.wants, cases),
+        Some(place) => push_best(alloc, text, plan, settings, crashed, place),
+        None => push_unmet(alloc, text, plan, asked.wants, settings),
     }
 }
 
-/// Appends the best case.
+/// Appends the best setting.
 #[tactic(auto, unfolding(crate::specs::Question::best_answer))]
 fn push_best(
     alloc: Global,
     text: &mut String,
     plan: &Plan,
-    cases: &[CaseSummary],
+    settings: &[SettingSummary],
     crashed: bool,
     place: usize,
 ) -> Result<(), Memory>
-    ensures { OnOk result (string_bytes text.new ≡ string_bytes text.old ++ best_answer crashed plan.now.settings cases.now place) }
+    ensures { OnOk result (string_bytes text.new ≡ string_bytes text.old ++ best_answer crashed plan.now.swept_keys settings.now place) }
 {
     push_markup(
         text,
         "<p class=\"lead\">Yes. Of the settings that are shown to meet all of this, the best \
          is</p><ol class=\"answers\">",
     )?;
-    push_item_at(alloc, text, plan, cases, crashed, place)?;
+    push_item_at(alloc, text, plan, settings, crashed, place)?;
     push_markup(text, "</ol>\n")?;
-    push_caution_at(text, cases, place)?;
+    push_caution_at(text, settings, place)?;
     Ok(())
 }
 
-/// Appends which cases may meet all, or that none can.
+/// Appends which settings may meet all, or that none can.
 #[tactic(auto, unfolding(crate::specs::Question::unmet_answer))]
 fn push_unmet(
     alloc: Global,
     text: &mut String,
     plan: &Plan,
     wants: &[Want<'_>],
-    cases: &[CaseSummary],
+    settings: &[SettingSummary],
 ) -> Result<(), Memory>
     requires bounded { All IsBounded wants.now }
-    requires few { All HasFewRuns cases.now }
-    ensures { OnOk result (string_bytes text.new ≡ string_bytes text.old ++ unmet_answer plan.now.settings wants.now cases.now) }
+    requires few { All HasFewRuns settings.now }
+    ensures { OnOk result (string_bytes text.new ≡ string_bytes text.old ++ unmet_answer plan.now.swept_keys wants.now settings.now) }
 {
-    if is_open(wants, cases) {
-        return push_open(alloc, text, plan, wants, cases);
+    if is_open(wants, settings) {
+        return push_open(alloc, text, plan, wants, settings);
     }
     push_no_answer(text)?;
     Ok(())
 }
 
-/// Whether some case may meet all.
-fn is_open(wants: &[Want<'_>], cases: &[CaseSummary]) -> bool
+/// Whether some setting may meet all.
+fn is_open(wants: &[Want<'_>], settings: &[SettingSummary]) -> bool
     requires bounded { All IsBounded wants.now }
-    requires few { All HasFewRuns cases.now }
-    ensures { result ≡ is_open wants.now cases.now }
+    requires few { All HasFewRuns settings.now }
+    ensures { result ≡ is_open wants.now settings.now }
 {
-    for case in cases {
-        if may_meet(wants, case) {
+    for setting in settings {
+        if may_meet(wants, setting) {
             return true;
         }
     }
     false
 }
 
-/// Appends that no case can.
+/// Appends that no setting can.
 #[tactic(auto, unfolding(crate::specs::Question::no_answer))]
 fn push_no_answer(text: &mut String) -> Result<(), AllocError>
     ensures { OnOk result (string_bytes text.new ≡ string_bytes text.old ++ no_answer) }
@@ -209,18 +209,18 @@ fn push_no_answer(text: &mut String) -> Result<(), AllocError>
     )
 }
 
-/// Appends which cases may meet all.
+/// Appends which settings may meet all.
 #[tactic(auto, unfolding(crate::specs::Question::open_answer))]
 fn push_open(
     alloc: Global,
     text: &mut String,
     plan: &Plan,
     wants: &[Want<'_>],
-    cases: &[CaseSummary],
+    settings: &[SettingSummary],
 ) -> Result<(), Memory>
     requires bounded { All IsBounded wants.now }
-    requires few { All HasFewRuns cases.now }
-    ensures { OnOk result (string_bytes text.new ≡ string_bytes text.old ++ open_answer plan.now.settings wants.now cases.now) }
+    requires few { All HasFewRuns settings.now }
+    ensures { OnOk result (string_bytes text.new ≡ string_bytes text.old ++ open_answer plan.now.swept_keys wants.now settings.now) }
 {
     push_markup(
         text,
@@ -228,7 +228,7 @@ fn push_open(
          of each would decide, if its share of runs with a false death stays as it is:</p>\
          <ol class=\"answers\">",
     )?;
-    push_each_open(alloc, text, plan, wants, cases)?;
+    push_each_open(alloc, text, plan, wants, settings)?;
     push_markup(text, "</ol>\n")?;
     Ok(())
 }
@@ -239,60 +239,60 @@ fn push_each_open(
     text: &mut String,
     plan: &Plan,
     wants: &[Want<'_>],
-    cases: &[CaseSummary],
+    settings: &[SettingSummary],
 ) -> Result<(), Memory>
     requires bounded { All IsBounded wants.now }
-    requires few { All HasFewRuns cases.now }
+    requires few { All HasFewRuns settings.now }
     ensures { OnOk result (string_bytes text.new ≡ string_bytes text.old
-        ++ flat_map (open_item_at plan.now.settings wants.now cases.now) (range_with_len 0 (length cases.now))) }
+        ++ flat_map (open_item_at plan.now.swept_keys wants.now settings.now) (range_with_len 0 (length settings.now))) }
 {
-    for place in 0..cases.len() {
-        push_open_at(alloc, text, plan, wants, cases, place)?;
+    for place in 0..settings.len() {
+        push_open_at(alloc, text, plan, wants, settings, place)?;
     }
     Ok(())
 }
 
-/// Appends the case at a place, where it may meet all.
+/// Appends the setting at a place, where it may meet all.
 #[tactic(auto, unfolding(crate::specs::Question::open_item_at))]
 fn push_open_at(
     alloc: Global,
     text: &mut String,
     plan: &Plan,
     wants: &[Want<'_>],
-    cases: &[CaseSummary],
+    settings: &[SettingSummary],
     place: usize,
 ) -> Result<(), Memory>
     requires bounded { All IsBounded wants.now }
-    requires few { All HasFewRuns cases.now }
-    ensures { OnOk result (string_bytes text.new ≡ string_bytes text.old ++ open_item_at plan.now.settings wants.now cases.now place) }
+    requires few { All HasFewRuns settings.now }
+    ensures { OnOk result (string_bytes text.new ≡ string_bytes text.old ++ open_item_at plan.now.swept_keys wants.now settings.now place) }
 {
-    match cases.get(place) {
-        Some(case) => push_open_case(alloc, text, plan, wants, place, case),
+    match settings.get(place) {
+        Some(setting) => push_open_setting(alloc, text, plan, wants, place, setting),
         None => Ok(()),
     }
 }
 
-/// Appends a case, where it may meet all.
+/// Appends a setting, where it may meet all.
 #[tactic(auto, unfolding(crate::specs::Question::open_item_of))]
-fn push_open_case(
+fn push_open_setting(
     alloc: Global,
     text: &mut String,
     plan: &Plan,
     wants: &[Want<'_>],
     place: usize,
-    case: &CaseSummary,
+    setting: &SettingSummary,
 ) -> Result<(), Memory>
     requires bounded { All IsBounded wants.now }
-    requires few { HasFewRuns case.now }
-    ensures { OnOk result (string_bytes text.new ≡ string_bytes text.old ++ open_item_of plan.now.settings wants.now place case.now) }
+    requires few { HasFewRuns setting.now }
+    ensures { OnOk result (string_bytes text.new ≡ string_bytes text.old ++ open_item_of plan.now.swept_keys wants.now place setting.now) }
 {
-    if !may_meet(wants, case) {
+    if !may_meet(wants, setting) {
         return Ok(());
     }
-    push_open_item(alloc, text, plan, place, more_runs(wants, case))
+    push_open_item(alloc, text, plan, place, more_runs(wants, setting))
 }
 
-/// Appends a case that may meet all, with how many more runs would decide.
+/// Appends a setting that may meet all, with how many more runs would decide.
 #[tactic(auto, unfolding(crate::specs::Question::open_item))]
 fn push_open_item(
     alloc: Global,
@@ -301,12 +301,12 @@ fn push_open_item(
     place: usize,
     more: Option<u128>,
 ) -> Result<(), Memory>
-    ensures { OnOk result (string_bytes text.new ≡ string_bytes text.old ++ open_item plan.now.settings place more) }
+    ensures { OnOk result (string_bytes text.new ≡ string_bytes text.old ++ open_item plan.now.swept_keys place more) }
 {
     push_markup(text, "<li class=\"unknown\"><span class=\"number\">")?;
     push_number(text, place)?;
     push_markup(text, "</span><code>")?;
-    push_settings_at(alloc, text, plan, place)?;
+    push_swept_keys_at(alloc, text, plan, place)?;
     push_markup(text, "</code><span>")?;
     push_more_needed(text, more)?;
     push_markup(text, "</span></li>")?;

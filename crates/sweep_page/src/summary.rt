@@ -1,4 +1,4 @@
-//! The trade-off in words: the cases on the front.
+//! The trade-off in words: the settings on the front.
 ghost use Rattle.std.specs.Prelude.{◌≡◌, ◌-◌, ◌++◌, OnOk, length, min};
 ghost use Rattle.std.specs.List.{flat_map, range_with_len};
 ghost use Rattle.std.specs.String.{string_bytes};
@@ -8,12 +8,12 @@ use crate::front_points::FrontPoint;
 use crate::items::push_item_at;
 use base::Memory;
 use drawing::{close_figure, open_figure, push_grouped, push_markup};
-use figures::CaseSummary;
+use figures::SettingSummary;
 use std::alloc::{AllocError, Global};
 use sweep_cells::push_count;
 use sweep_plan::Plan;
 
-/// How many cases on the front are told of in words.
+/// How many settings on the front are told of in words.
 const MOST_TOLD: usize = 12;
 
 /// Appends how large the sweep is, and its trade-off. `crashed` is whether a run of it has a crash.
@@ -22,33 +22,33 @@ pub(crate) fn push_summary(
     alloc: Global,
     text: &mut String,
     plan: &Plan,
-    cases: &[CaseSummary],
+    settings: &[SettingSummary],
     crashed: bool,
     points: &[FrontPoint],
 ) -> Result<(), Memory>
-    ensures { OnOk result (string_bytes text.new ≡ string_bytes text.old ++ summary crashed plan.now cases.now points.now) }
+    ensures { OnOk result (string_bytes text.new ≡ string_bytes text.old ++ summary crashed plan.now settings.now points.now) }
 {
     open_figure(text, "trade-off", "The trade-off")?;
     push_size(text, plan)?;
-    push_front_of(alloc, text, plan, cases, crashed, points)?;
+    push_front_of(alloc, text, plan, settings, crashed, points)?;
     close_figure(text)?;
     Ok(())
 }
 
-/// Appends how many cases there are, and how often each ran.
+/// Appends how many settings there are, and how often each ran.
 #[tactic(auto, unfolding(crate::specs::Summary::size_words))]
 fn push_size(text: &mut String, plan: &Plan) -> Result<(), AllocError>
     ensures { OnOk result (string_bytes text.new ≡ string_bytes text.old ++ size_words plan.now) }
 {
     push_markup(text, "<p class=\"soft\">Settings tried: ")?;
-    push_grouped(text, plan.cases() as u64)?;
+    push_grouped(text, plan.settings() as u64)?;
     push_markup(text, ". Seeds for each: ")?;
     push_at_most(text, plan)?;
-    push_grouped(text, plan.runs_of_case() as u64)?;
+    push_grouped(text, plan.runs_of_setting() as u64)?;
     push_markup(text, ".</p>\n")
 }
 
-/// Appends that a case may have fewer seeds, where its runs end once its interval is narrow enough.
+/// Appends that a setting may have fewer seeds, where its runs end once its interval is narrow enough.
 #[tactic(auto, unfolding(crate::specs::Summary::at_most))]
 fn push_at_most(text: &mut String, plan: &Plan) -> Result<(), AllocError>
     ensures { OnOk result (string_bytes text.new ≡ string_bytes text.old ++ at_most plan.now.until) }
@@ -59,26 +59,26 @@ fn push_at_most(text: &mut String, plan: &Plan) -> Result<(), AllocError>
     }
 }
 
-/// Appends the cases on the front, or that there are none.
+/// Appends the settings on the front, or that there are none.
 #[tactic(auto, unfolding(crate::specs::Summary::front_words_of))]
 fn push_front_of(
     alloc: Global,
     text: &mut String,
     plan: &Plan,
-    cases: &[CaseSummary],
+    settings: &[SettingSummary],
     crashed: bool,
     points: &[FrontPoint],
 ) -> Result<(), Memory>
-    ensures { OnOk result (string_bytes text.new ≡ string_bytes text.old ++ front_words_of crashed plan.now.settings cases.now points.now) }
+    ensures { OnOk result (string_bytes text.new ≡ string_bytes text.old ++ front_words_of crashed plan.now.swept_keys settings.now points.now) }
 {
     if points.is_empty() {
         push_none(text, crashed)?;
         return Ok(());
     }
-    push_told(alloc, text, plan, cases, crashed, points)
+    push_told(alloc, text, plan, settings, crashed, points)
 }
 
-/// Appends that no case is on the front.
+/// Appends that no setting is on the front.
 #[tactic(auto, unfolding(crate::specs::Summary::none_words))]
 fn push_none(text: &mut String, crashed: bool) -> Result<(), AllocError>
     ensures { OnOk result (string_bytes text.new ≡ string_bytes text.old ++ none_words crashed) }
@@ -90,7 +90,7 @@ fn push_none(text: &mut String, crashed: bool) -> Result<(), AllocError>
     }
 }
 
-/// Appends that no case confirms half of its crashes.
+/// Appends that no setting confirms half of its crashes.
 #[tactic(auto, unfolding(crate::specs::Summary::unconfirmed_words))]
 fn push_unconfirmed(text: &mut String) -> Result<(), AllocError>
     ensures { OnOk result (string_bytes text.new ≡ string_bytes text.old ++ unconfirmed_words) }
@@ -108,21 +108,21 @@ fn push_momentless(text: &mut String) -> Result<(), AllocError>
     )
 }
 
-/// Appends the cases on the front, the first of them.
+/// Appends the settings on the front, the first of them.
 #[tactic(auto, unfolding(crate::specs::Summary::told_words))]
 fn push_told(
     alloc: Global,
     text: &mut String,
     plan: &Plan,
-    cases: &[CaseSummary],
+    settings: &[SettingSummary],
     crashed: bool,
     points: &[FrontPoint],
 ) -> Result<(), Memory>
-    ensures { OnOk result (string_bytes text.new ≡ string_bytes text.old ++ told_words crashed plan.now.settings cases.now points.now) }
+    ensures { OnOk result (string_bytes text.new ≡ string_bytes text.old ++ told_words crashed plan.now.swept_keys settings.now points.now) }
 {
     push_front_opening(text, crashed)?;
     push_safety_words(text)?;
-    push_first(alloc, text, plan, cases, crashed, points)?;
+    push_first(alloc, text, plan, settings, crashed, points)?;
     push_markup(text, "</ol>\n")?;
     push_rest(text, points.len())?;
     Ok(())
@@ -165,7 +165,7 @@ fn push_messages_opening(text: &mut String) -> Result<(), AllocError>
     )
 }
 
-/// Appends what the words for how safe a case is mean, and begins the list.
+/// Appends what the words for how safe a setting is mean, and begins the list.
 #[tactic(auto, unfolding(crate::specs::Summary::safety_words))]
 fn push_safety_words(text: &mut String) -> Result<(), AllocError>
     ensures { OnOk result (string_bytes text.new ≡ string_bytes text.old ++ safety_words) }
@@ -178,43 +178,43 @@ fn push_safety_words(text: &mut String) -> Result<(), AllocError>
     )
 }
 
-/// Appends the first of these cases.
+/// Appends the first of these settings.
 fn push_first(
     alloc: Global,
     text: &mut String,
     plan: &Plan,
-    cases: &[CaseSummary],
+    settings: &[SettingSummary],
     crashed: bool,
     points: &[FrontPoint],
 ) -> Result<(), Memory>
-    ensures { OnOk result (string_bytes text.new ≡ string_bytes text.old ++ flat_map (told_at crashed plan.now.settings cases.now points.now) (range_with_len 0 (min (length points.now) 12))) }
+    ensures { OnOk result (string_bytes text.new ≡ string_bytes text.old ++ flat_map (told_at crashed plan.now.swept_keys settings.now points.now) (range_with_len 0 (min (length points.now) 12))) }
 {
     for place in 0..points.len().min(MOST_TOLD) {
-        push_told_at(alloc, text, plan, cases, crashed, points, place)?;
+        push_told_at(alloc, text, plan, settings, crashed, points, place)?;
     }
     Ok(())
 }
 
-/// Appends the case at a place among them.
+/// Appends the setting at a place among them.
 #[tactic(auto, unfolding(crate::specs::Summary::told_at))]
 fn push_told_at(
     alloc: Global,
     text: &mut String,
     plan: &Plan,
-    cases: &[CaseSummary],
+    settings: &[SettingSummary],
     crashed: bool,
     points: &[FrontPoint],
     place: usize,
 ) -> Result<(), Memory>
-    ensures { OnOk result (string_bytes text.new ≡ string_bytes text.old ++ told_at crashed plan.now.settings cases.now points.now place) }
+    ensures { OnOk result (string_bytes text.new ≡ string_bytes text.old ++ told_at crashed plan.now.swept_keys settings.now points.now place) }
 {
     match points.get(place) {
-        Some(point) => push_item_at(alloc, text, plan, cases, crashed, point.place),
+        Some(point) => push_item_at(alloc, text, plan, settings, crashed, point.place),
         None => Ok(()),
     }
 }
 
-/// Appends how many of so many cases on the front aren't told of.
+/// Appends how many of so many settings on the front aren't told of.
 fn push_rest(text: &mut String, count: usize) -> Result<(), AllocError>
     ensures { OnOk result (string_bytes text.new ≡ string_bytes text.old ++ untold_words (count - 12)) }
 {

@@ -1,40 +1,40 @@
-//! The table of all cases.
+//! The table of all settings.
 ghost use Rattle.std.specs.Prelude.{◌≡◌, ◌<◌, ◌++◌, OnOk, length};
 ghost use Rattle.std.specs.List.{flat_map, range_with_len};
 ghost use Rattle.std.specs.String.{string_bytes};
-ghost use Rattle.sweep_plan.specs.Sweep.{case_count};
+ghost use Rattle.sweep_plan.specs.Sweep.{setting_count};
 ghost use Rattle.sweep_page.specs.Table.{share_cells, cost_cells, figure_cells, value_cell, value_cells, row_opening, row, row_at, key_head, table_words, figure_heads, table};
 
 use crate::front_points::is_marked;
 use base::Memory;
 use drawing::{close_figure, open_figure, push_escaped, push_markup};
-use figures::CaseSummary;
+use figures::SettingSummary;
 use std::alloc::{AllocError, Global};
 use sweep_cells::{
-    case_at, push_cell, push_deaths, push_hundredths, push_interval, push_number, push_percent,
-    push_rate, push_runs_with, push_time_cell, share_of, thousandths,
+    push_cell, push_deaths, push_hundredths, push_interval, push_number, push_percent, push_rate,
+    push_runs_with, push_time_cell, setting_at, share_of, thousandths,
 };
-use sweep_plan::{Choice, Plan, Setting};
+use sweep_plan::{Choice, Plan, Swept};
 
-/// Appends the table of all cases, those on the front marked.
+/// Appends the table of all settings, those on the front marked.
 #[tactic(auto, unfolding(crate::specs::Table::table))]
 pub(crate) fn push_table(
     alloc: Global,
     text: &mut String,
     plan: &Plan,
-    cases: &[CaseSummary],
+    settings: &[SettingSummary],
     front: &[bool],
 ) -> Result<(), Memory>
-    requires { length cases.now ≡ case_count plan.now.settings }
-    ensures { OnOk result (string_bytes text.new ≡ string_bytes text.old ++ table plan.now.settings cases.now front.now) }
+    requires { length settings.now ≡ setting_count plan.now.swept_keys }
+    ensures { OnOk result (string_bytes text.new ≡ string_bytes text.old ++ table plan.now.swept_keys settings.now front.now) }
 {
     open_figure(text, "cases", "All settings")?;
     push_table_words(text)?;
-    let settings = plan.settings();
-    push_names(alloc, text, settings)?;
+    let swept_keys = plan.swept_keys();
+    push_names(alloc, text, swept_keys)?;
     push_figure_words(text)?;
     push_markup(text, "</tr></thead><tbody>\n")?;
-    push_rows(alloc, text, plan, cases, front)?;
+    push_rows(alloc, text, plan, settings, front)?;
     push_markup(text, "</tbody></table></div>")?;
     close_figure(text)?;
     Ok(())
@@ -54,21 +54,21 @@ fn push_table_words(text: &mut String) -> Result<(), AllocError>
 }
 
 /// Appends the names of the keys as heads of columns.
-fn push_names(alloc: Global, text: &mut String, settings: &[Setting]) -> Result<(), Memory>
-    ensures { OnOk result (string_bytes text.new ≡ string_bytes text.old ++ flat_map key_head settings.now) }
+fn push_names(alloc: Global, text: &mut String, swept_keys: &[Swept]) -> Result<(), Memory>
+    ensures { OnOk result (string_bytes text.new ≡ string_bytes text.old ++ flat_map key_head swept_keys.now) }
 {
-    for setting in settings {
-        push_name(alloc, text, setting)?;
+    for swept in swept_keys {
+        push_name(alloc, text, swept)?;
     }
     Ok(())
 }
 
 /// Appends the name of a key as the head of its column.
 #[tactic(auto, unfolding(crate::specs::Table::key_head))]
-fn push_name(alloc: Global, text: &mut String, setting: &Setting) -> Result<(), Memory>
-    ensures { OnOk result (string_bytes text.new ≡ string_bytes text.old ++ key_head setting.now) }
+fn push_name(alloc: Global, text: &mut String, swept: &Swept) -> Result<(), Memory>
+    ensures { OnOk result (string_bytes text.new ≡ string_bytes text.old ++ key_head swept.now) }
 {
-    let name = setting.key().name(alloc)?;
+    let name = swept.key().name(alloc)?;
     push_markup(text, "<th scope=\"col\">")?;
     push_escaped(text, name.as_str())?;
     push_markup(text, "</th>")?;
@@ -96,66 +96,66 @@ fn push_figure_words(text: &mut String) -> Result<(), AllocError>
     )
 }
 
-/// Appends the rows of all cases.
+/// Appends the rows of all settings.
 fn push_rows(
     alloc: Global,
     text: &mut String,
     plan: &Plan,
-    cases: &[CaseSummary],
+    settings: &[SettingSummary],
     front: &[bool],
 ) -> Result<(), Memory>
-    requires { length cases.now ≡ case_count plan.now.settings }
+    requires { length settings.now ≡ setting_count plan.now.swept_keys }
     ensures { OnOk result (string_bytes text.new
-        ≡ string_bytes text.old ++ flat_map (row_at plan.now.settings cases.now front.now) (range_with_len 0 (length cases.now))) }
+        ≡ string_bytes text.old ++ flat_map (row_at plan.now.swept_keys settings.now front.now) (range_with_len 0 (length settings.now))) }
 {
-    for place in 0..cases.len() {
-        push_row_at(alloc, text, plan, cases, front, place)?;
+    for place in 0..settings.len() {
+        push_row_at(alloc, text, plan, settings, front, place)?;
     }
     Ok(())
 }
 
-/// Appends the row of the case at a place.
+/// Appends the row of the setting at a place.
 #[tactic(auto, unfolding(crate::specs::Table::row_at))]
 fn push_row_at(
     alloc: Global,
     text: &mut String,
     plan: &Plan,
-    cases: &[CaseSummary],
+    settings: &[SettingSummary],
     front: &[bool],
     place: usize,
 ) -> Result<(), Memory>
-    requires { length cases.now ≡ case_count plan.now.settings }
-    ensures { OnOk result (string_bytes text.new ≡ string_bytes text.old ++ row_at plan.now.settings cases.now front.now place) }
+    requires { length settings.now ≡ setting_count plan.now.swept_keys }
+    ensures { OnOk result (string_bytes text.new ≡ string_bytes text.old ++ row_at plan.now.swept_keys settings.now front.now place) }
 {
-    match case_at(cases, place) {
-        Some(case) => push_row(alloc, text, plan, place, &case, is_marked(front, place)),
+    match setting_at(settings, place) {
+        Some(setting) => push_row(alloc, text, plan, place, &setting, is_marked(front, place)),
         None => Ok(()),
     }
 }
 
-/// Appends the row of the case at a place, with its summary.
+/// Appends the row of the setting at a place, with its summary.
 #[tactic(auto, unfolding(crate::specs::Table::row))]
 fn push_row(
     alloc: Global,
     text: &mut String,
     plan: &Plan,
     place: usize,
-    case: &CaseSummary,
+    setting: &SettingSummary,
     marked: bool,
 ) -> Result<(), Memory>
-    requires { place < case_count plan.now.settings }
-    ensures { OnOk result (string_bytes text.new ≡ string_bytes text.old ++ row plan.now.settings place case.now marked) }
+    requires { place < setting_count plan.now.swept_keys }
+    ensures { OnOk result (string_bytes text.new ≡ string_bytes text.old ++ row plan.now.swept_keys place setting.now marked) }
 {
     push_row_opening(text, marked)?;
     push_number(text, place)?;
     push_markup(text, "</th>")?;
     push_values(alloc, text, plan, place)?;
-    push_figures(text, case)?;
+    push_figures(text, setting)?;
     push_markup(text, "</tr>\n")?;
     Ok(())
 }
 
-/// Begins a row, with a star where its case is on the front.
+/// Begins a row, with a star where its setting is on the front.
 #[tactic(auto, unfolding(crate::specs::Table::row_opening))]
 fn push_row_opening(text: &mut String, marked: bool) -> Result<(), AllocError>
     ensures { OnOk result (string_bytes text.new ≡ string_bytes text.old ++ row_opening marked) }
@@ -167,13 +167,13 @@ fn push_row_opening(text: &mut String, marked: bool) -> Result<(), AllocError>
     }
 }
 
-/// Appends the values that the case at a place gives its keys.
+/// Appends the values that the setting at a place gives its keys.
 #[tactic(auto, unfolding(crate::specs::Table::value_cells))]
 fn push_values(alloc: Global, text: &mut String, plan: &Plan, place: usize) -> Result<(), Memory>
-    requires { place < case_count plan.now.settings }
-    ensures { OnOk result (string_bytes text.new ≡ string_bytes text.old ++ value_cells plan.now.settings place) }
+    requires { place < setting_count plan.now.swept_keys }
+    ensures { OnOk result (string_bytes text.new ≡ string_bytes text.old ++ value_cells plan.now.swept_keys place) }
 {
-    let chosen = plan.case_at(alloc, place)?;
+    let chosen = plan.setting_at(alloc, place)?;
     push_chosen(alloc, text, &chosen)?;
     Ok(())
 }
@@ -198,49 +198,49 @@ fn push_value(alloc: Global, text: &mut String, choice: &Choice) -> Result<(), M
     Ok(())
 }
 
-/// Appends the figures of a case.
+/// Appends the figures of a setting.
 #[tactic(auto, unfolding(crate::specs::Table::figure_cells))]
-fn push_figures(text: &mut String, case: &CaseSummary) -> Result<(), AllocError>
-    ensures { OnOk result (string_bytes text.new ≡ string_bytes text.old ++ figure_cells case.now) }
+fn push_figures(text: &mut String, setting: &SettingSummary) -> Result<(), AllocError>
+    ensures { OnOk result (string_bytes text.new ≡ string_bytes text.old ++ figure_cells setting.now) }
 {
-    push_time_cell(text, case.confirm_p50)?;
-    push_shares(text, case)?;
-    push_time_cell(text, case.suspect_p50)?;
-    push_time_cell(text, case.confirm_p99)?;
-    push_time_cell(text, case.confirm_greatest)?;
-    push_time_cell(text, case.last_p50)?;
-    push_time_cell(text, case.last_greatest)?;
-    push_costs(text, case)
+    push_time_cell(text, setting.confirm_p50)?;
+    push_shares(text, setting)?;
+    push_time_cell(text, setting.suspect_p50)?;
+    push_time_cell(text, setting.confirm_p99)?;
+    push_time_cell(text, setting.confirm_greatest)?;
+    push_time_cell(text, setting.last_p50)?;
+    push_time_cell(text, setting.last_greatest)?;
+    push_costs(text, setting)
 }
 
-/// Appends what a case cost: false suspicions, and messages.
+/// Appends what a setting cost: false suspicions, and messages.
 #[tactic(auto, unfolding(crate::specs::Table::cost_cells))]
-fn push_costs(text: &mut String, case: &CaseSummary) -> Result<(), AllocError>
-    ensures { OnOk result (string_bytes text.new ≡ string_bytes text.old ++ cost_cells case.now) }
+fn push_costs(text: &mut String, setting: &SettingSummary) -> Result<(), AllocError>
+    ensures { OnOk result (string_bytes text.new ≡ string_bytes text.old ++ cost_cells setting.now) }
 {
     push_markup(text, "<td>")?;
-    push_hundredths(text, case.false_suspect)?;
+    push_hundredths(text, setting.false_suspect)?;
     push_markup(text, "</td><td>")?;
-    push_rate(text, case.messages)?;
+    push_rate(text, setting.messages)?;
     push_markup(text, "</td>")
 }
 
-/// Appends how often a case threw out healthy members.
+/// Appends how often a setting threw out healthy members.
 #[tactic(auto, unfolding(crate::specs::Table::share_cells))]
-pub(crate) fn push_shares(text: &mut String, case: &CaseSummary) -> Result<(), AllocError>
-    ensures { OnOk result (string_bytes text.new ≡ string_bytes text.old ++ share_cells case.now) }
+pub(crate) fn push_shares(text: &mut String, setting: &SettingSummary) -> Result<(), AllocError>
+    ensures { OnOk result (string_bytes text.new ≡ string_bytes text.old ++ share_cells setting.now) }
 {
     push_markup(text, "<td>")?;
-    push_runs_with(text, case)?;
+    push_runs_with(text, setting)?;
     push_markup(text, "</td><td>")?;
-    push_percent(text, share_of(case))?;
+    push_percent(text, share_of(setting))?;
     push_markup(text, "</td><td>")?;
     push_interval(
         text,
-        thousandths(case.share_low),
-        thousandths(case.share_high),
+        thousandths(setting.share_low),
+        thousandths(setting.share_high),
     )?;
     push_markup(text, "</td><td>")?;
-    push_deaths(text, case)?;
+    push_deaths(text, setting)?;
     push_markup(text, "</td>")
 }

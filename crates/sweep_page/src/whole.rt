@@ -2,7 +2,7 @@
 ghost use Rattle.std.specs.Prelude.{◌≡◌, ◌++◌, All, IfOk, OnOk, length};
 ghost use Rattle.std.specs.String.{string_bytes};
 ghost use Rattle.goals.specs.Wants.{HasFewRuns, IsBounded};
-ghost use Rattle.sweep_plan.specs.Sweep.{case_count};
+ghost use Rattle.sweep_plan.specs.Sweep.{setting_count};
 ghost use Rattle.sweep_page.specs.Page.{page_head, page_end, page_over, page_text, time_figures, times_where};
 ghost use Rattle.sweep_page.specs.Points.{places_of};
 ghost use Rattle.sweep_times.specs.Times.{times_figure};
@@ -15,7 +15,7 @@ use crate::summary::push_summary;
 use crate::table::push_table;
 use base::Memory;
 use drawing::{open_page, push_escaped, push_markup};
-use figures::CaseSummary;
+use figures::SettingSummary;
 use goals::has_crash;
 use std::alloc::{AllocError, Global};
 use sweep_keys::push_keys;
@@ -31,7 +31,7 @@ pub struct SweepShown<'a> {
     pub release: &'a str,
 }
 
-/// The page of a sweep, whole. It takes the summary of each case of the plan, in their order, for each
+/// The page of a sweep, whole. It takes the summary of each setting of the plan, in their order, for each
 /// whether it is on the front, and what is wanted of a setting with the place of the best that meets
 /// it. It fails where memory is refused, and then there is none.
 pub fn page(
@@ -39,25 +39,25 @@ pub fn page(
     shown: &SweepShown,
     plan: &Plan,
     question: &Question<'_>,
-    cases: &[CaseSummary],
+    settings: &[SettingSummary],
     front: &[bool],
 ) -> Result<String, Memory>
-    requires all { length cases.now ≡ case_count plan.now.settings }
+    requires all { length settings.now ≡ setting_count plan.now.swept_keys }
     requires bounded { All IsBounded question.now.wants.now }
-    requires few { All HasFewRuns cases.now }
+    requires few { All HasFewRuns settings.now }
     ensures { IfOk result (λ text. string_bytes text
-        ≡ page_text shown.now.name.now shown.now.release.now plan.now question.now.wants.now question.now.best cases.now front.now) }
+        ≡ page_text shown.now.name.now shown.now.release.now plan.now question.now.wants.now question.now.best settings.now front.now) }
 {
-    let crashed = has_crash(cases);
-    let points = front_points(alloc, cases, front, crashed)?;
+    let crashed = has_crash(settings);
+    let points = front_points(alloc, settings, front, crashed)?;
     let mut text = String::new(alloc);
     push_page(
-        alloc, &mut text, shown, plan, question, cases, front, crashed, &points,
+        alloc, &mut text, shown, plan, question, settings, front, crashed, &points,
     )?;
     Ok(text)
 }
 
-/// Appends the page, with the cases on the front in their order.
+/// Appends the page, with the settings on the front in their order.
 #[tactic(auto, unfolding(crate::specs::Page::page_over))]
 fn push_page(
     alloc: Global,
@@ -65,23 +65,23 @@ fn push_page(
     shown: &SweepShown,
     plan: &Plan,
     question: &Question<'_>,
-    cases: &[CaseSummary],
+    settings: &[SettingSummary],
     front: &[bool],
     crashed: bool,
     points: &[FrontPoint],
 ) -> Result<(), Memory>
-    requires all { length cases.now ≡ case_count plan.now.settings }
+    requires all { length settings.now ≡ setting_count plan.now.swept_keys }
     requires bounded { All IsBounded question.now.wants.now }
-    requires few { All HasFewRuns cases.now }
+    requires few { All HasFewRuns settings.now }
     ensures { OnOk result (string_bytes text.new ≡ string_bytes text.old
-        ++ page_over shown.now.name.now shown.now.release.now plan.now question.now.wants.now question.now.best cases.now front.now crashed points.now) }
+        ++ page_over shown.now.name.now shown.now.release.now plan.now question.now.wants.now question.now.best settings.now front.now crashed points.now) }
 {
     push_head(text, shown.name)?;
-    push_question(alloc, text, plan, question, cases, crashed)?;
-    push_summary(alloc, text, plan, cases, crashed, points)?;
-    push_front(alloc, text, plan, cases, front, points, crashed)?;
-    push_times_where(alloc, text, plan, cases, crashed, points)?;
-    push_table(alloc, text, plan, cases, front)?;
+    push_question(alloc, text, plan, question, settings, crashed)?;
+    push_summary(alloc, text, plan, settings, crashed, points)?;
+    push_front(alloc, text, plan, settings, front, points, crashed)?;
+    push_times_where(alloc, text, plan, settings, crashed, points)?;
+    push_table(alloc, text, plan, settings, front)?;
     push_end(text, shown.release)?;
     Ok(())
 }
@@ -92,16 +92,16 @@ fn push_times_where(
     alloc: Global,
     text: &mut String,
     plan: &Plan,
-    cases: &[CaseSummary],
+    settings: &[SettingSummary],
     crashed: bool,
     points: &[FrontPoint],
 ) -> Result<(), Memory>
-    ensures { OnOk result (string_bytes text.new ≡ string_bytes text.old ++ times_where crashed plan.now cases.now points.now) }
+    ensures { OnOk result (string_bytes text.new ≡ string_bytes text.old ++ times_where crashed plan.now settings.now points.now) }
 {
     if !crashed {
         return Ok(());
     }
-    push_time_figures(alloc, text, plan, cases, points)
+    push_time_figures(alloc, text, plan, settings, points)
 }
 
 /// Appends how times spread, and what each key changes.
@@ -110,29 +110,29 @@ fn push_time_figures(
     alloc: Global,
     text: &mut String,
     plan: &Plan,
-    cases: &[CaseSummary],
+    settings: &[SettingSummary],
     points: &[FrontPoint],
 ) -> Result<(), Memory>
-    ensures { OnOk result (string_bytes text.new ≡ string_bytes text.old ++ time_figures plan.now cases.now points.now) }
+    ensures { OnOk result (string_bytes text.new ≡ string_bytes text.old ++ time_figures plan.now settings.now points.now) }
 {
-    push_times_of(alloc, text, plan, cases, points)?;
-    push_keys(alloc, text, plan, cases)?;
+    push_times_of(alloc, text, plan, settings, points)?;
+    push_keys(alloc, text, plan, settings)?;
     Ok(())
 }
 
-/// Appends how the times to confirm of the cases on the front spread.
+/// Appends how the times to confirm of the settings on the front spread.
 fn push_times_of(
     alloc: Global,
     text: &mut String,
     plan: &Plan,
-    cases: &[CaseSummary],
+    settings: &[SettingSummary],
     points: &[FrontPoint],
 ) -> Result<(), Memory>
     ensures { OnOk result (string_bytes text.new ≡ string_bytes text.old
-        ++ times_figure plan.now.settings cases.now (places_of points.now)) }
+        ++ times_figure plan.now.swept_keys settings.now (places_of points.now)) }
 {
     let places = places_of(alloc, points)?;
-    push_times(alloc, text, plan, cases, &places)?;
+    push_times(alloc, text, plan, settings, &places)?;
     Ok(())
 }
 

@@ -10,7 +10,7 @@ use Rattle.schema.specs.declared.schema.FormatKey.{FormatKey}
 use Rattle.schema.specs.declared.schema.FormatKey.TheVariants as key
 use Rattle.sweep_plan.specs.Items.{is_letter, is_item_name, kept_name, item_text}
 use Rattle.sweep_plan.specs.Keys.{in_table, of_item, key_name, key_named, is_named, settable, listed, IsItemKey, MaySet}
-use Rattle.sweep_plan.specs.declared.keys.SettingKey.{SettingKey}
+use Rattle.sweep_plan.specs.declared.keys.SweptKey.{SweptKey}
 use Rattle.sweep_plan.proofs.Letters.{same_byte, spelling_lacks}
 use Rattle.sweep_plan.proofs.Words.{Lacks, cut_once}
 
@@ -21,10 +21,10 @@ named_each : AllByRecursion (λ k. key_named (key_name k) ≡ Some k) settable
 unfolding settable key_named key_rules_of spelling_of
 named_each = (refl, (refl, (refl, (refl, (refl, (refl, (refl, (refl, (refl, (refl, (refl, (refl, (refl, (refl, (refl, (refl, (refl, (refl, (refl, (refl, (refl, (refl, (refl, (refl, (refl, (refl, tt))))))))))))))))))))))))))
 
-pub named_itself : (k : SettingKey) → Contains settable k → key_named (key_name k) ≡ Some k
+pub named_itself : (k : SweptKey) → Contains settable k → key_named (key_name k) ≡ Some k
 named_itself k known = All-contains (λ j. key_named (key_name j) ≡ Some j) settable k (All-from_recursion (λ j. key_named (key_name j) ≡ Some j) settable named_each) known
 
-same_outside : (j k : SettingKey) → Contains settable j → Contains settable k → key_name j ≡ key_name k → j ≡ k
+same_outside : (j k : SweptKey) → Contains settable j → Contains settable k → key_name j ≡ key_name k → j ≡ k
 same_outside j k known known_too same =
     let one : Some j ≡ Some k = sym (named_itself j known) ∙ ap key_named same ∙ named_itself k known_too in
     cc
@@ -69,22 +69,22 @@ in_each : AllByRecursion (λ j. (t : FormatKey) × (x : FormatKey) × (j ≡ in_
 unfolding listed key_rules_of
 in_each = ((key.Group, key.Count, refl), ((key.Group, key.Start, refl), ((key.Path, key.Delay, refl), ((key.Path, key.Jitter, refl), ((key.Path, key.Loss, refl), ((key.Slow, key.From, refl), ((key.Slow, key.Until, refl), ((key.Slow, key.Extra, refl), ((key.Crash, key.At, refl), ((key.Cut, key.At, refl), ((key.Cut, key.Until, refl), ((key.Leave, key.At, refl), ((key.Pause, key.From, refl), ((key.Pause, key.Until, refl), tt))))))))))))))
 
-in_list : (j : SettingKey) → Contains listed j → (t : FormatKey) × (x : FormatKey) × (j ≡ in_table t x)
+in_list : (j : SweptKey) → Contains listed j → (t : FormatKey) × (x : FormatKey) × (j ≡ in_table t x)
 in_list j known =
     All-contains (λ i. (t : FormatKey) × (x : FormatKey) × (i ≡ in_table t x)) listed j
     (All-from_recursion (λ i. (t : FormatKey) × (x : FormatKey) × (i ≡ in_table t x)) listed in_each) known
 
-abbrev listed_named : List ℕ → Option SettingKey
+abbrev listed_named : List ℕ → Option SweptKey
 listed_named word = find (is_named word) listed
 
 listed_each : AllByRecursion (λ k. listed_named (key_name k) ≡ Some k) listed
 unfolding listed key_rules_of spelling_of
 listed_each = (refl, (refl, (refl, (refl, (refl, (refl, (refl, (refl, (refl, (refl, (refl, (refl, (refl, (refl, tt))))))))))))))
 
-listed_itself : (k : SettingKey) → Contains listed k → listed_named (key_name k) ≡ Some k
+listed_itself : (k : SweptKey) → Contains listed k → listed_named (key_name k) ≡ Some k
 listed_itself k known = All-contains (λ j. listed_named (key_name j) ≡ Some j) listed k (All-from_recursion (λ j. listed_named (key_name j) ≡ Some j) listed listed_each) known
 
-same_listed : (j k : SettingKey) → Contains listed j → Contains listed k → key_name j ≡ key_name k → j ≡ k
+same_listed : (j k : SweptKey) → Contains listed j → Contains listed k → key_name j ≡ key_name k → j ≡ k
 same_listed j k known known_too same =
     let one : Some j ≡ Some k = sym (listed_itself j known) ∙ ap listed_named same ∙ listed_itself k known_too in
     cc
@@ -122,7 +122,7 @@ few_each : AllByRecursion (λ k. nat_lt (dots (key_name k)) 2 ≡ true) settable
 unfolding settable key_rules_of spelling_of dots
 few_each = (refl, (refl, (refl, (refl, (refl, (refl, (refl, (refl, (refl, (refl, (refl, (refl, (refl, (refl, (refl, (refl, (refl, (refl, (refl, (refl, (refl, (refl, (refl, (refl, (refl, (refl, tt))))))))))))))))))))))))))
 
-few : (k : SettingKey) → Contains settable k → nat_lt (dots (key_name k)) 2 ≡ true
+few : (k : SweptKey) → Contains settable k → nat_lt (dots (key_name k)) 2 ≡ true
 few k known = All-contains (λ j. nat_lt (dots (key_name j)) 2 ≡ true) settable k (All-from_recursion (λ j. nat_lt (dots (key_name j)) 2 ≡ true) settable few_each) known
 
 many : (t x : FormatKey) (name : List ℕ) → is_item_name name ≡ true → 2 ≤ dots (key_name (of_item (kept_name name) (in_table t x)))
@@ -153,21 +153,21 @@ parts_same t u x y m n sound also same =
     (first.0, one.1 ∙ ap (λ l. 46 ∷ l) last.0 ∙ sym two.1, last.1)
 
 -- an item's key, by its list's name, its own and that of its item
-abbrev InParts : SettingKey → Type 0
+abbrev InParts : SweptKey → Type 0
 InParts k = (t : FormatKey) × (x : FormatKey) × (name : List ℕ) × (is_item_name name ≡ true) × Contains listed (in_table t x) × (k ≡ of_item (kept_name name) (in_table t x))
 
-in_parts : (k : SettingKey) → IsItemKey k → InParts k
+in_parts : (k : SweptKey) → IsItemKey k → InParts k
 in_parts k is =
     let at = in_list is.key is.known in
     (at.0, at.1, is.name, is.sound, subst (Contains listed) at.2 is.known, is.is ∙ ap (of_item (kept_name is.name)) at.2)
 
-same_items : (j k : SettingKey) → InParts j → InParts k → key_name j ≡ key_name k → j ≡ k
+same_items : (j k : SweptKey) → InParts j → InParts k → key_name j ≡ key_name k → j ≡ k
 same_items j k a b same =
     let parts = parts_same a.0 b.0 a.1 b.1 a.2 b.2 a.3 b.3 (sym (ap key_name a.5) ∙ same ∙ ap key_name b.5) in
     let keys : in_table a.0 a.1 ≡ in_table b.0 b.1 = same_listed (in_table a.0 a.1) (in_table b.0 b.1) a.4 b.4 (λ i. parts.0 i ++ 46 ∷ parts.2 i) in
     a.5 ∙ (λ i. of_item (kept_name (parts.1 i)) (keys i)) ∙ sym b.5
 
-unlike : (j k : SettingKey) → Contains settable j → InParts k → key_name j ≡ key_name k → ⊥
+unlike : (j k : SweptKey) → Contains settable j → InParts k → key_name j ≡ key_name k → ⊥
 unlike j k known a same =
     let less = few j known in
     let more = many a.0 a.1 a.2 a.3 in
@@ -175,7 +175,7 @@ unlike j k known a same =
     grind (arith, nat_tests)
 
 -- keys of one name are one
-pub same_key : (j k : SettingKey) → MaySet j → MaySet k → key_name j ≡ key_name k → j ≡ k
+pub same_key : (j k : SweptKey) → MaySet j → MaySet k → key_name j ≡ key_name k → j ≡ k
 same_key j k (inl a) (inl b) same = same_outside j k a b same
 same_key j k (inl a) (inr b) same = absurd (unlike j k a (in_parts k b) same)
 same_key j k (inr a) (inl b) same = absurd (unlike k j b (in_parts j a) (sym same))

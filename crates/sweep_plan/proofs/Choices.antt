@@ -1,4 +1,4 @@
--- The case at a place of all cases, setting by setting.
+-- The setting at a place of all settings, swept key by swept key.
 use Rattle.std.proofs.Common.{◌≡◌, ◌<◌, ◌+◌, ◌*◌, ◌/◌, ◌%◌, ℕ, zero, suc, Bool, true, false, cond, lit<, List, [], ◌∷◌, ◌++◌, Option, Some, None, All, option_map, map, length, get_or, sym, ap, subst, refl, ◌∙◌, arith}
 use Rattle.std.specs.List.{slice_get, flat_map, range_with_len}
 use Rattle.std.proofs.lemmas.Nat.{mul-le}
@@ -8,13 +8,13 @@ use Rattle.std.proofs.lemmas.List.Elements.{All-nil, All-cons, All-head, All-tai
 use Rattle.std.proofs.lemmas.List.{length-map, length-append, append_assoc, append-nil}
 use Rattle.std.proofs.lemmas.List.FromFn.{length-range_with_len, get_or-range_with_len}
 use Rattle.sweep_plan.specs.Axes.{value_at}
-use Rattle.sweep_plan.specs.Sweep.{KeyValues, case_count, choice_count}
-use Rattle.sweep_plan.specs.Cases.{choice_of, cases_from, cases_of, places_of}
+use Rattle.sweep_plan.specs.Sweep.{KeyValues, setting_count, choice_count}
+use Rattle.sweep_plan.specs.Settings.{choice_of, settings_from, settings_of, places_of}
 use Rattle.sweep_plan.specs.Values.{FitsToml}
-use Rattle.sweep_plan.specs.Asked.{IsSetting}
-use Rattle.sweep_plan.specs.declared.keys.SettingKey.{SettingKey}
-use Rattle.sweep_plan.specs.declared.values.SettingValue.{SettingValue}
-use Rattle.sweep_plan.specs.declared.values.SettingValue.TheVariants.{Whole}
+use Rattle.sweep_plan.specs.Asked.{IsSwept}
+use Rattle.sweep_plan.specs.declared.keys.SweptKey.{SweptKey}
+use Rattle.sweep_plan.specs.declared.values.SweptValue.{SweptValue}
+use Rattle.sweep_plan.specs.declared.values.SweptValue.TheVariants.{Whole}
 use Rattle.sweep_plan.specs.declared.choice.Choice.{Choice}
 
 -- lists joined in order, at a place in the first and at one past it
@@ -30,24 +30,24 @@ get_past (x ∷ xs) ys n = ap (slice_get (x ∷ xs ++ ys)) (sum (length xs)) ∙
     sum : (m : ℕ) → suc m + n ≡ suc (m + n)
     sum m = omega arith
 
--- pieces of one length: the place is a piece's number and a place in it
-get_piece : {A B : Type 0} (f : A → List B) (size : ℕ) → ((x : A) → length (f x) ≡ size) → (xs : List A) (q r : ℕ) (d : A) → q < length xs → r < size
+-- shards of one length: the place is a shard's number and a place in it
+get_shard : {A B : Type 0} (f : A → List B) (size : ℕ) → ((x : A) → length (f x) ≡ size) → (xs : List A) (q r : ℕ) (d : A) → q < length xs → r < size
     → slice_get (flat_map f xs) (q * size + r) ≡ slice_get (f (get_or xs q d)) r
-get_piece f size each [] q r d inside low = absurd (omega arith)
-get_piece f size each (x ∷ xs) zero r d inside low =
+get_shard f size each [] q r d inside low = absurd (omega arith)
+get_shard f size each (x ∷ xs) zero r d inside low =
     let same = each x in
     let front : zero * size + r ≡ r = ap (λ n. n + r) (zero-mul size) ∙ omega arith in
     ap (slice_get (f x ++ flat_map f xs)) front ∙ get_first (f x) (flat_map f xs) r (omega arith)
-get_piece f size each (x ∷ xs) (suc q) r d inside low =
+get_shard f size each (x ∷ xs) (suc q) r d inside low =
     let same = each x in
     let place : suc q * size + r ≡ length (f x) + (q * size + r) = ap (λ n. n + r) (suc-mul q size) ∙ omega arith in
-    ap (slice_get (f x ++ flat_map f xs)) place ∙ get_past (f x) (flat_map f xs) (q * size + r) ∙ get_piece f size each xs q r d (omega arith) low
+    ap (slice_get (f x ++ flat_map f xs)) place ∙ get_past (f x) (flat_map f xs) (q * size + r) ∙ get_shard f size each xs q r d (omega arith) low
 
-length_pieces : {A B : Type 0} (f : A → List B) (size : ℕ) → ((x : A) → length (f x) ≡ size) → (xs : List A) → length (flat_map f xs) ≡ length xs * size
-length_pieces f size each [] = sym (zero-mul size)
-length_pieces f size each (x ∷ xs) =
+length_shards : {A B : Type 0} (f : A → List B) (size : ℕ) → ((x : A) → length (f x) ≡ size) → (xs : List A) → length (flat_map f xs) ≡ length xs * size
+length_shards f size each [] = sym (zero-mul size)
+length_shards f size each (x ∷ xs) =
     let here = each x in
-    let rest = length_pieces f size each xs in
+    let rest = length_shards f size each xs in
     length-append (f x) (flat_map f xs) ∙ omega (arith, here, rest, suc-mul (length xs) size)
 
 -- a key has as many places as it leaves choices
@@ -58,91 +58,91 @@ place_many place s = by s.together
     by true = refl
     by false = length-range_with_len 0 (length s.values)
 
--- the cases in which a key has its value at a place
+-- the settings in which a key has its value at a place
 abbrev with_value : KeyValues → List KeyValues → ℕ → List (List Choice)
-with_value s more at = map (λ case. choice_of s.key (value_at s at) ∷ case) (cases_from at more)
+with_value s more at = map (λ setting. choice_of s.key (value_at s at) ∷ setting) (settings_from at more)
 
--- there are as many cases as are counted
-length-cases_from : (place : ℕ) (settings : List KeyValues) → length (cases_from place settings) ≡ case_count settings
-length-cases_from place [] = refl
-length-cases_from place (s ∷ more) =
-    length_pieces (with_value s more) (case_count more) (λ at. length-map (cases_from at more) (λ case. choice_of s.key (value_at s at) ∷ case) ∙ length-cases_from at more) (places_of place s)
-    ∙ ap (λ n. n * case_count more) (place_many place s)
+-- there are as many settings as are counted
+length-settings_from : (place : ℕ) (swept_keys : List KeyValues) → length (settings_from place swept_keys) ≡ setting_count swept_keys
+length-settings_from place [] = refl
+length-settings_from place (s ∷ more) =
+    length_shards (with_value s more) (setting_count more) (λ at. length-map (settings_from at more) (λ setting. choice_of s.key (value_at s at) ∷ setting) ∙ length-settings_from at more) (places_of place s)
+    ∙ ap (λ n. n * setting_count more) (place_many place s)
 
-pub length-cases_of : (settings : List KeyValues) → length (cases_of settings) ≡ case_count settings
-length-cases_of settings = length-cases_from 0 settings
+pub length-settings_of : (swept_keys : List KeyValues) → length (settings_of swept_keys) ≡ setting_count swept_keys
+length-settings_of swept_keys = length-settings_from 0 swept_keys
 
 maps_twice : {A B C : Type 0} (g : B → C) (f : A → B) (o : Option A) → option_map g (option_map f o) ≡ option_map (λ x. g (f x)) o
 maps_twice g f None = refl
 maps_twice g f (Some x) = refl
 
--- a case of the first setting and those after it
-first_choice : (place : ℕ) (s : KeyValues) (more : List KeyValues) (q r : ℕ) → q < length (places_of place s) → r < case_count more
-    → slice_get (cases_from place (s ∷ more)) (q * case_count more + r)
-    ≡ option_map (λ case. choice_of s.key (value_at s (get_or (places_of place s) q 0)) ∷ case) (slice_get (cases_from (get_or (places_of place s) q 0) more) r)
+-- a setting of the first swept key and those after it
+first_choice : (place : ℕ) (s : KeyValues) (more : List KeyValues) (q r : ℕ) → q < length (places_of place s) → r < setting_count more
+    → slice_get (settings_from place (s ∷ more)) (q * setting_count more + r)
+    ≡ option_map (λ setting. choice_of s.key (value_at s (get_or (places_of place s) q 0)) ∷ setting) (slice_get (settings_from (get_or (places_of place s) q 0) more) r)
 first_choice place s more q r inside low =
     let at = get_or (places_of place s) q 0 in
-    get_piece (with_value s more) (case_count more) (λ at. length-map (cases_from at more) (λ case. choice_of s.key (value_at s at) ∷ case) ∙ length-cases_from at more) (places_of place s) q r 0 inside low
-    ∙ slice_get-map (λ case. choice_of s.key (value_at s at) ∷ case) (cases_from at more) r
+    get_shard (with_value s more) (setting_count more) (λ at. length-map (settings_from at more) (λ setting. choice_of s.key (value_at s at) ∷ setting) ∙ length-settings_from at more) (places_of place s) q r 0 inside low
+    ∙ slice_get-map (λ setting. choice_of s.key (value_at s at) ∷ setting) (settings_from at more) r
 
--- what was chosen so far, the place of the last key's value, and the place among the cases of the settings that are left
-pub record AtPlace (settings : List KeyValues) (n : ℕ) (chosen : List Choice) (left : List KeyValues) (at below place : ℕ) : Type 0 where
-  pub counted : below ≡ case_count left
+-- what was chosen so far, the place of the last key's value, and the place among the settings of the swept keys that are left
+pub record AtPlace (swept_keys : List KeyValues) (n : ℕ) (chosen : List Choice) (left : List KeyValues) (at below place : ℕ) : Type 0 where
+  pub counted : below ≡ setting_count left
   pub low : place < below
-  pub here : slice_get (cases_of settings) n ≡ option_map (λ rest. chosen ++ rest) (slice_get (cases_from at left) place)
+  pub here : slice_get (settings_of swept_keys) n ≡ option_map (λ rest. chosen ++ rest) (slice_get (settings_from at left) place)
 
-pub at_first : (settings : List KeyValues) (n cases : ℕ) → cases ≡ case_count settings → n < cases → AtPlace settings n [] settings 0 cases n
-at_first settings n cases counted low = record { counted = counted; low = low; here = sym (same (slice_get (cases_of settings) n)) }
+pub at_first : (swept_keys : List KeyValues) (n settings : ℕ) → settings ≡ setting_count swept_keys → n < settings → AtPlace swept_keys n [] swept_keys 0 settings n
+at_first swept_keys n settings counted low = record { counted = counted; low = low; here = sym (same (slice_get (settings_of swept_keys) n)) }
   where
     same : (o : Option (List Choice)) → option_map (λ rest. [] ++ rest) o ≡ o
     same None = refl
-    same (Some case) = refl
+    same (Some setting) = refl
 
-pub at_last : (settings : List KeyValues) (n : ℕ) (chosen : List Choice) (at below place : ℕ) → AtPlace settings n chosen [] at below place → slice_get (cases_of settings) n ≡ Some chosen
-at_last settings n chosen at below place is =
+pub at_last : (swept_keys : List KeyValues) (n : ℕ) (chosen : List Choice) (at below place : ℕ) → AtPlace swept_keys n chosen [] at below place → slice_get (settings_of swept_keys) n ≡ Some chosen
+at_last swept_keys n chosen at below place is =
     let counted : below ≡ 1 = is.counted in
     let low = is.low in
     let first : place ≡ 0 = omega arith in
-    is.here ∙ ap (λ p. option_map (λ rest. chosen ++ rest) (slice_get (cases_from at []) p)) first ∙ ap Some (append-nil chosen)
+    is.here ∙ ap (λ p. option_map (λ rest. chosen ++ rest) (slice_get (settings_from at []) p)) first ∙ ap Some (append-nil chosen)
 
--- the next setting has its value at the place that is a quotient among its places, and the remainder is the place among the rest
-next_at : (settings : List KeyValues) (n : ℕ) (chosen : List Choice) (s : KeyValues) (more : List KeyValues) (at below place next new q r : ℕ) → AtPlace settings n chosen (s ∷ more) at below place
-    → next ≡ case_count more → q * next + r ≡ place → q < length (places_of at s) → get_or (places_of at s) q 0 ≡ new → r < next
-    → AtPlace settings n (chosen ++ choice_of s.key (value_at s new) ∷ []) more new next r
-next_at settings n chosen s more at below place next new q r is counted split inside here low =
-    let less : r < case_count more = subst (λ m. r < m) counted low in
-    let place_is : place ≡ q * case_count more + r = sym split ∙ ap (λ m. q * m + r) counted in
+-- the next swept key has its value at the place that is a quotient among its places, and the remainder is the place among the rest
+next_at : (swept_keys : List KeyValues) (n : ℕ) (chosen : List Choice) (s : KeyValues) (more : List KeyValues) (at below place next new q r : ℕ) → AtPlace swept_keys n chosen (s ∷ more) at below place
+    → next ≡ setting_count more → q * next + r ≡ place → q < length (places_of at s) → get_or (places_of at s) q 0 ≡ new → r < next
+    → AtPlace swept_keys n (chosen ++ choice_of s.key (value_at s new) ∷ []) more new next r
+next_at swept_keys n chosen s more at below place next new q r is counted split inside here low =
+    let less : r < setting_count more = subst (λ m. r < m) counted low in
+    let place_is : place ≡ q * setting_count more + r = sym split ∙ ap (λ m. q * m + r) counted in
     record {
       counted = counted;
       low = low;
       here = is.here
-          ∙ ap (λ p. option_map (λ rest. chosen ++ rest) (slice_get (cases_from at (s ∷ more)) p)) place_is
+          ∙ ap (λ p. option_map (λ rest. chosen ++ rest) (slice_get (settings_from at (s ∷ more)) p)) place_is
           ∙ ap (option_map (λ rest. chosen ++ rest)) (first_choice at s more q r inside less)
-          ∙ ap (λ a. option_map (λ rest. chosen ++ rest) (option_map (λ case. choice_of s.key (value_at s a) ∷ case) (slice_get (cases_from a more) r))) here
-          ∙ maps_twice (λ rest. chosen ++ rest) (λ case. choice_of s.key (value_at s new) ∷ case) (slice_get (cases_from new more) r)
-          ∙ joined (slice_get (cases_from new more) r);
+          ∙ ap (λ a. option_map (λ rest. chosen ++ rest) (option_map (λ setting. choice_of s.key (value_at s a) ∷ setting) (slice_get (settings_from a more) r))) here
+          ∙ maps_twice (λ rest. chosen ++ rest) (λ setting. choice_of s.key (value_at s new) ∷ setting) (slice_get (settings_from new more) r)
+          ∙ joined (slice_get (settings_from new more) r);
     }
   where
-    joined : (o : Option (List Choice)) → option_map (λ case. chosen ++ choice_of s.key (value_at s new) ∷ case) o ≡ option_map (λ rest. (chosen ++ choice_of s.key (value_at s new) ∷ []) ++ rest) o
+    joined : (o : Option (List Choice)) → option_map (λ setting. chosen ++ choice_of s.key (value_at s new) ∷ setting) o ≡ option_map (λ rest. (chosen ++ choice_of s.key (value_at s new) ∷ []) ++ rest) o
     joined None = refl
-    joined (Some case) = ap Some (sym (append_assoc chosen (choice_of s.key (value_at s new) ∷ []) case))
+    joined (Some setting) = ap Some (sym (append_assoc chosen (choice_of s.key (value_at s new) ∷ []) setting))
 
 -- a key that goes together with the one before has its value at the same place
-pub at_together : (settings : List KeyValues) (n : ℕ) (chosen : List Choice) (s : KeyValues) (more : List KeyValues) (at below place : ℕ) → AtPlace settings n chosen (s ∷ more) at below place
-    → s.together ≡ true → AtPlace settings n (chosen ++ choice_of s.key (value_at s at) ∷ []) more at below place
-at_together settings n chosen s more at below place is together =
+pub at_together : (swept_keys : List KeyValues) (n : ℕ) (chosen : List Choice) (s : KeyValues) (more : List KeyValues) (at below place : ℕ) → AtPlace swept_keys n chosen (s ∷ more) at below place
+    → s.together ≡ true → AtPlace swept_keys n (chosen ++ choice_of s.key (value_at s at) ∷ []) more at below place
+at_together swept_keys n chosen s more at below place is together =
     let places : places_of at s ≡ at ∷ [] = ap (λ b. cond b (at ∷ []) (range_with_len 0 (length s.values))) together in
     let one : choice_count s ≡ 1 = ap (λ b. cond b 1 (length s.values)) together in
-    let counted : below ≡ case_count more = is.counted ∙ ap (λ n. n * case_count more) one ∙ omega arith in
-    next_at settings n chosen s more at below place below at 0 place is counted (omega (arith, zero-mul below)) (subst (λ (l : List ℕ). 0 < length l) (sym places) (lit< tt)) (ap (λ (l : List ℕ). get_or l 0 0) places) is.low
+    let counted : below ≡ setting_count more = is.counted ∙ ap (λ n. n * setting_count more) one ∙ omega arith in
+    next_at swept_keys n chosen s more at below place below at 0 place is counted (omega (arith, zero-mul below)) (subst (λ (l : List ℕ). 0 < length l) (sym places) (lit< tt)) (ap (λ (l : List ℕ). get_or l 0 0) places) is.low
 
 -- any other: its number of values divides what is below, and quotient and remainder by what is then below are its value's place and the place among the rest
-pub at_apart : (settings : List KeyValues) (n : ℕ) (chosen : List Choice) (s : KeyValues) (more : List KeyValues) (at below place next q r : ℕ) → AtPlace settings n chosen (s ∷ more) at below place
-    → s.together ≡ false → next ≡ case_count more → q * next + r ≡ place → q < length s.values → r < next → AtPlace settings n (chosen ++ choice_of s.key (value_at s q) ∷ []) more q next r
-at_apart settings n chosen s more at below place next q r is apart counted split inside low =
+pub at_apart : (swept_keys : List KeyValues) (n : ℕ) (chosen : List Choice) (s : KeyValues) (more : List KeyValues) (at below place next q r : ℕ) → AtPlace swept_keys n chosen (s ∷ more) at below place
+    → s.together ≡ false → next ≡ setting_count more → q * next + r ≡ place → q < length s.values → r < next → AtPlace swept_keys n (chosen ++ choice_of s.key (value_at s q) ∷ []) more q next r
+at_apart swept_keys n chosen s more at below place next q r is apart counted split inside low =
     let places : places_of at s ≡ range_with_len 0 (length s.values) = ap (λ b. cond b (at ∷ []) (range_with_len 0 (length s.values))) apart in
     let many : length (places_of at s) ≡ length s.values = ap length places ∙ length-range_with_len 0 (length s.values) in
-    next_at settings n chosen s more at below place next q q r is counted split (omega (arith, many, inside))
+    next_at swept_keys n chosen s more at below place next q q r is counted split (omega (arith, many, inside))
     (ap (λ (l : List ℕ). get_or l q 0) places ∙ get_or-range_with_len 0 (length s.values) q 0 inside ∙ omega arith) low
 
 -- the place of the next value, and that among the rest, are below their bounds
@@ -157,61 +157,61 @@ place_low (suc size) (suc more) below left is low =
     let rest : left % suc more < suc more = mod-lt left (omega arith) in
     (divided, subst (λ n. left / n < suc size) (sym divided) inside, subst (λ n. left % n < n) (sym divided) rest)
 
--- ---- each value of a case fits
+-- ---- each value of a setting fits
 
 abbrev AllFit : List Choice → Type 0
-AllFit case = All (λ (c : Choice). FitsToml c.value) case
+AllFit setting = All (λ (c : Choice). FitsToml c.value) setting
 
 -- a value at any place fits
 value_fits : (s : KeyValues) (at : ℕ) → All FitsToml s.values → FitsToml (value_at s at)
 value_fits s at fit = by s.values at fit
   where
-    by : (vs : List SettingValue) (k : ℕ) → All FitsToml vs → FitsToml (get_or vs k (Whole 0))
+    by : (vs : List SweptValue) (k : ℕ) → All FitsToml vs → FitsToml (get_or vs k (Whole 0))
     by [] k fit = lit< tt
     by (v ∷ vs) zero fit = All-head FitsToml v vs fit
     by (v ∷ vs) (suc k) fit = by vs k (All-tail FitsToml v vs fit)
 
-with_first : (k : SettingKey) (v : SettingValue) (cases : List (List Choice)) → FitsToml v → All AllFit cases → All AllFit (map (λ case. choice_of k v ∷ case) cases)
-with_first k v cases fits rest =
-    All-map AllFit (λ case. choice_of k v ∷ case) cases
-    (All-weaker AllFit (λ case. AllFit (choice_of k v ∷ case)) (λ case more. All-cons (λ (c : Choice). FitsToml c.value) (choice_of k v) case fits more) cases rest)
+with_first : (k : SweptKey) (v : SweptValue) (settings : List (List Choice)) → FitsToml v → All AllFit settings → All AllFit (map (λ setting. choice_of k v ∷ setting) settings)
+with_first k v settings fits rest =
+    All-map AllFit (λ setting. choice_of k v ∷ setting) settings
+    (All-weaker AllFit (λ setting. AllFit (choice_of k v ∷ setting)) (λ setting more. All-cons (λ (c : Choice). FitsToml c.value) (choice_of k v) setting fits more) settings rest)
 
-with_each : (s : KeyValues) (more : List KeyValues) (places : List ℕ) → All FitsToml s.values → ((at : ℕ) → All AllFit (cases_from at more)) → All AllFit (flat_map (with_value s more) places)
+with_each : (s : KeyValues) (more : List KeyValues) (places : List ℕ) → All FitsToml s.values → ((at : ℕ) → All AllFit (settings_from at more)) → All AllFit (flat_map (with_value s more) places)
 with_each s more [] fit rest = All-nil AllFit
 with_each s more (at ∷ places) fit rest =
     All-append AllFit (with_value s more at) (flat_map (with_value s more) places)
-    (with_first s.key (value_at s at) (cases_from at more) (value_fits s at fit) (rest at)) (with_each s more places fit rest)
+    (with_first s.key (value_at s at) (settings_from at more) (value_fits s at fit) (rest at)) (with_each s more places fit rest)
 
-all_fit : (place : ℕ) (settings : List KeyValues) → All IsSetting settings → All AllFit (cases_from place settings)
+all_fit : (place : ℕ) (swept_keys : List KeyValues) → All IsSwept swept_keys → All AllFit (settings_from place swept_keys)
 all_fit place [] sound = All-cons AllFit [] [] (All-nil (λ (c : Choice). FitsToml c.value)) (All-nil AllFit)
-all_fit place (s ∷ more) sound = with_each s more (places_of place s) (All-head IsSetting s more sound).fit (λ at. all_fit at more (All-tail IsSetting s more sound))
+all_fit place (s ∷ more) sound = with_each s more (places_of place s) (All-head IsSwept s more sound).fit (λ at. all_fit at more (All-tail IsSwept s more sound))
 
-pub case_fits : (settings : List KeyValues) (place : ℕ) (case : List Choice) → slice_get (cases_of settings) place ≡ Some case → All IsSetting settings → All (λ (c : Choice). FitsToml c.value) case
-case_fits settings place case at sound =
-    let inside : place < length (cases_of settings) = slice_get_within (cases_of settings) place case at in
-    let here : get_or (cases_of settings) place [] ≡ case = get_or_from_slice_get (cases_of settings) place case [] at in
-    subst AllFit here (all_fit 0 settings sound place [] inside)
+pub setting_fits : (swept_keys : List KeyValues) (place : ℕ) (setting : List Choice) → slice_get (settings_of swept_keys) place ≡ Some setting → All IsSwept swept_keys → All (λ (c : Choice). FitsToml c.value) setting
+setting_fits swept_keys place setting at sound =
+    let inside : place < length (settings_of swept_keys) = slice_get_within (settings_of swept_keys) place setting at in
+    let here : get_or (settings_of swept_keys) place [] ≡ setting = get_or_from_slice_get (settings_of swept_keys) place setting [] at in
+    subst AllFit here (all_fit 0 swept_keys sound place [] inside)
 
--- ---- each case has a value for each key
+-- ---- each setting has a value for each key
 
-long_each : (s : KeyValues) (more : List KeyValues) (n : ℕ) (places : List ℕ) → ((at : ℕ) → All (λ (chosen : List Choice). length chosen ≡ n) (cases_from at more))
+long_each : (s : KeyValues) (more : List KeyValues) (n : ℕ) (places : List ℕ) → ((at : ℕ) → All (λ (chosen : List Choice). length chosen ≡ n) (settings_from at more))
     → All (λ (chosen : List Choice). length chosen ≡ suc n) (flat_map (with_value s more) places)
 long_each s more n [] rest = All-nil (λ (chosen : List Choice). length chosen ≡ suc n)
 long_each s more n (at ∷ places) rest =
     All-append (λ (chosen : List Choice). length chosen ≡ suc n) (with_value s more at) (flat_map (with_value s more) places)
-    (All-map (λ (chosen : List Choice). length chosen ≡ suc n) (λ case. choice_of s.key (value_at s at) ∷ case) (cases_from at more)
-    (All-weaker (λ (chosen : List Choice). length chosen ≡ n) (λ (chosen : List Choice). suc (length chosen) ≡ suc n) (λ chosen is. ap suc is) (cases_from at more) (rest at)))
+    (All-map (λ (chosen : List Choice). length chosen ≡ suc n) (λ setting. choice_of s.key (value_at s at) ∷ setting) (settings_from at more)
+    (All-weaker (λ (chosen : List Choice). length chosen ≡ n) (λ (chosen : List Choice). suc (length chosen) ≡ suc n) (λ chosen is. ap suc is) (settings_from at more) (rest at)))
     (long_each s more n places rest)
 
-pub cases_long : (place : ℕ) (settings : List KeyValues) → All (λ (chosen : List Choice). length chosen ≡ length settings) (cases_from place settings)
-cases_long place [] = All-cons (λ (chosen : List Choice). length chosen ≡ 0) [] [] refl (All-nil (λ (chosen : List Choice). length chosen ≡ 0))
-cases_long place (s ∷ more) = long_each s more (length more) (places_of place s) (λ at. cases_long at more)
+pub settings_long : (place : ℕ) (swept_keys : List KeyValues) → All (λ (chosen : List Choice). length chosen ≡ length swept_keys) (settings_from place swept_keys)
+settings_long place [] = All-cons (λ (chosen : List Choice). length chosen ≡ 0) [] [] refl (All-nil (λ (chosen : List Choice). length chosen ≡ 0))
+settings_long place (s ∷ more) = long_each s more (length more) (places_of place s) (λ at. settings_long at more)
 
--- ---- there is a case
+-- ---- there is a setting
 
-pub cases_some : (settings : List KeyValues) → All IsSetting settings → 0 < case_count settings
-cases_some [] sound = lit< tt
-cases_some (s ∷ more) sound = omega (arith, mul-le 1 1 (choice_count s) (case_count more) (by s.together (All-head IsSetting s more sound).some) (cases_some more (All-tail IsSetting s more sound)))
+pub settings_some : (swept_keys : List KeyValues) → All IsSwept swept_keys → 0 < setting_count swept_keys
+settings_some [] sound = lit< tt
+settings_some (s ∷ more) sound = omega (arith, mul-le 1 1 (choice_count s) (setting_count more) (by s.together (All-head IsSwept s more sound).some) (settings_some more (All-tail IsSwept s more sound)))
   where
     by : (b : Bool) → 0 < length s.values → 0 < cond b 1 (length s.values)
     by true some = lit< tt

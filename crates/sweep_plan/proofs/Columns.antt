@@ -14,10 +14,10 @@ use Rattle.sweep_plan.specs.Axes.{axes_of, goes_on, place_count, value_at}
 use Rattle.sweep_plan.specs.Keys.{key_name, IsKeyNamed, MaySet}
 use Rattle.sweep_plan.specs.Values.{value_text, FitsToml, IsValue}
 use Rattle.sweep_plan.specs.Sweep.{KeyValues}
-use Rattle.sweep_plan.specs.Asked.{axis_text, names_text, parts_of, values_text, AreAxes, AreColumns, AreNames, AreValuesAt, IsColumn, IsLevel, IsSetting, RefusesAxis, RefusesColumns, RefusesNames, RefusesValuesAt}
-use Rattle.sweep_plan.specs.declared.keys.SettingKey.{SettingKey}
-use Rattle.sweep_plan.specs.declared.values.SettingValue.{SettingValue}
-use Rattle.sweep_plan.specs.declared.values.SettingValue.TheVariants.{Whole, Switch}
+use Rattle.sweep_plan.specs.Asked.{axis_text, names_text, parts_of, values_text, AreAxes, AreColumns, AreNames, AreValuesAt, IsColumn, IsLevel, IsSwept, RefusesAxis, RefusesColumns, RefusesNames, RefusesValuesAt}
+use Rattle.sweep_plan.specs.declared.keys.SweptKey.{SweptKey}
+use Rattle.sweep_plan.specs.declared.values.SweptValue.{SweptValue}
+use Rattle.sweep_plan.specs.declared.values.SweptValue.TheVariants.{Whole, Switch}
 use Rattle.sweep_plan.specs.declared.fault.PlanFault.{PlanFault}
 use Rattle.sweep_plan.specs.declared.fault.PlanFault.TheVariants.{Words, Memory}
 use Rattle.sweep_plan.proofs.Apart.{same_key}
@@ -35,7 +35,7 @@ later k = grind (arith, nat_tests)
 
 -- ---- which bytes words have
 
-plus_lacks : (v : SettingValue) → FitsToml v → Lacks 43 (value_text v)
+plus_lacks : (v : SweptValue) → FitsToml v → Lacks 43 (value_text v)
 plus_lacks (Whole n) low = decimal_lacks n 43 (omega arith) (lit< tt)
 plus_lacks (Switch true) low = lacks_from_test 43 (codes "true") refl
 plus_lacks (Switch false) low = lacks_from_test 43 (codes "false") refl
@@ -48,19 +48,19 @@ lacks_joined c byte (part ∷ next ∷ parts) other lacks =
     (All-cons (λ x. (x == c) ≡ false) byte (join_with_byte byte (next ∷ parts)) other (lacks_joined c byte (next ∷ parts) other (All-tail (Lacks c) part (next ∷ parts) lacks)))
 
 -- what holds of each key's name
-pub named_each : (P : List ℕ → Type 0) → ((k : SettingKey) → P (key_name k)) → (axis : List KeyValues) → All P (map (λ s. key_name s.key) axis)
+pub named_each : (P : List ℕ → Type 0) → ((k : SweptKey) → P (key_name k)) → (axis : List KeyValues) → All P (map (λ s. key_name s.key) axis)
 named_each P holds axis = All-map P (λ s. key_name s.key) axis (λ k d inside. holds (get_or axis k d).key)
 
 -- the values at a place, one by one
 abbrev pub row_of : List KeyValues → ℕ → List (List ℕ)
 row_of axis place = map (λ s. value_text (value_at s place)) axis
 
-at_fits : (vs : List SettingValue) (k : ℕ) → All FitsToml vs → FitsToml (get_or vs k (Whole 0))
+at_fits : (vs : List SweptValue) (k : ℕ) → All FitsToml vs → FitsToml (get_or vs k (Whole 0))
 at_fits [] k fit = lit< tt
 at_fits (v ∷ vs) zero fit = All-head FitsToml v vs fit
 at_fits (v ∷ vs) (suc k) fit = at_fits vs k (All-tail FitsToml v vs fit)
 
-pub row_each : (P : List ℕ → Type 0) → ((v : SettingValue) → FitsToml v → P (value_text v)) → (axis : List KeyValues) (place : ℕ) → All IsSetting axis → All P (row_of axis place)
+pub row_each : (P : List ℕ → Type 0) → ((v : SweptValue) → FitsToml v → P (value_text v)) → (axis : List KeyValues) (place : ℕ) → All IsSwept axis → All P (row_of axis place)
 row_each P holds axis place sound = All-map P (λ s. value_text (value_at s place)) axis (λ k d inside. holds (value_at (get_or axis k d) place) (at_fits (get_or axis k d).values place (sound k d inside).fit))
 
 -- ---- the parts of an axis's word
@@ -81,7 +81,7 @@ row_at axis j d inside =
 
 first_some : (axis : List KeyValues) → IsAxis axis → 0 < place_count axis
 first_some [] is = let some = is.some in absurd (omega arith)
-first_some (s ∷ more) is = (All-head IsSetting s more is.sound).some
+first_some (s ∷ more) is = (All-head IsSwept s more is.sound).some
 
 module _ (axis : List KeyValues) (is : IsAxis axis) where
   row_parts : (j : ℕ) → parts_of (values_text axis j) ≡ row_of axis j
@@ -147,7 +147,7 @@ module _ (axis : List KeyValues) (is : IsAxis axis) where
   are_columns = record { set = refl; each = λ k d inside. column k d inside }
 
 -- an axis's word lacks what its names and values lack
-pub axis_lacks : (c : ℕ) → (43 == c) ≡ false → (44 == c) ≡ false → (61 == c) ≡ false → ((k : SettingKey) → Lacks c (key_name k)) → ((v : SettingValue) → FitsToml v → Lacks c (value_text v)) → (axis : List KeyValues) → IsAxis axis
+pub axis_lacks : (c : ℕ) → (43 == c) ≡ false → (44 == c) ≡ false → (61 == c) ≡ false → ((k : SweptKey) → Lacks c (key_name k)) → ((v : SweptValue) → FitsToml v → Lacks c (value_text v)) → (axis : List KeyValues) → IsAxis axis
     → Lacks c (axis_text axis)
 axis_lacks c plus comma equals names values axis is =
     All-append (λ x. (x == c) ≡ false) (names_text axis) (61 ∷ join_with_byte 44 (rows_of axis))
@@ -158,7 +158,7 @@ axis_lacks c plus comma equals names values axis is =
 
 -- ---- what was read of a word is its axis
 
-module _ (word names list : List ℕ) (keys : List SettingKey) (axis : List KeyValues) (parted : word ≡ names ++ 61 ∷ list) (named : AreNames (parts_of names) keys)
+module _ (word names list : List ℕ) (keys : List SweptKey) (axis : List KeyValues) (parted : word ≡ names ++ 61 ∷ list) (named : AreNames (parts_of names) keys)
     (are : AreColumns (length keys) keys (list_items list) axis) where
   as_many : length axis ≡ length keys
   as_many = sym (length-map axis (λ s. s.key)) ∙ ap length are.set
@@ -204,7 +204,7 @@ module _ (word names list : List ℕ) (keys : List SettingKey) (axis : List KeyV
       ∙ get_or-map (λ item. get_or (parts_of item) k []) (list_items list) j [] [] low
       ∙ get_or_default (parts_of (get_or (list_items list) j [])) k [] e (let all = as_many in omega (arith, even, within, all)))
     where
-      no_key : (keys : List SettingKey) → 0 < length keys → SettingKey
+      no_key : (keys : List SweptKey) → 0 < length keys → SweptKey
       no_key [] some = absurd (omega arith)
       no_key (k ∷ more) some = k
 
@@ -232,7 +232,7 @@ module _ (word names list : List ℕ) (keys : List SettingKey) (axis : List KeyV
       let count = length-map axis (λ (s : KeyValues). s.key) in
       subst MaySet (get_or-map (λ (s : KeyValues). s.key) axis k d d.key inside) (all k d.key (omega (arith, count, inside)))
 
-  sound : All IsSetting axis
+  sound : All IsSwept axis
   sound k d inside =
       let size = long k d inside in
       let some = some_items in
@@ -254,7 +254,7 @@ module _ (word names list : List ℕ) (keys : List SettingKey) (axis : List KeyV
 
 -- ---- one word, one axis
 
-pub same_names : (js ks : List SettingKey) → All MaySet js → All MaySet ks → map key_name js ≡ map key_name ks → js ≡ ks
+pub same_names : (js ks : List SweptKey) → All MaySet js → All MaySet ks → map key_name js ≡ map key_name ks → js ≡ ks
 same_names [] [] a b same = refl
 same_names [] (k ∷ ks) a b same = let none : 0 ≡ suc (length (map key_name ks)) = ap length same in absurd (omega arith)
 same_names (j ∷ js) [] a b same = let none : suc (length (map key_name js)) ≡ 0 = ap length same in absurd (omega arith)
@@ -265,7 +265,7 @@ same_names (j ∷ js) (k ∷ ks) a b same =
     let more = same_names js ks (All-tail MaySet j js a) (All-tail MaySet k ks b) rest in
     ap (λ x. x ∷ js) one ∙ ap (λ xs. k ∷ xs) more
 
-pub same_columns : (of : ℕ) (keys : List SettingKey) (items : List (List ℕ)) (a b : List KeyValues) → AreColumns of keys items a → AreColumns of keys items b → a ≡ b
+pub same_columns : (of : ℕ) (keys : List SweptKey) (items : List (List ℕ)) (a b : List KeyValues) → AreColumns of keys items a → AreColumns of keys items b → a ≡ b
 same_columns of keys items a b one other =
     let many : length a ≡ length keys = sym (length-map a (λ (s : KeyValues). s.key)) ∙ ap length one.set in
     let count : length b ≡ length keys = sym (length-map b (λ (s : KeyValues). s.key)) ∙ ap length other.set in
@@ -283,12 +283,12 @@ pub names_lack : (axis : List KeyValues) → Lacks 61 (names_text axis)
 names_lack axis = lacks_joined 61 43 (map (λ s. key_name s.key) axis) refl (named_each (Lacks 61) (name_lacks 61 refl refl) axis)
 
 -- the first name of an axis whose names are one name
-pub one_name : (axis : List KeyValues) → IsAxis axis → (name : List ℕ) → Lacks 43 name → names_text axis ≡ name → (k : SettingKey) × MaySet k × (key_name k ≡ name)
+pub one_name : (axis : List KeyValues) → IsAxis axis → (name : List ℕ) → Lacks 43 name → names_text axis ≡ name → (k : SweptKey) × MaySet k × (key_name k ≡ name)
 one_name [] is name lacks same = let some = is.some in absurd (omega arith)
 one_name (s ∷ more) is name lacks same =
     let only : map (λ s. key_name s.key) (s ∷ more) ≡ name ∷ [] = sym (name_parts (s ∷ more) is) ∙ ap parts_of same ∙ slice_split_none (λ byte. byte == 43) name lacks in
     let first : key_name s.key ≡ name = cc in
-    (s.key, (All-head IsSetting s more is.sound).key, first)
+    (s.key, (All-head IsSwept s more is.sound).key, first)
 
 -- what the names and the list of an axis's word are
 module _ (axis : List KeyValues) (is : IsAxis axis) (names list : List ℕ) (named : names ≡ names_text axis) (listed : list ≡ join_with_byte 44 (rows_of axis)) where
@@ -299,7 +299,7 @@ module _ (axis : List KeyValues) (is : IsAxis axis) (names list : List ℕ) (nam
   columns_there = subst (λ l. AreColumns (length axis) (map (λ s. s.key) axis) l axis) (sym (ap list_items listed ∙ are_items axis is)) (are_columns axis is)
 
   -- where these are the names of keys, it is an axis of these
-  pub columns_of : (keys : List SettingKey) → AreNames (parts_of names) keys → AreColumns (length keys) keys (list_items list) axis
+  pub columns_of : (keys : List SweptKey) → AreNames (parts_of names) keys → AreColumns (length keys) keys (list_items list) axis
   columns_of keys are =
       let own = names_there in
       let same : map (λ (s : KeyValues). s.key) axis ≡ keys = same_names (map (λ s. s.key) axis) keys own.known are.known (own.written ∙ sym are.written) in
@@ -310,12 +310,12 @@ pub same_axis : (a b : List KeyValues) → IsAxis a → IsAxis b → axis_text a
 same_axis a b is also same =
     let parts = cut_once 61 (names_text a) (names_text b) (join_with_byte 44 (rows_of a)) (join_with_byte 44 (rows_of b)) (names_lack a) (names_lack b) same in
     let list = join_with_byte 44 (rows_of b) in
-    let keys : List SettingKey = map (λ s. s.key) b in
+    let keys : List SweptKey = map (λ s. s.key) b in
     let named = are_names b also in
     same_columns (length keys) keys (list_items list) a b
     (columns_of a is (names_text b) list (sym parts.0) (sym parts.1) keys named) (columns_of b also (names_text b) list refl refl keys named)
 
--- ---- the settings of one word
+-- ---- the swept keys of one word
 
 pub alone : (axis : List KeyValues) (word : List ℕ) → IsAxis axis → axis_text axis ≡ word → AreAxes (word ∷ []) axis
 alone axis word is text =
@@ -331,13 +331,13 @@ alone axis word is text =
     itself [] some follow = absurd (omega arith)
     itself (s ∷ more) some follow = one_axis s more follow
 
-lone_list : (word : List ℕ) (axes : List (List KeyValues)) (settings : List KeyValues) → map axis_text axes ≡ word ∷ [] → together axes ≡ settings → (axes ≡ settings ∷ []) × (axis_text settings ≡ word)
-lone_list word [] settings written flat = let none : ◌≡◌ {A = ℕ} 0 1 = ap length written in absurd (omega arith)
-lone_list word (axis ∷ []) settings written flat =
-    let own : axis ≡ settings = sym (append-nil axis) ∙ flat in
+lone_list : (word : List ℕ) (axes : List (List KeyValues)) (swept_keys : List KeyValues) → map axis_text axes ≡ word ∷ [] → together axes ≡ swept_keys → (axes ≡ swept_keys ∷ []) × (axis_text swept_keys ≡ word)
+lone_list word [] swept_keys written flat = let none : ◌≡◌ {A = ℕ} 0 1 = ap length written in absurd (omega arith)
+lone_list word (axis ∷ []) swept_keys written flat =
+    let own : axis ≡ swept_keys = sym (append-nil axis) ∙ flat in
     let text : axis_text axis ≡ word = cc in
     (ap (λ a. a ∷ []) own, ap axis_text (sym own) ∙ text)
-lone_list word (axis ∷ next ∷ axes) settings written flat = let many : ◌≡◌ {A = ℕ} (suc (suc (length (map axis_text axes)))) 1 = ap length written in absurd (omega arith)
+lone_list word (axis ∷ next ∷ axes) swept_keys written flat = let many : ◌≡◌ {A = ℕ} (suc (suc (length (map axis_text axes)))) 1 = ap length written in absurd (omega arith)
 
 pub lone : (word : List ℕ) (axis : List KeyValues) → AreAxes (word ∷ []) axis → IsAxis axis × (axis_text axis ≡ word)
 lone word axis are =
@@ -362,11 +362,11 @@ module _ (word : List ℕ) (axis : List KeyValues) (are : AreAxes (word ∷ []) 
     pub its_names : AreNames (parts_of names.now) (map (λ s. s.key) axis)
     its_names = names_there axis (lone word axis are).0 names.now list.now parts.0 parts.1
 
-    pub its_columns : (keys : List SettingKey) → AreNames (parts_of names.now) keys → AreColumns (length keys) keys (list_items list.now) axis
+    pub its_columns : (keys : List SweptKey) → AreNames (parts_of names.now) keys → AreColumns (length keys) keys (list_items list.now) axis
     its_columns = columns_of axis (lone word axis are).0 names.now list.now parts.0 parts.1
 
 -- what was read of a word is its axis
-pub axis_read : (word : List ℕ) (names list : Bor (List ℕ)) (parted : Option (Bor (List ℕ) × Bor (List ℕ))) (keys : List SettingKey) (axis : List KeyValues)
+pub axis_read : (word : List ℕ) (names list : Bor (List ℕ)) (parted : Option (Bor (List ℕ) × Bor (List ℕ))) (keys : List SweptKey) (axis : List KeyValues)
     → parted ≡ Some (names, list) → IsSplitOnceResult 61 word parted → AreNames (parts_of names.now) keys → AreColumns (length keys) keys (list_items list.now) axis → AreAxes (word ∷ []) axis
 axis_read word names list parted keys axis some cut named are =
     let told = rw some at (split_parts 61 word parted cut (lit< tt)) in
@@ -374,7 +374,7 @@ axis_read word names list parted keys axis some cut named are =
 
 -- ---- where a word is refused
 
-pub no_names : (names : List (List ℕ)) (k : ℕ) (word : List ℕ) → k < length names → word ≡ get_or names k word → ((key : SettingKey) → IsKeyNamed word key → ⊥) → (keys : List SettingKey) → AreNames names keys → ⊥
+pub no_names : (names : List (List ℕ)) (k : ℕ) (word : List ℕ) → k < length names → word ≡ get_or names k word → ((key : SweptKey) → IsKeyNamed word key → ⊥) → (keys : List SweptKey) → AreNames names keys → ⊥
 no_names names k word inside at none keys are =
     let count : length keys ≡ length names = sym (length-map keys key_name) ∙ ap length are.written in
     let some : 0 < length keys = omega (arith, count, inside) in
@@ -382,12 +382,12 @@ no_names names k word inside at none keys are =
     let named : key_name (get_or keys k d) ≡ word = sym (get_or-map key_name keys k d word (omega (arith, count, inside))) ∙ ap (λ l. get_or l k word) are.written ∙ sym at in
     none (get_or keys k d) (record { named = named; known = are.known k d (omega (arith, count, inside)) })
   where
-    first : (keys : List SettingKey) → 0 < length keys → SettingKey
+    first : (keys : List SweptKey) → 0 < length keys → SweptKey
     first [] some = absurd (omega arith)
     first (k ∷ more) some = k
 
 pub no_values_at : (of place : ℕ) (items : List (List ℕ)) (k : ℕ) (word : List ℕ) → k < length items → word ≡ get_or items k word
-    → (length (parts_of word) ≡ of → (v : SettingValue) → IsValue (get_or (parts_of word) place []) v → ⊥) → (values : List SettingValue) → AreValuesAt of place items values → ⊥
+    → (length (parts_of word) ≡ of → (v : SweptValue) → IsValue (get_or (parts_of word) place []) v → ⊥) → (values : List SweptValue) → AreValuesAt of place items values → ⊥
 no_values_at of place items k word inside at none values are =
     let count : length values ≡ length items = sym (length-map values value_text) ∙ ap length are.written ∙ length-map items (λ item. get_or (parts_of item) place []) in
     let within : k < length values = omega (arith, count, inside) in
@@ -401,14 +401,14 @@ pub refused_names : (word names : List ℕ) (fault : PlanFault) → ((axis : Lis
 refused_names word names Words has none = λ axis are. none (map (λ s. s.key) axis) (has axis are)
 refused_names word names Memory has none = tt
 
-pub refused_columns : (word list : List ℕ) (keys : List SettingKey) (fault : PlanFault) → ((axis : List KeyValues) → AreAxes (word ∷ []) axis → AreColumns (length keys) keys (list_items list) axis) → RefusesColumns keys (list_items list) fault
+pub refused_columns : (word list : List ℕ) (keys : List SweptKey) (fault : PlanFault) → ((axis : List KeyValues) → AreAxes (word ∷ []) axis → AreColumns (length keys) keys (list_items list) axis) → RefusesColumns keys (list_items list) fault
     → RefusesAxis word fault
 refused_columns word list keys Words has none = λ axis are. none axis (has axis are)
 refused_columns word list keys Memory has none = tt
 
 -- ---- column by column
 
-pub no_columns : (keys : List SettingKey) (items : List (List ℕ)) (place : ℕ) (fault : PlanFault) → place < length keys → RefusesValuesAt (length keys) place items fault → RefusesColumns keys items fault
+pub no_columns : (keys : List SweptKey) (items : List (List ℕ)) (place : ℕ) (fault : PlanFault) → place < length keys → RefusesValuesAt (length keys) place items fault → RefusesColumns keys items fault
 no_columns keys items place Memory inside none = tt
 no_columns keys items place Words inside none = λ axis are.
     let count : length axis ≡ length keys = sym (length-map axis (λ (s : KeyValues). s.key)) ∙ ap length are.set in
@@ -419,7 +419,7 @@ no_columns keys items place Words inside none = λ axis are.
     first [] some = absurd (omega arith)
     first (s ∷ more) some = s
 
-pub column_more : (keys : List SettingKey) (items : List (List ℕ)) (place : ℕ) (d : SettingKey) (axis : List KeyValues) (s : KeyValues) → place < length keys
+pub column_more : (keys : List SweptKey) (items : List (List ℕ)) (place : ℕ) (d : SweptKey) (axis : List KeyValues) (s : KeyValues) → place < length keys
     → AreColumns (length keys) (take place keys) items axis → s.key ≡ get_or keys place d → IsColumn (length keys) place items s → AreColumns (length keys) (take (place + 1) keys) items (axis ++ s ∷ [])
 column_more keys items place k axis s inside are key column =
     let count : length axis ≡ place = sym (length-map axis (λ (s : KeyValues). s.key)) ∙ ap length are.set ∙ length-take-le place keys (omega arith) in

@@ -1,9 +1,9 @@
--- Counting cases and runs in numbers that stop at a greatest one.
+-- Counting settings and runs in numbers that stop at a greatest one.
 use Rattle.std.proofs.Common.{◌≡◌, ◌<◌, ◌≤◌, ◌+◌, ◌*◌, ℕ, zero, suc, List, min, drop, length, get_or, sym, ap, ◌∙◌, inl, inr, arith}
 use Rattle.std.proofs.Math.Nat.{mul-zero, mul_assoc, le-mul_of_pos_right}
 use Rattle.std.proofs.lemmas.Bool.{cases_lt}
 use Rattle.std.proofs.lemmas.List.{drop_more}
-use Rattle.sweep_plan.specs.Sweep.{KeyValues, case_count, choice_count}
+use Rattle.sweep_plan.specs.Sweep.{KeyValues, setting_count, choice_count}
 
 -- a product that stops where its first factor does
 pub saturated : (a b most : ℕ) → min (min a most * b) most ≡ min (a * b) most
@@ -18,14 +18,14 @@ saturated a (suc b) most =
       | inr under ↦ ap (λ n. min (n * suc b) most) (omega arith)
     ]
 
--- one setting more
-pub counted_more : (settings : List KeyValues) (i : ℕ) (d : KeyValues) (cases most n next : ℕ) → i < length settings → n ≡ choice_count (get_or settings i d) → next ≡ min (cases * n) most
-    → min (cases * case_count (drop i settings)) most ≡ min (case_count settings) most → min (next * case_count (drop (i + 1) settings)) most ≡ min (case_count settings) most
-counted_more settings i d cases most n next inside is capped before =
-    let rest = case_count (drop (i + 1) settings) in
+-- one swept key more
+pub counted_more : (swept_keys : List KeyValues) (i : ℕ) (d : KeyValues) (settings most n next : ℕ) → i < length swept_keys → n ≡ choice_count (get_or swept_keys i d) → next ≡ min (settings * n) most
+    → min (settings * setting_count (drop i swept_keys)) most ≡ min (setting_count swept_keys) most → min (next * setting_count (drop (i + 1) swept_keys)) most ≡ min (setting_count swept_keys) most
+counted_more swept_keys i d settings most n next inside is capped before =
+    let rest = setting_count (drop (i + 1) swept_keys) in
     ap (λ m. min (m * rest) most) capped
-    ∙ saturated (cases * n) rest most
-    ∙ ap (λ m. min m most) (mul_assoc cases n rest)
-    ∙ ap (λ m. min (cases * (m * rest)) most) is
-    ∙ ap (λ left. min (cases * case_count left) most) (sym (drop_more settings i d inside))
+    ∙ saturated (settings * n) rest most
+    ∙ ap (λ m. min m most) (mul_assoc settings n rest)
+    ∙ ap (λ m. min (settings * (m * rest)) most) is
+    ∙ ap (λ left. min (settings * setting_count left) most) (sym (drop_more swept_keys i d inside))
     ∙ before

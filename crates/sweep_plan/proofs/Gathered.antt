@@ -1,4 +1,4 @@
--- Settings that are read one after the other, and why words ask for no others.
+-- Swept keys that are read one after the other, and why words ask for no others.
 use Rattle.std.proofs.Common.{◌≡◌, ◌≢◌, ◌<◌, ◌+◌, ℕ, suc, Bool, true, false, ◌&&◌, List, [], ◌∷◌, ◌++◌, Option, Some, None, Bor, All, drop, filter, map, take, length, get_or, bytes_eq, sym, ap, subst, refl, ◌∙◌, arith}
 use Rattle.std.specs.List.{list_any}
 use Rattle.std.proofs.lemmas.Bool.{false≢true, false_from_ne_true, or_from, or_parts, and_parts}
@@ -13,8 +13,8 @@ use Rattle.sweep_plan.specs.Keys.{item_part, key_name, is_same, are_same_items, 
 use Rattle.sweep_plan.specs.declared.items.ItemName.{ItemName}
 use Rattle.sweep_plan.specs.Sweep.{KeyValues}
 use Rattle.sweep_plan.specs.Axes.{axes_of, goes_on}
-use Rattle.sweep_plan.specs.Asked.{axis_text, AreApart, AreAxes, AreSettings, IsLevel, IsSetting, RefusesAxis, RefusesMore, RefusesSettings}
-use Rattle.sweep_plan.specs.declared.keys.SettingKey.{SettingKey}
+use Rattle.sweep_plan.specs.Asked.{axis_text, AreApart, AreAxes, AreSweptKeys, IsLevel, IsSwept, RefusesAxis, RefusesMore, RefusesSweptKeys}
+use Rattle.sweep_plan.specs.declared.keys.SweptKey.{SweptKey}
 use Rattle.sweep_plan.specs.declared.fault.PlanFault.{PlanFault}
 use Rattle.sweep_plan.specs.declared.fault.PlanFault.TheVariants.{Words, Memory}
 use Rattle.sweep_plan.proofs.Names.{bytes_eq_true, bytes_eq_same}
@@ -32,7 +32,7 @@ items_itself : (o : Option ItemName) → are_same_items o o ≡ true
 items_itself None = refl
 items_itself (Some item) = bytes_eq_same item.bytes item.bytes refl
 
-same_itself : (a b : SettingKey) → a ≡ b → is_same a b ≡ true
+same_itself : (a b : SweptKey) → a ≡ b → is_same a b ≡ true
 same_itself a b same =
     subst (λ k. is_same a k ≡ true) same
     (ap (λ v. (v && are_same_tables a.table a.table) && are_same_items a.item a.item) (bytes_eq_same (spelling_of a.key) (spelling_of a.key) refl)
@@ -54,13 +54,13 @@ names_by (Some s) (Some t) a b x y alike items same =
     let tables : spelling_of s ≡ spelling_of t = bytes_eq_true (spelling_of s) (spelling_of t) alike in
     (λ i. tables i ++ (items i ++ 46 ∷ same i))
 
-same_names : (a b : SettingKey) → is_same a b ≡ true → key_name a ≡ key_name b
+same_names : (a b : SweptKey) → is_same a b ≡ true → key_name a ≡ key_name b
 same_names a b alike =
     let both = and_parts (bytes_eq (spelling_of a.key) (spelling_of b.key) && are_same_tables a.table b.table) (are_same_items a.item b.item) alike in
     let parts = and_parts (bytes_eq (spelling_of a.key) (spelling_of b.key)) (are_same_tables a.table b.table) both.0 in
     names_by a.table b.table a.item b.item a.key b.key parts.1 (items_by a.item b.item both.1) (bytes_eq_true (spelling_of a.key) (spelling_of b.key) parts.0)
 
--- ---- settings of words
+-- ---- swept keys of words
 
 none_of : {A : Type 0} (p : A → Bool) (xs : List A) → list_any p xs ≡ false → All (λ x. p x ≡ false) xs
 none_of p [] none = All-nil (λ x. p x ≡ false)
@@ -80,9 +80,9 @@ same_axes (x ∷ xs) (y ∷ ys) a b same =
 pub axes_in : (words : List (List ℕ)) (ss : List KeyValues) → AreAxes words ss → All IsAxis (axes_of ss)
 axes_in words ss are = are_axes ss are.begins are.level are.sound
 
--- words ask for one list of settings
-pub same_settings : (words : List (List ℕ)) (ss ts : List KeyValues) → AreAxes words ss → AreAxes words ts → ss ≡ ts
-same_settings words ss ts a b =
+-- words ask for one list of swept keys
+pub same_swept_keys : (words : List (List ℕ)) (ss ts : List KeyValues) → AreAxes words ss → AreAxes words ts → ss ≡ ts
+same_swept_keys words ss ts a b =
     sym (axes_flat ss) ∙ ap together (same_axes (axes_of ss) (axes_of ts) (axes_in words ss a) (axes_in words ts b) (a.written ∙ sym b.written)) ∙ axes_flat ts
 
 abbrev now : Bor (List ℕ) → List ℕ
@@ -98,7 +98,7 @@ goes_both (s ∷ front) back a b = a
 
 -- ---- keys that stand once
 
--- two settings have keys that don't set one item
+-- two swept keys have keys that don't set one item
 abbrev TwoKeys : KeyValues → KeyValues → Type 0
 TwoKeys a b = (a.key ≢ b.key) × (names_first a.key b.key ≡ false)
 
@@ -109,8 +109,8 @@ apart_front front back apart k j d before inside =
     (subst (TwoKeys (get_or (front ++ back) k d)) (get_or_append_left front back d j inside) (apart k j d before (omega (arith, long, inside))))
 
 module _ (words : List (Bor (List ℕ))) (i : ℕ) (d : Bor (List ℕ)) (inside : i < length words) where
-  -- the word at the place is that of an axis, among any settings that the words ask for
-  asked_at : (ts : List KeyValues) → AreSettings (map now words) ts → (axis : List KeyValues) × AreAxes ((get_or words i d).now ∷ []) axis
+  -- the word at the place is that of an axis, among any swept keys that the words ask for
+  asked_at : (ts : List KeyValues) → AreSweptKeys (map now words) ts → (axis : List KeyValues) × AreAxes ((get_or words i d).now ∷ []) axis
   asked_at ts are =
       let word : List ℕ = (get_or words i d).now in
       let count : length (axes_of ts) ≡ length words = sym (length-map (axes_of ts) axis_text) ∙ ap length are.axes.written ∙ length-map words now in
@@ -119,7 +119,7 @@ module _ (words : List (Bor (List ℕ))) (i : ℕ) (d : Bor (List ℕ)) (inside 
       sym (get_or-map axis_text (axes_of ts) i [] word there) ∙ ap (λ l. get_or l i word) are.axes.written ∙ get_or-map now words i d word inside in
       (get_or (axes_of ts) i [], alone (get_or (axes_of ts) i []) word (axes_in (map now words) ts are.axes i [] there) text)
 
-  pub refused_at : (fault : PlanFault) → RefusesAxis (get_or words i d).now fault → RefusesSettings (map now words) fault
+  pub refused_at : (fault : PlanFault) → RefusesAxis (get_or words i d).now fault → RefusesSweptKeys (map now words) fault
   refused_at Words none = λ ts are. let one = asked_at ts are in none one.0 one.1
   refused_at Memory none = tt
 
@@ -132,11 +132,11 @@ module _ (words : List (Bor (List ℕ))) (i : ℕ) (d : Bor (List ℕ)) (inside 
           written = ap (map axis_text) axes ∙ map-append axis_text (axes_of ss) (axes_of axis) ∙ (λ k. so_far.written k ++ is.written k) ∙ sym (map_more now words i d inside);
           begins = goes_both ss axis so_far.begins is.begins;
           level = subst (All IsLevel) (sym axes) (All-append IsLevel (axes_of ss) (axes_of axis) so_far.level is.level);
-          sound = All-append IsSetting ss axis so_far.sound is.sound;
+          sound = All-append IsSwept ss axis so_far.sound is.sound;
         }
 
-    -- settings that these words ask for are the first of those that all words ask for
-    pub refused_more : (fault : PlanFault) → RefusesMore (ss ++ axis) fault → RefusesSettings (map now words) fault
+    -- swept keys that these words ask for are the first of those that all words ask for
+    pub refused_more : (fault : PlanFault) → RefusesMore (ss ++ axis) fault → RefusesSweptKeys (map now words) fault
     refused_more Memory none = tt
     refused_more Words none = λ ts are.
         let first : map axis_text (take (i + 1) (axes_of ts)) ≡ map now (take (i + 1) words) =
@@ -150,7 +150,7 @@ module _ (words : List (Bor (List ℕ))) (i : ℕ) (d : Bor (List ℕ)) (inside 
         ∙ ap (λ l. l ++ rest) (ap together (sym same) ∙ axes_flat (ss ++ axis)) in
         none (apart_front (ss ++ axis) rest (subst AreApart whole are.once))
 
--- a key that no setting has so far
+-- a key that no swept key has so far
 pub apart_more : (ss : List KeyValues) (s : KeyValues) → list_any (λ t. sets_again s.key t.key) ss ≡ false → AreApart ss → AreApart (ss ++ s ∷ [])
 apart_more ss s none apart =
     all_pairs_push TwoKeys ss s apart
@@ -159,15 +159,15 @@ apart_more ss s none apart =
     ((λ same. false≢true (sym parts.0 ∙ same_itself s.key (get_or ss k e).key (sym same))), parts.1))
 
 -- a key that one has
-pub set_twice : (ss : List KeyValues) (s : KeyValues) (rest : List KeyValues) → All IsSetting (ss ++ s ∷ rest) → list_any (λ t. sets_again s.key t.key) ss ≡ true → ¬ (AreApart (ss ++ s ∷ rest))
+pub set_twice : (ss : List KeyValues) (s : KeyValues) (rest : List KeyValues) → All IsSwept (ss ++ s ∷ rest) → list_any (λ t. sets_again s.key t.key) ss ≡ true → ¬ (AreApart (ss ++ s ∷ rest))
 set_twice ss s rest sound twice apart =
     let long = length-append ss (s ∷ rest) in
     let other : (k : ℕ) (e : KeyValues) → k < length ss → sets_again s.key (get_or ss k e).key ≡ false =
     λ k e within.
     let one : get_or (ss ++ s ∷ rest) k e ≡ get_or ss k e = get_or_append_left ss (s ∷ rest) e k within in
     let own : get_or (ss ++ s ∷ rest) (length ss) e ≡ s = get_or_at ss s rest e (length ss) refl in
-    let left : IsSetting (get_or ss k e) = subst IsSetting one (sound k e (omega (arith, long, within))) in
-    let right : IsSetting s = subst IsSetting own (sound (length ss) e (omega (arith, long))) in
+    let left : IsSwept (get_or ss k e) = subst IsSwept one (sound k e (omega (arith, long, within))) in
+    let right : IsSwept s = subst IsSwept own (sound (length ss) e (omega (arith, long))) in
     let two : TwoKeys (get_or ss k e) s = subst (TwoKeys (get_or ss k e)) own (subst (λ t. TwoKeys t (get_or (ss ++ s ∷ rest) (length ss) e)) one (apart k (length ss) e within (omega (arith, long)))) in
     or_from (is_same s.key (get_or ss k e).key) (names_first (get_or ss k e).key s.key)
     (false_from_ne_true (is_same s.key (get_or ss k e).key) (λ alike. two.0 (sym (same_key s.key (get_or ss k e).key right.key left.key (same_names s.key (get_or ss k e).key alike))))) two.1 in

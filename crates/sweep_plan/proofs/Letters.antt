@@ -11,7 +11,7 @@ use Rattle.schema.specs.declared.schema.FormatKey.TheVariants as key
 use Rattle.sweep_plan.specs.Items.{is_letter, item_text}
 use Rattle.sweep_plan.specs.Keys.{item_part, key_name}
 use Rattle.sweep_plan.specs.declared.items.ItemName.{ItemName}
-use Rattle.sweep_plan.specs.declared.keys.SettingKey.{SettingKey}
+use Rattle.sweep_plan.specs.declared.keys.SweptKey.{SweptKey}
 use Rattle.sweep_plan.proofs.Words.{Lacks}
 
 -- keys are spelt with small letters and underscores
@@ -91,7 +91,7 @@ item_lacks c None out = All-nil (λ x. (x == c) ≡ false)
 item_lacks c (Some item) out = All-weaker (λ x. is_letter x ≡ true) (λ x. (x == c) ≡ false) (λ x passes. lacks_one is_letter c x out passes) (item_text item) (filter_passes is_letter item.bytes)
 
 -- the name of a key has no byte but those of spellings and of names of items
-pub name_lacks : (c : ℕ) → is_key_byte c ≡ false → is_letter c ≡ false → (k : SettingKey) → Lacks c (key_name k)
+pub name_lacks : (c : ℕ) → is_key_byte c ≡ false → is_letter c ≡ false → (k : SweptKey) → Lacks c (key_name k)
 name_lacks c out also k = by k.table k.item k.key
   where
     by : (t : Option FormatKey) (item : Option ItemName) (x : FormatKey) → Lacks c (key_name (record { table = t; item = item; key = x }))

@@ -9,7 +9,7 @@ use Rattle.std.specs.Option.{option_or}
 use Rattle.schema.specs.declared.schema.FormatKey.{FormatKey}
 use Rattle.schema.specs.declared.schema.KeyRule.{KeyRule}
 use Rattle.sweep_plan.specs.Keys.{dotted, in_table, is_plain, is_named, keys_of_table, keys_of_row}
-use Rattle.sweep_plan.specs.declared.keys.SettingKey.{SettingKey}
+use Rattle.sweep_plan.specs.declared.keys.SweptKey.{SweptKey}
 
 pub bytes_eq_true : (a b : List ℕ) → bytes_eq a b ≡ true → a ≡ b
 bytes_eq_true a b = (bytes_eq-Decides a b).0
@@ -39,7 +39,7 @@ no_table table key word none = bytes_eq_false (dotted table key) word (λ same. 
 
 -- ---- the first key of a name, row by row
 
-abbrev found_in_table : FormatKey → List ℕ → List KeyRule → Option SettingKey
+abbrev found_in_table : FormatKey → List ℕ → List KeyRule → Option SweptKey
 found_in_table t word rows = find (is_named word) (keys_of_table t rows)
 
 abbrev row_gives : FormatKey → List ℕ → KeyRule → Bool
@@ -49,7 +49,7 @@ table_step : (t : FormatKey) (word : List ℕ) (row : KeyRule) (rows : List KeyR
     → found_in_table t word (row ∷ rows) ≡ cond (row_gives t word row) (Some (in_table t row.key)) (found_in_table t word rows)
 table_step t word row rows =
     let left : List KeyRule = filter (λ r. is_plain r.kind) rows in
-    let key : KeyRule → SettingKey = λ r. in_table t r.key in
+    let key : KeyRule → SweptKey = λ r. in_table t r.key in
     elim (is_plain row.kind) as (λ b. find (is_named word) (map key (cond b (row ∷ left) left)) ≡ cond (b && is_named word (key row)) (Some (key row)) (find (is_named word) (map key left))) [
       | true ↦ refl
       | false ↦ refl
@@ -71,22 +71,22 @@ row_passed t word rows i d r inside is passes so_far =
     so_far ∙ ap (found_in_table t word) (drop_more rows i d inside) ∙ table_step t word row (drop (i + 1) rows) ∙ ap (λ b. cond b (Some (in_table t row.key)) (found_in_table t word (drop (i + 1) rows))) gives
 
 -- the same of the rows of the whole text
-abbrev found_in_rows : List ℕ → List KeyRule → Option SettingKey
+abbrev found_in_rows : List ℕ → List KeyRule → Option SweptKey
 found_in_rows word rows = find (is_named word) (flat_map keys_of_row rows)
 
-rows_step : (word : List ℕ) (rows : List KeyRule) (i : ℕ) (d : KeyRule) (r : Option SettingKey) → i < length rows → r ≡ find (is_named word) (keys_of_row (get_or rows i d))
+rows_step : (word : List ℕ) (rows : List KeyRule) (i : ℕ) (d : KeyRule) (r : Option SweptKey) → i < length rows → r ≡ find (is_named word) (keys_of_row (get_or rows i d))
     → found_in_rows word rows ≡ found_in_rows word (drop i rows) → found_in_rows word rows ≡ option_or r (found_in_rows word (drop (i + 1) rows))
 rows_step word rows i d r inside is so_far =
     so_far ∙ ap (found_in_rows word) (drop_more rows i d inside)
     ∙ find-append (is_named word) (keys_of_row (get_or rows i d)) (flat_map keys_of_row (drop (i + 1) rows))
     ∙ ap (λ o. option_or o (found_in_rows word (drop (i + 1) rows))) (sym is)
 
-pub rows_found : (word : List ℕ) (rows : List KeyRule) (i : ℕ) (d : KeyRule) (r : Option SettingKey) (k : SettingKey) → i < length rows → r ≡ find (is_named word) (keys_of_row (get_or rows i d)) → r ≡ Some k
+pub rows_found : (word : List ℕ) (rows : List KeyRule) (i : ℕ) (d : KeyRule) (r : Option SweptKey) (k : SweptKey) → i < length rows → r ≡ find (is_named word) (keys_of_row (get_or rows i d)) → r ≡ Some k
     → found_in_rows word rows ≡ found_in_rows word (drop i rows) → Some k ≡ found_in_rows word rows
 rows_found word rows i d r k inside is some so_far =
     sym (rows_step word rows i d r inside is so_far ∙ ap (λ o. option_or o (found_in_rows word (drop (i + 1) rows))) some)
 
-pub rows_passed : (word : List ℕ) (rows : List KeyRule) (i : ℕ) (d : KeyRule) (r : Option SettingKey) → i < length rows → r ≡ find (is_named word) (keys_of_row (get_or rows i d)) → r ≡ None
+pub rows_passed : (word : List ℕ) (rows : List KeyRule) (i : ℕ) (d : KeyRule) (r : Option SweptKey) → i < length rows → r ≡ find (is_named word) (keys_of_row (get_or rows i d)) → r ≡ None
     → found_in_rows word rows ≡ found_in_rows word (drop i rows) → found_in_rows word rows ≡ found_in_rows word (drop (i + 1) rows)
 rows_passed word rows i d r inside is none so_far =
     rows_step word rows i d r inside is so_far ∙ ap (λ o. option_or o (found_in_rows word (drop (i + 1) rows))) none

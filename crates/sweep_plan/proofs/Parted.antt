@@ -11,7 +11,7 @@ use Rattle.sweep_plan.specs.Items.{is_item_name, kept_name}
 use Rattle.sweep_plan.specs.Keys.{in_table, of_item, is_named, is_plain, key_name, key_named, keys_of_table, settable, listed, IsKeyNamed}
 use Rattle.sweep_plan.specs.Listed.{IsItemIn, IsNamedIn, IsNoName, NamesNone}
 use Rattle.sweep_plan.specs.declared.items.ItemName.{ItemName}
-use Rattle.sweep_plan.specs.declared.keys.SettingKey.{SettingKey}
+use Rattle.sweep_plan.specs.declared.keys.SweptKey.{SweptKey}
 use Rattle.sweep_plan.proofs.Apart.{kept_is, named_itself}
 use Rattle.sweep_plan.proofs.Names.{bytes_eq_true}
 use Rattle.sweep_plan.proofs.Written.{found}
@@ -60,7 +60,7 @@ module _ (list key word : List ℕ) where
 
 -- ---- the key that a row gives
 
-abbrev in_row : FormatKey → KeyRule → Bool → List SettingKey
+abbrev in_row : FormatKey → KeyRule → Bool → List SweptKey
 in_row t row plain = map (λ r. in_table t r.key) (cond plain (row ∷ []) [])
 
 name_is : (t x : FormatKey) (name : List ℕ) → is_item_name name ≡ true → key_name (of_item (kept_name name) (in_table t x)) ≡ spelling_of t ++ (name ++ 46 ∷ spelling_of x)
@@ -99,7 +99,7 @@ table_adds t xs ys =
     ∙ map-append (λ r. in_table t r.key) (filter (λ r. is_plain r.kind) xs) (filter (λ r. is_plain r.kind) ys)
 
 -- keys that rows give, those of some rows after those of others
-module _ (gives : List KeyRule → List SettingKey) (adds : (xs ys : List KeyRule) → gives (xs ++ ys) ≡ gives xs ++ gives ys) (word : List ℕ) (rows : List KeyRule) (i : ℕ) (d : KeyRule)
+module _ (gives : List KeyRule → List SweptKey) (adds : (xs ys : List KeyRule) → gives (xs ++ ys) ≡ gives xs ++ gives ys) (word : List ℕ) (rows : List KeyRule) (i : ℕ) (d : KeyRule)
     (inside : i < length rows) where
   pub none_more : NamesNone (gives (take i rows)) word → NamesNone (gives (get_or rows i d ∷ [])) word → NamesNone (gives (take (i + 1) rows)) word
   none_more before here =
@@ -110,7 +110,7 @@ module _ (gives : List KeyRule → List SettingKey) (adds : (xs ys : List KeyRul
       ap gives (sym (take-append-drop i rows) ∙ ap (λ l. take i rows ++ l) (drop_more rows i d inside)) ∙ adds (take i rows) (get_or rows i d ∷ drop (i + 1) rows)
       ∙ ap (λ l. gives (take i rows) ++ l) (adds (get_or rows i d ∷ []) (drop (i + 1) rows))
 
-  pub found_here : (k : SettingKey) → IsNamedIn (gives (get_or rows i d ∷ [])) word k → IsNamedIn (gives rows) word k
+  pub found_here : (k : SweptKey) → IsNamedIn (gives (get_or rows i d ∷ [])) word k → IsNamedIn (gives rows) word k
   found_here k is =
       record {
         name = is.name;
@@ -125,20 +125,20 @@ module _ (gives : List KeyRule → List SettingKey) (adds : (xs ys : List KeyRul
 
 -- ---- the key of a name, among all
 
-pub named_outside : (word : List ℕ) (r : Option SettingKey) (k : SettingKey) → r ≡ key_named word → r ≡ Some k → IsKeyNamed word k
+pub named_outside : (word : List ℕ) (r : Option SweptKey) (k : SweptKey) → r ≡ key_named word → r ≡ Some k → IsKeyNamed word k
 unfolding key_named
 named_outside word r k is some =
     let there = found (is_named word) settable k (sym is ∙ some) in
     record { named = bytes_eq_true (key_name k) word there.1; known = inl there.0 }
 
-named_listed : (word : List ℕ) (k : SettingKey) → IsNamedIn listed word k → IsKeyNamed word k
+named_listed : (word : List ℕ) (k : SweptKey) → IsNamedIn listed word k → IsKeyNamed word k
 named_listed word k is = record { named = is.named; known = inr (record { name = is.name; sound = is.sound; key = is.key; known = is.known; is = is.is }) }
 
-pub named_listed_if : (word : List ℕ) (r : Option SettingKey) → IfSome r (IsNamedIn listed word) → IfSome r (IsKeyNamed word)
+pub named_listed_if : (word : List ℕ) (r : Option SweptKey) → IfSome r (IsNamedIn listed word) → IfSome r (IsKeyNamed word)
 named_listed_if word None told = told
 named_listed_if word (Some k) told = named_listed word k told
 
-pub named_none : (word : List ℕ) (r : Option SettingKey) → r ≡ key_named word → r ≡ None → NamesNone listed word → (k : SettingKey) → IsKeyNamed word k → ⊥
+pub named_none : (word : List ℕ) (r : Option SweptKey) → r ≡ key_named word → r ≡ None → NamesNone listed word → (k : SweptKey) → IsKeyNamed word k → ⊥
 named_none word r is none none_listed k named =
     elim named.known [
       | inl outside ↦

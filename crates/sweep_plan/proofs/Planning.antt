@@ -2,13 +2,13 @@
 use Rattle.std.proofs.Common.{◌≡◌, ◌<◌, ◌≤◌, ◌-◌, ◌*◌, ◌^◌, ℕ, List, ◌∷◌, Option, Some, None, min, decimal, sym, ap, subst, refl, ◌∙◌, lit<, arith}
 use Rattle.std.specs.Option.{ForSome}
 use Rattle.std.proofs.Math.Nat.{le-mul_of_pos_right}
-use Rattle.sweep_plan.specs.Sweep.{KeyValues, Sweep, case_count, seed_count}
-use Rattle.sweep_plan.specs.Asked.{IsRange, AreSettings, AsksForSeeds, IsSweepOf}
+use Rattle.sweep_plan.specs.Sweep.{KeyValues, Sweep, setting_count, seed_count}
+use Rattle.sweep_plan.specs.Asked.{IsRange, AreSweptKeys, AsksForSeeds, IsSweepOf}
 use Rattle.sweep_plan.specs.declared.seeds.Seeds.{Seeds}
 use Rattle.sweep_plan.proofs.Words.{decimal_lacks, cut_once}
 use Rattle.decimals.proofs.Numbers.{same_number}
 use Rattle.sweep_plan.proofs.Counts.{saturated}
-use Rattle.sweep_plan.proofs.Gathered.{same_settings}
+use Rattle.sweep_plan.proofs.Gathered.{same_swept_keys}
 
 same_range : (word : List ℕ) (r q : Seeds) → IsRange word r → IsRange word q → r ≡ q
 same_range word r q a b =
@@ -43,27 +43,27 @@ some_seeds None (Some q) a = absurd a
 some_seeds (Some word) None a = absurd a
 some_seeds (Some word) (Some q) a = let ordered = a.ordered in omega arith
 
-module _ (words : List (List ℕ)) (word : Option (List ℕ)) (until : Option ℕ) (settings : List KeyValues) (seeds : Option Seeds) (are : AreSettings words settings) (asked : AsksForSeeds word seeds) where
-  module _ (cases each runs : ℕ) (counted : cases ≡ min (case_count settings) (2 ^ 64 - 1)) (often : each ≡ seed_count seeds) (multiplied : runs ≡ min (cases * each) (2 ^ 64 - 1)) where
-    all_runs : runs ≡ min (case_count settings * seed_count seeds) (2 ^ 64 - 1)
+module _ (words : List (List ℕ)) (word : Option (List ℕ)) (until : Option ℕ) (swept_keys : List KeyValues) (seeds : Option Seeds) (are : AreSweptKeys words swept_keys) (asked : AsksForSeeds word seeds) where
+  module _ (settings each runs : ℕ) (counted : settings ≡ min (setting_count swept_keys) (2 ^ 64 - 1)) (often : each ≡ seed_count seeds) (multiplied : runs ≡ min (settings * each) (2 ^ 64 - 1)) where
+    all_runs : runs ≡ min (setting_count swept_keys * seed_count seeds) (2 ^ 64 - 1)
     all_runs =
-        multiplied ∙ ap (λ n. min (n * each) (2 ^ 64 - 1)) counted ∙ saturated (case_count settings) each (2 ^ 64 - 1)
-        ∙ ap (λ n. min (case_count settings * n) (2 ^ 64 - 1)) often
+        multiplied ∙ ap (λ n. min (n * each) (2 ^ 64 - 1)) counted ∙ saturated (setting_count swept_keys) each (2 ^ 64 - 1)
+        ∙ ap (λ n. min (setting_count swept_keys * n) (2 ^ 64 - 1)) often
 
     pub too_many : 1000000 < runs → (sweep : Sweep) → IsSweepOf words word until sweep → ⊥
     too_many over sweep is =
-        let sets = same_settings words sweep.settings settings is.settings.axes are.axes in
+        let sets = same_swept_keys words sweep.swept_keys swept_keys is.swept_keys.axes are.axes in
         let same = same_seeds word sweep.seeds seeds is.seeded asked in
-        let few : case_count settings * seed_count seeds ≤ 1000000 =
-        subst (λ s. case_count settings * seed_count s ≤ 1000000) same (subst (λ l. case_count l * seed_count sweep.seeds ≤ 1000000) sets is.few) in
+        let few : setting_count swept_keys * seed_count seeds ≤ 1000000 =
+        subst (λ s. setting_count swept_keys * seed_count s ≤ 1000000) same (subst (λ l. setting_count l * seed_count sweep.seeds ≤ 1000000) sets is.few) in
         let told = all_runs in
         omega arith
 
-    pub few_runs : runs ≤ 1000000 → case_count settings * seed_count seeds ≤ 1000000
+    pub few_runs : runs ≤ 1000000 → setting_count swept_keys * seed_count seeds ≤ 1000000
     few_runs under = let told = all_runs in omega arith
 
-    pub exact : runs ≤ 1000000 → cases ≡ case_count settings
+    pub exact : runs ≤ 1000000 → settings ≡ setting_count swept_keys
     exact under =
         let few = few_runs under in
-        let more : case_count settings ≤ case_count settings * seed_count seeds = le-mul_of_pos_right (case_count settings) (some_seeds word seeds asked) in
+        let more : setting_count swept_keys ≤ setting_count swept_keys * seed_count seeds = le-mul_of_pos_right (setting_count swept_keys) (some_seeds word seeds asked) in
         omega arith

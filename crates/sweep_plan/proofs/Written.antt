@@ -1,4 +1,4 @@
--- Settings and the words that they are written as.
+-- Swept keys and the words that they are written as.
 use Rattle.std.proofs.Common.{◌≡◌, ◌<◌, ◌^◌, ℕ, suc, Bool, true, false, List, [], ◌∷◌, Some, All, Contains, cond, map, find, length, get_or, decimal, codes, bytes_eq, sym, ap, subst, refl, ◌∙◌, lit<, inl, inr, arith}
 use Rattle.std.proofs.lemmas.Bool.{cases_Bool, false≢true}
 use Rattle.std.proofs.lemmas.List.Elements.{All-head, All-tail, All-map, All-weaker}
@@ -7,16 +7,16 @@ use Rattle.std.proofs.lemmas.Str.Parse.{digit_at}
 use Rattle.sweep_plan.specs.Keys.{key_name}
 use Rattle.sweep_plan.proofs.Letters.{name_lacks}
 use Rattle.sweep_plan.specs.Values.{value_text, FitsToml}
-use Rattle.sweep_plan.specs.declared.keys.SettingKey.{SettingKey}
-use Rattle.sweep_plan.specs.declared.values.SettingValue.{SettingValue}
-use Rattle.sweep_plan.specs.declared.values.SettingValue.TheVariants.{Whole, Switch}
+use Rattle.sweep_plan.specs.declared.keys.SweptKey.{SweptKey}
+use Rattle.sweep_plan.specs.declared.values.SweptValue.{SweptValue}
+use Rattle.sweep_plan.specs.declared.values.SweptValue.TheVariants.{Whole, Switch}
 use Rattle.sweep_plan.proofs.Names.{bytes_eq_same}
 use Rattle.sweep_plan.proofs.Words.{Lacks, decimal_lacks, lacks_from_test}
 
 -- ---- keys
 
 -- no name has an equals sign
-unsigned : (k : SettingKey) → Lacks 61 (key_name k)
+unsigned : (k : SweptKey) → Lacks 61 (key_name k)
 unsigned k = name_lacks 61 refl refl k
 
 -- what is found is there, and passes the test
@@ -37,12 +37,12 @@ found p (y ∷ ys) x is =
 
 -- ---- values
 
-pub value_lacks : (v : SettingValue) → FitsToml v → Lacks 44 (value_text v)
+pub value_lacks : (v : SweptValue) → FitsToml v → Lacks 44 (value_text v)
 value_lacks (Whole n) low = decimal_lacks n 44 (omega arith) (lit< tt)
 value_lacks (Switch true) low = lacks_from_test 44 (codes "true") refl
 value_lacks (Switch false) low = lacks_from_test 44 (codes "false") refl
 
-values_lack : (vs : List SettingValue) → All FitsToml vs → All (Lacks 44) (map value_text vs)
+values_lack : (vs : List SweptValue) → All FitsToml vs → All (Lacks 44) (map value_text vs)
 values_lack vs fit = All-map (Lacks 44) value_text vs (All-weaker FitsToml (λ v. Lacks 44 (value_text v)) value_lacks vs fit)
 
 -- a number doesn't begin with a letter
@@ -56,7 +56,7 @@ digit_first n c rest low letter same =
 unlike_switches : codes "true" ≡ codes "false" → ⊥
 unlike_switches same = let other : bytes_eq (codes "true") (codes "false") ≡ false = refl in false≢true (sym other ∙ bytes_eq_same (codes "true") (codes "false") same)
 
-same_value : (v w : SettingValue) → FitsToml v → FitsToml w → value_text v ≡ value_text w → v ≡ w
+same_value : (v w : SweptValue) → FitsToml v → FitsToml w → value_text v ≡ value_text w → v ≡ w
 same_value (Whole m) (Whole n) low high same = ap Whole (decimal_injective m n (omega arith) (omega arith) same)
 same_value (Whole m) (Switch true) low high same = absurd (digit_first m 116 _ low (lit< tt) same)
 same_value (Whole m) (Switch false) low high same = absurd (digit_first m 102 _ low (lit< tt) same)
@@ -67,7 +67,7 @@ same_value (Switch true) (Switch false) low high same = absurd (unlike_switches 
 same_value (Switch false) (Switch true) low high same = absurd (unlike_switches (sym same))
 same_value (Switch false) (Switch false) low high same = refl
 
-pub same_values : (vs ws : List SettingValue) → All FitsToml vs → All FitsToml ws → map value_text vs ≡ map value_text ws → vs ≡ ws
+pub same_values : (vs ws : List SweptValue) → All FitsToml vs → All FitsToml ws → map value_text vs ≡ map value_text ws → vs ≡ ws
 same_values [] [] a b same = refl
 same_values [] (w ∷ ws) a b same = let none : 0 ≡ suc (length (map value_text ws)) = ap length same in absurd (omega arith)
 same_values (v ∷ vs) [] a b same = let none : suc (length (map value_text vs)) ≡ 0 = ap length same in absurd (omega arith)

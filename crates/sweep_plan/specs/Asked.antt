@@ -7,8 +7,8 @@ use Rattle.sweep_plan.specs.Keys.{key_name, names_first, MaySet}
 use Rattle.sweep_plan.specs.Values.{value_text, FitsToml}
 use Rattle.sweep_plan.specs.Sweep.{KeyValues, Sweep, run_count}
 use Rattle.sweep_plan.specs.Axes.{value_at, goes_on, axes_of, place_count}
-use Rattle.sweep_plan.specs.declared.keys.SettingKey.{SettingKey}
-use Rattle.sweep_plan.specs.declared.values.SettingValue.{SettingValue}
+use Rattle.sweep_plan.specs.declared.keys.SweptKey.{SweptKey}
+use Rattle.sweep_plan.specs.declared.values.SweptValue.{SweptValue}
 use Rattle.sweep_plan.specs.declared.seeds.Seeds.{Seeds}
 use Rattle.sweep_plan.specs.declared.fault.PlanFault.{PlanFault}
 use Rattle.sweep_plan.specs.declared.fault.PlanFault.TheVariants.{Words, Memory}
@@ -25,12 +25,12 @@ values_text axis place = join_with_byte 43 (map (λ s. value_text (value_at s pl
 abbrev pub axis_text : List KeyValues → List ℕ
 axis_text axis = names_text axis ++ 61 ∷ join_with_byte 44 (map (values_text axis) (range_with_len 0 (place_count axis)))
 
--- the words of settings: one for each axis
-abbrev pub setting_words : List KeyValues → List (List ℕ)
-setting_words settings = map axis_text (axes_of settings)
+-- the words of swept keys: one for each axis
+abbrev pub swept_words : List KeyValues → List (List ℕ)
+swept_words swept_keys = map axis_text (axes_of swept_keys)
 
 -- the key may be set, and there are values, each of which fits
-pub record IsSetting (s : KeyValues) : Type 0 where
+pub record IsSwept (s : KeyValues) : Type 0 where
   pub key : MaySet s.key
   pub some : 0 < length s.values
   pub fit : All FitsToml s.values
@@ -39,21 +39,21 @@ pub record IsSetting (s : KeyValues) : Type 0 where
 abbrev pub IsLevel : List KeyValues → Type 0
 IsLevel axis = All (λ s. length s.values ≡ place_count axis) axis
 
--- the words are the settings, written out; the first key goes together with none before it
-pub record AreAxes (words : List (List ℕ)) (settings : List KeyValues) : Type 0 where
-  pub written : setting_words settings ≡ words
-  pub begins : goes_on settings ≡ false
-  pub level : All IsLevel (axes_of settings)
-  pub sound : All IsSetting settings
+-- the words are the swept keys, written out; the first key goes together with none before it
+pub record AreAxes (words : List (List ℕ)) (swept_keys : List KeyValues) : Type 0 where
+  pub written : swept_words swept_keys ≡ words
+  pub begins : goes_on swept_keys ≡ false
+  pub level : All IsLevel (axes_of swept_keys)
+  pub sound : All IsSwept swept_keys
 
--- no two settings have one key, or keys of which the one names the first of the items that the other names
+-- no two swept keys have one key, or keys of which the one names the first of the items that the other names
 abbrev pub AreApart : List KeyValues → Type 0
-AreApart settings = AllPairs (λ a b. (a.key ≢ b.key) × (names_first a.key b.key ≡ false)) settings
+AreApart swept_keys = AllPairs (λ a b. (a.key ≢ b.key) × (names_first a.key b.key ≡ false)) swept_keys
 
--- the words are the settings, and no key stands twice, nor by the number 1 beside its name alone
-pub record AreSettings (words : List (List ℕ)) (settings : List KeyValues) : Type 0 where
-  pub axes : AreAxes words settings
-  pub once : AreApart settings
+-- the words are the swept keys, and no key stands twice, nor by the number 1 beside its name alone
+pub record AreSweptKeys (words : List (List ℕ)) (swept_keys : List KeyValues) : Type 0 where
+  pub axes : AreAxes words swept_keys
+  pub once : AreApart swept_keys
 
 -- seeds are written as the first, two dots and the last
 abbrev pub seeds_text : Seeds → List ℕ
@@ -79,7 +79,7 @@ pub record IsWidth (width : ℕ) : Type 0 where
 
 -- the words ask for the sweep, which has at most 1,000,000 runs; the width, if there is one, is given as a number
 pub record IsSweepOf (words : List (List ℕ)) (seeds : Option (List ℕ)) (until : Option ℕ) (sweep : Sweep) : Type 0 where
-  pub settings : AreSettings words sweep.settings
+  pub swept_keys : AreSweptKeys words sweep.swept_keys
   pub seeded : AsksForSeeds seeds sweep.seeds
   pub few : run_count sweep ≤ 1000000
   pub wanted : sweep.until ≡ until
@@ -90,12 +90,12 @@ abbrev pub RefusesSweep : List (List ℕ) → Option (List ℕ) → Option ℕ �
 RefusesSweep words seeds until Words = (sweep : Sweep) → ¬ (IsSweepOf words seeds until sweep)
 RefusesSweep words seeds until Memory = Unit {0}
 
--- the same of the settings alone
-abbrev pub RefusesSettings : List (List ℕ) → PlanFault → Type 0
-RefusesSettings words Words = (settings : List KeyValues) → ¬ (AreSettings words settings)
-RefusesSettings words Memory = Unit {0}
+-- the same of the swept keys alone
+abbrev pub RefusesSweptKeys : List (List ℕ) → PlanFault → Type 0
+RefusesSweptKeys words Words = (swept_keys : List KeyValues) → ¬ (AreSweptKeys words swept_keys)
+RefusesSweptKeys words Memory = Unit {0}
 
--- the same of one word, whose settings are an axis
+-- the same of one word, whose swept keys are an axis
 abbrev pub RefusesAxis : List ℕ → PlanFault → Type 0
 RefusesAxis word Words = (axis : List KeyValues) → ¬ (AreAxes (word ∷ []) axis)
 RefusesAxis word Memory = Unit {0}
@@ -105,24 +105,24 @@ abbrev pub parts_of : List ℕ → List (List ℕ)
 parts_of word = slice_split (λ byte. byte == 43) word
 
 -- the names are those of the keys, which may be set
-pub record AreNames (names : List (List ℕ)) (keys : List SettingKey) : Type 0 where
+pub record AreNames (names : List (List ℕ)) (keys : List SweptKey) : Type 0 where
   pub written : map key_name keys ≡ names
   pub known : All MaySet keys
 
 -- the names are those of no keys, or memory was refused
 abbrev pub RefusesNames : List (List ℕ) → PlanFault → Type 0
-RefusesNames names Words = (keys : List SettingKey) → ¬ (AreNames names keys)
+RefusesNames names Words = (keys : List SweptKey) → ¬ (AreNames names keys)
 RefusesNames names Memory = Unit {0}
 
 -- each item has so many parts, and those at the place are the values, written out; each fits
-pub record AreValuesAt (of place : ℕ) (items : List (List ℕ)) (values : List SettingValue) : Type 0 where
+pub record AreValuesAt (of place : ℕ) (items : List (List ℕ)) (values : List SweptValue) : Type 0 where
   pub even : All (λ item. length (parts_of item) ≡ of) items
   pub written : map value_text values ≡ map (λ item. get_or (parts_of item) place []) items
   pub fit : All FitsToml values
 
 -- the items have no such values, or memory was refused
 abbrev pub RefusesValuesAt : ℕ → ℕ → List (List ℕ) → PlanFault → Type 0
-RefusesValuesAt of place items Words = (values : List SettingValue) → ¬ (AreValuesAt of place items values)
+RefusesValuesAt of place items Words = (values : List SweptValue) → ¬ (AreValuesAt of place items values)
 RefusesValuesAt of place items Memory = Unit {0}
 
 -- the key at a place among so many goes together with the one before it, if there is one, and has its values from the items
@@ -130,20 +130,20 @@ pub record IsColumn (of place : ℕ) (items : List (List ℕ)) (s : KeyValues) :
   pub goes : s.together ≡ nat_lt 0 place
   pub values : AreValuesAt of place items s.values
 
--- the settings of these first keys, of so many that go together, have their values from the items
-pub record AreColumns (of : ℕ) (keys : List SettingKey) (items : List (List ℕ)) (axis : List KeyValues) : Type 0 where
+-- the swept keys of these first keys, of so many that go together, have their values from the items
+pub record AreColumns (of : ℕ) (keys : List SweptKey) (items : List (List ℕ)) (axis : List KeyValues) : Type 0 where
   pub set : map (λ s. s.key) axis ≡ keys
   pub each : (place : ℕ) (d : KeyValues) → place < length axis → IsColumn of place items (get_or axis place d)
 
--- no settings have, or memory was refused
-abbrev pub RefusesColumns : List SettingKey → List (List ℕ) → PlanFault → Type 0
+-- no swept keys have, or memory was refused
+abbrev pub RefusesColumns : List SweptKey → List (List ℕ) → PlanFault → Type 0
 RefusesColumns keys items Words = (axis : List KeyValues) → ¬ (AreColumns (length keys) keys items axis)
 RefusesColumns keys items Memory = Unit {0}
 
--- settings behind others have a key that stands twice, or memory was refused
+-- swept keys behind others have a key that stands twice, or memory was refused
 abbrev pub RefusesMore : List KeyValues → PlanFault → Type 0
-RefusesMore settings Words = ¬ (AreApart settings)
-RefusesMore settings Memory = Unit {0}
+RefusesMore swept_keys Words = ¬ (AreApart swept_keys)
+RefusesMore swept_keys Memory = Unit {0}
 
 -- the word asks for no seeds
 abbrev pub RefusesSeeds : Option (List ℕ) → PlanFault → Type 0

@@ -1,11 +1,11 @@
 -- The axes of a sweep: keys that go together.
 use Rattle.std.specs.Prelude.{ℕ, Bool, false, if◌then◌else◌, List, [], ◌∷◌, get_or, length}
 use Rattle.sweep_plan.specs.Sweep.{KeyValues}
-use Rattle.sweep_plan.specs.declared.values.SettingValue.{SettingValue}
-use Rattle.sweep_plan.specs.declared.values.SettingValue.TheVariants.{Whole}
+use Rattle.sweep_plan.specs.declared.values.SweptValue.{SweptValue}
+use Rattle.sweep_plan.specs.declared.values.SweptValue.TheVariants.{Whole}
 
 -- the value of a key at a place; 0 at a place where it has none, which is never asked for where keys that go together have as many values
-abbrev pub value_at : KeyValues → ℕ → SettingValue
+abbrev pub value_at : KeyValues → ℕ → SweptValue
 value_at s place = get_or s.values place (Whole 0)
 
 -- the first of these keys goes together with one before it

@@ -1,4 +1,4 @@
--- The document of a case: that of a text, with the case's values and seed in it.
+-- The document of a setting: that of a text, with the setting's values and seed in it.
 use Rattle.std.specs.Prelude.{ℕ, pos, Bool, List, Option, Some, None, fold, if◌then◌else◌, map, unwrap_or}
 use Rattle.std.specs.List.{zip}
 use Rattle.std.specs.Ordering.{nat_cmp, match_ordering}
@@ -13,12 +13,12 @@ use Rattle.schema.specs.declared.schema.FormatKey.TheVariants as key
 use Rattle.sweep_plan.specs.Items.{item_text}
 use Rattle.sweep_plan.specs.Meant.{marks_of}
 use Rattle.sweep_plan.specs.declared.items.ItemName.{ItemName}
-use Rattle.sweep_plan.specs.declared.values.SettingValue.{SettingValue}
-use Rattle.sweep_plan.specs.declared.values.SettingValue.TheVariants.{Whole, Switch}
+use Rattle.sweep_plan.specs.declared.values.SweptValue.{SweptValue}
+use Rattle.sweep_plan.specs.declared.values.SweptValue.TheVariants.{Whole, Switch}
 use Rattle.sweep_plan.specs.declared.choice.Choice.{Choice}
 
 -- the value as it stands in a document
-abbrev pub data_of : SettingValue → Data
+abbrev pub data_of : SweptValue → Data
 data_of (Whole n) = integer (pos n)
 data_of (Switch b) = boolean b
 
@@ -68,6 +68,6 @@ abbrev pub with_seed : Option ℕ → Data → Data
 with_seed None tree = tree
 with_seed (Some seed) tree = with_entry key.Seed (integer (pos seed)) tree
 
--- the document with the values of a case and the seed of a run
+-- the document with the values of a setting and the seed of a run
 unfoldable pub with_values : Data → List Choice → Option ℕ → Data
-with_values tree case seed = with_seed seed (fold with_choice tree case)
+with_values tree setting seed = with_seed seed (fold with_choice tree setting)

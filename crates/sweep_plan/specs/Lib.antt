@@ -8,6 +8,6 @@ pub mod Sweep
 pub mod Axes
 pub mod Asked
 pub mod Planned
-pub mod Cases
+pub mod Settings
 pub mod Document
 pub mod Missing

@@ -1,22 +1,22 @@
-//! Keys that go together, as a word sets them, and where among settings such an axis ends.
+//! Keys that go together, as a word sets them, and where among swept keys such an axis ends.
 ghost use Rattle.std.specs.Prelude.{◌≡◌, ◌<◌, ◌≤◌, ◌-◌, [], ◌∷◌, All, get_or, length, take, drop, IfOk, IfErr, IfSome, IsNone};
 ghost use Rattle.decimals.specs.Items.{list_items};
 ghost use Rattle.sweep_plan.specs.Axes.{axes_of};
 ghost use Rattle.sweep_plan.specs.Asked.{AreAxes, AreColumns, AreNames, AreValuesAt, RefusesAxis, RefusesColumns, RefusesNames, RefusesValuesAt, parts_of};
 ghost use Rattle.sweep_plan.specs.Values.{IsValue};
-ghost use Rattle.sweep_plan.specs.declared.values.SettingValue.{SettingValue as Wanted};
+ghost use Rattle.sweep_plan.specs.declared.values.SweptValue.{SweptValue as Wanted};
 
 use crate::fault::PlanFault;
-use crate::keys::SettingKey;
-use crate::settings::Setting;
-use crate::values::SettingValue;
+use crate::keys::SweptKey;
+use crate::swept_keys::Swept;
+use crate::values::SweptValue;
 use std::alloc::Global;
 
-/// The settings that a word asks for, as `swim.period=200,300`, or as `a+b=1+2,3+4` where keys go together: their names with
+/// The swept keys that a word asks for, as `swim.period=200,300`, or as `a+b=1+2,3+4` where keys go together: their names with
 /// plus signs between them, an equals sign, and with commas between them the values of each turn, one for each key.
 ///
 /// Failures: `Words` where the word isn't so, or a key may not be set; `Memory`.
-pub(crate) fn read_axis(alloc: Global, word: &str) -> Result<Vec<Setting>, PlanFault>
+pub(crate) fn read_axis(alloc: Global, word: &str) -> Result<Vec<Swept>, PlanFault>
     ensures read { IfOk result (λ axis. AreAxes (word.now ∷ []) axis.items) }
     ensures refused { IfErr result (RefusesAxis word.now) }
 {
@@ -34,13 +34,13 @@ pub(crate) fn read_axis(alloc: Global, word: &str) -> Result<Vec<Setting>, PlanF
 }
 
 /// The keys of names with plus signs between them.
-fn read_keys(alloc: Global, names: &str) -> Result<Vec<SettingKey>, PlanFault>
+fn read_keys(alloc: Global, names: &str) -> Result<Vec<SweptKey>, PlanFault>
     ensures read { IfOk result (λ keys. AreNames (parts_of names.now) keys.items) }
     ensures refused { IfErr result (RefusesNames (parts_of names.now)) }
 {
     let mut keys = Vec::new(alloc);
     for name in names.split('+') {
-        match SettingKey::named(name) {
+        match SweptKey::named(name) {
             Some(key) => {
                 if keys.push(key).is_err() {
                     return Err(PlanFault::Memory);
@@ -52,8 +52,8 @@ fn read_keys(alloc: Global, names: &str) -> Result<Vec<SettingKey>, PlanFault>
     Ok(keys)
 }
 
-/// The settings of keys that go together, whose values stand in the items of a list, each with a part for each key.
-fn read_columns(alloc: Global, keys: &[SettingKey], list: &str) -> Result<Vec<Setting>, PlanFault>
+/// The swept keys of keys that go together, whose values stand in the items of a list, each with a part for each key.
+fn read_columns(alloc: Global, keys: &[SweptKey], list: &str) -> Result<Vec<Swept>, PlanFault>
     ensures read { IfOk result (λ axis. AreColumns (length keys.now) keys.now (list_items list.now) axis.items) }
     ensures refused { IfErr result (RefusesColumns keys.now (list_items list.now)) }
 {
@@ -63,7 +63,7 @@ fn read_columns(alloc: Global, keys: &[SettingKey], list: &str) -> Result<Vec<Se
             Ok(values) => values,
             Err(fault) => return Err(fault),
         };
-        if axis.push(Setting::new(*key, 0 < place, values)).is_err() {
+        if axis.push(Swept::new(*key, 0 < place, values)).is_err() {
             return Err(PlanFault::Memory);
         }
     }
@@ -76,7 +76,7 @@ fn read_values_at(
     list: &str,
     of: usize,
     place: usize,
-) -> Result<Vec<SettingValue>, PlanFault>
+) -> Result<Vec<SweptValue>, PlanFault>
     ensures read { IfOk result (λ values. AreValuesAt of place (list_items list.now) values.items) }
     ensures refused { IfErr result (RefusesValuesAt of place (list_items list.now)) }
 {
@@ -95,7 +95,7 @@ fn read_values_at(
 }
 
 /// The value that the part at a place of an item says, where it has so many parts.
-fn value_in(item: &str, of: usize, place: usize) -> Option<SettingValue>
+fn value_in(item: &str, of: usize, place: usize) -> Option<SweptValue>
     ensures some { IfSome result (λ value. (length (parts_of item.now) ≡ of) × IsValue (get_or (parts_of item.now) place []) value) }
     ensures none { IsNone result → length (parts_of item.now) ≡ of → (value : Wanted) → ¬ (IsValue (get_or (parts_of item.now) place []) value) }
 {
@@ -103,7 +103,7 @@ fn value_in(item: &str, of: usize, place: usize) -> Option<SettingValue>
     if parts != of {
         return None;
     }
-    SettingValue::read(part_at(item, place))
+    SweptValue::read(part_at(item, place))
 }
 
 /// The part of an item at a place.
@@ -116,15 +116,15 @@ fn part_at<'a>(item: &'a str, place: usize) -> &'a str
     }
 }
 
-/// The place behind the axis that begins at a place of settings.
-pub fn axis_end(settings: &[Setting], from: usize) -> usize
-    requires { from < length settings.now }
+/// The place behind the axis that begins at a place of swept keys.
+pub fn axis_end(swept_keys: &[Swept], from: usize) -> usize
+    requires { from < length swept_keys.now }
     ensures past { from < result }
-    ensures within { result ≤ length settings.now }
-    ensures axis { axes_of (drop from settings.now) ≡ take (result - from) (drop from settings.now) ∷ axes_of (drop result settings.now) }
+    ensures within { result ≤ length swept_keys.now }
+    ensures axis { axes_of (drop from swept_keys.now) ≡ take (result - from) (drop from swept_keys.now) ∷ axes_of (drop result swept_keys.now) }
 {
     let mut end = from + 1;
-    while end < settings.len() && settings[end].is_together() {
+    while end < swept_keys.len() && swept_keys[end].is_together() {
         end += 1;
     }
     end

@@ -1,26 +1,26 @@
-//! The value that a key has in a case, and how the settings of a case are told.
+//! The value that a key has in a setting, and how the choices of a setting are printed.
 ghost use Rattle.std.specs.Prelude.{◌≡◌, ◌++◌, string_bytes, IfOk, OnOk};
-ghost use Rattle.sweep_plan.specs.Cases.{choice_text, settings_text};
+ghost use Rattle.sweep_plan.specs.Settings.{choice_text, choices_text};
 
-use crate::keys::SettingKey;
-use crate::values::SettingValue;
+use crate::keys::SweptKey;
+use crate::values::SweptValue;
 use base::Memory;
 use std::alloc::Global;
 
-/// The value that a key has in a case.
+/// The value that a key has in a setting.
 #[derive(Clone, Copy, Debug, PartialEq, Eq)]
 pub struct Choice {
-    pub key: SettingKey,
-    pub value: SettingValue,
+    pub key: SweptKey,
+    pub value: SweptValue,
 }
 
-/// The settings of a case as words say them: its keys in their order, each with an equals sign and its
+/// The choices of a setting as words: its keys in their order, each with an equals sign and its
 /// value, and a space between one and the next, as `swim.period=200 swim.timeout=30`.
-pub fn settings_text(alloc: Global, case: &[Choice]) -> Result<String, Memory>
-    ensures { IfOk result (λ text. string_bytes text ≡ settings_text case.now) }
+pub fn choices_text(alloc: Global, setting: &[Choice]) -> Result<String, Memory>
+    ensures { IfOk result (λ text. string_bytes text ≡ choices_text setting.now) }
 {
     let mut text = String::new(alloc);
-    for (place, choice) in case.iter().enumerate() {
+    for (place, choice) in setting.iter().enumerate() {
         if place > 0 {
             text.push_str(" ")?;
         }

@@ -1,4 +1,4 @@
-//! The scenario of a case: the document of a text, with the case's values in it.
+//! The scenario of a setting: the document of a text, with the setting's values in it.
 ghost use Rattle.std.specs.Prelude.{◌≡◌, ◌≢◌, ◌≤◌, ◌<◌, ◌^◌, All, fold, Ok, Err, Some, IfOk, IfErr};
 ghost use Rattle.std.specs.Option.{ForSome};
 ghost use Rattle.toml.specs.View.{view};
@@ -9,7 +9,7 @@ ghost use Rattle.sweep_plan.specs.Document.{data_of, table_at, with_entry, with_
 use crate::choice::Choice;
 use crate::items::ItemName;
 use crate::listed_values::with_listed;
-use crate::values::SettingValue;
+use crate::values::SweptValue;
 use base::Memory;
 use scenario::Scenario;
 use scenario_reader::Refusal;
@@ -17,54 +17,54 @@ use schema::FormatKey;
 use std::alloc::Global;
 use toml::{Table, Value};
 
-/// The document with the values of a case set at their keys, and the seed at its own, where one is
+/// The document with the values of a setting set at their keys, and the seed at its own, where one is
 /// given. A table that isn't there is made. Where something else than a table stands in a table's place,
 /// it stays. The value of an item's key is set in each item of its list that the key's name means, and all else stays.
 #[tactic(auto, unfolding(crate::specs::Document::with_values))]
 pub fn with_values(
     alloc: Global,
     document: &Value,
-    case: &[Choice],
+    setting: &[Choice],
     seed: Option<u64>,
 ) -> Result<Value, Memory>
-    requires fits { All (λ c. FitsToml c.value) case.now }
+    requires fits { All (λ c. FitsToml c.value) setting.now }
     requires low { ForSome seed (λ n. n < 2 ^ 63) }
-    ensures { IfOk result (λ tree. view tree ≡ with_values (view document.now) case.now seed) }
+    ensures { IfOk result (λ tree. view tree ≡ with_values (view document.now) setting.now seed) }
 {
-    let tree = with_case(alloc, document, case)?;
+    let tree = with_setting(alloc, document, setting)?;
     match seed {
         Some(seed) => with_entry(alloc, tree, FormatKey::Seed, Value::Integer(seed as i64)),
         None => Ok(tree),
     }
 }
 
-/// The scenario of a document with the values of a case, and with a seed where one is given. It is
+/// The scenario of a document with the values of a setting, and with a seed where one is given. It is
 /// refused by the least rule that the document then breaks, and by rule 11 where memory was refused.
 pub fn read_with(
     alloc: Global,
     document: &Value,
-    case: &[Choice],
+    setting: &[Choice],
     seed: Option<u64>,
 ) -> Result<Scenario, Refusal>
-    requires fits { All (λ c. FitsToml c.value) case.now }
+    requires fits { All (λ c. FitsToml c.value) setting.now }
     requires low { ForSome seed (λ n. n < 2 ^ 63) }
-    ensures accepted { IfOk result (λ s. document_verdict (with_values (view document.now) case.now seed) ≡ Ok s) }
-    ensures refused { IfErr result (λ r. r.rule ≢ 11 → document_verdict (with_values (view document.now) case.now seed) ≡ Err r.rule) }
+    ensures accepted { IfOk result (λ s. document_verdict (with_values (view document.now) setting.now seed) ≡ Ok s) }
+    ensures refused { IfErr result (λ r. r.rule ≢ 11 → document_verdict (with_values (view document.now) setting.now seed) ≡ Err r.rule) }
     ensures numbered { IfErr result (λ r. (1 ≤ r.rule) × (r.rule ≤ 11)) }
 {
-    match with_values(alloc, document, case, seed) {
+    match with_values(alloc, document, setting, seed) {
         Ok(tree) => scenario_reader::read_document(alloc, &tree),
         Err(Memory) => Err(Refusal { rule: 11, place: 0 }),
     }
 }
 
-/// The document with the values of a case.
-fn with_case(alloc: Global, document: &Value, case: &[Choice]) -> Result<Value, Memory>
-    requires { All (λ c. FitsToml c.value) case.now }
-    ensures { IfOk result (λ tree. view tree ≡ fold with_choice (view document.now) case.now) }
+/// The document with the values of a setting.
+fn with_setting(alloc: Global, document: &Value, setting: &[Choice]) -> Result<Value, Memory>
+    requires { All (λ c. FitsToml c.value) setting.now }
+    ensures { IfOk result (λ tree. view tree ≡ fold with_choice (view document.now) setting.now) }
 {
     let mut tree = document.clone()?;
-    for choice in case {
+    for choice in setting {
         tree = with_choice(alloc, tree, choice)?;
     }
     Ok(tree)
@@ -89,7 +89,7 @@ fn with_value_in(
     table: FormatKey,
     item: Option<ItemName>,
     key: FormatKey,
-    value: SettingValue,
+    value: SweptValue,
 ) -> Result<Value, Memory>
     requires { FitsToml value }
     ensures { IfOk result (λ v. view v ≡ with_value_in (Some table) item key (data_of value) (view tree)) }
@@ -133,12 +133,12 @@ pub(crate) fn with_entry(
 }
 
 /// The value as it stands in a document.
-pub(crate) fn data(value: SettingValue) -> Value
+pub(crate) fn data(value: SweptValue) -> Value
     requires { FitsToml value }
     ensures { view result ≡ data_of value }
 {
     match value {
-        SettingValue::Whole(number) => Value::Integer(number as i64),
-        SettingValue::Switch(switch) => Value::Boolean(switch),
+        SweptValue::Whole(number) => Value::Integer(number as i64),
+        SweptValue::Switch(switch) => Value::Boolean(switch),
     }
 }

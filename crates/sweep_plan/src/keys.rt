@@ -3,7 +3,7 @@ ghost use Rattle.std.specs.Prelude.{◌≡◌, ◌++◌, ◌∷◌, ◌&&◌, []
 ghost use Rattle.std.specs.List.{flat_map};
 ghost use Rattle.sweep_plan.specs.Keys.{dotted, key_name, is_plain, item_part, keys_of_table, keys_of_row, at_top, in_table, is_named, key_named, is_same, are_alike, are_same_items, are_same_tables, is_first_of, names_first, IsKeyNamed};
 ghost use Rattle.sweep_plan.specs.Items.{item_text};
-ghost use Rattle.sweep_plan.specs.declared.keys.SettingKey.{SettingKey as Wanted};
+ghost use Rattle.sweep_plan.specs.declared.keys.SweptKey.{SweptKey as Wanted};
 
 use crate::items::{ItemName, push_letters};
 use crate::listed::listed_key;
@@ -13,7 +13,7 @@ use std::alloc::Global;
 
 /// A key of the format that a sweep may set.
 #[derive(Clone, Copy, Debug, PartialEq, Eq)]
-pub struct SettingKey {
+pub struct SweptKey {
     /// The key of the table or of the list in which it stands; none for a key of the whole text.
     pub table: Option<FormatKey>,
     /// The name of the list's item that has it; none for a key outside lists.
@@ -22,10 +22,10 @@ pub struct SettingKey {
     pub key: FormatKey,
 }
 
-impl SettingKey {
+impl SweptKey {
     /// The key of this name, as `end`, `swim.period`, `group.n.count` or `path.a.b.loss`, among those that may be set: all
     /// outside lists that stand for whole numbers and switches, but `seed`, and all such keys of the items of lists.
-    pub fn named(word: &str) -> Option<SettingKey>
+    pub fn named(word: &str) -> Option<SweptKey>
         ensures some { IfSome result (IsKeyNamed word.now) }
         ensures none { IsNone result → (k : Wanted) → ¬ (IsKeyNamed word.now k) }
     {
@@ -62,14 +62,14 @@ fn push_item(text: &mut String, item: Option<ItemName>) -> Result<(), Memory>
 
 /// The key of this name among those outside lists.
 #[tactic(auto, unfolding(crate::specs::Keys::key_named, crate::specs::Keys::settable))]
-fn outside_lists(word: &str) -> Option<SettingKey>
+fn outside_lists(word: &str) -> Option<SweptKey>
     ensures { result ≡ key_named word.now }
 {
     named_by_rows(Section::Top.rows(Version::Three), word)
 }
 
 /// The key of this name among those that rows of the whole text give.
-fn named_by_rows(rows: &[KeyRule], word: &str) -> Option<SettingKey>
+fn named_by_rows(rows: &[KeyRule], word: &str) -> Option<SweptKey>
     ensures { result ≡ find (is_named word.now) (flat_map keys_of_row rows.now) }
 {
     for row in rows {
@@ -81,7 +81,7 @@ fn named_by_rows(rows: &[KeyRule], word: &str) -> Option<SettingKey>
 }
 
 /// The key of this name among those that a row of the whole text gives.
-fn named_by_row(row: &KeyRule, word: &str) -> Option<SettingKey>
+fn named_by_row(row: &KeyRule, word: &str) -> Option<SweptKey>
     ensures { result ≡ find (is_named word.now) (keys_of_row row.now) }
 {
     if row.key.text() == FormatKey::Seed.text() {
@@ -95,11 +95,11 @@ fn named_by_row(row: &KeyRule, word: &str) -> Option<SettingKey>
 }
 
 /// The key of the whole text, where this is its name.
-fn top_key(key: FormatKey, word: &str) -> Option<SettingKey>
+fn top_key(key: FormatKey, word: &str) -> Option<SweptKey>
     ensures { result ≡ find (is_named word.now) (at_top key ∷ []) }
 {
     if key.text() == word {
-        Some(SettingKey {
+        Some(SweptKey {
             table: None,
             item: None,
             key,
@@ -110,12 +110,12 @@ fn top_key(key: FormatKey, word: &str) -> Option<SettingKey>
 }
 
 /// The key of this name among those of a table with these rows.
-fn named_in_table(table: FormatKey, rows: &[KeyRule], word: &str) -> Option<SettingKey>
+fn named_in_table(table: FormatKey, rows: &[KeyRule], word: &str) -> Option<SweptKey>
     ensures { result ≡ find (is_named word.now) (keys_of_table table rows.now) }
 {
     for row in rows {
         if is_row_named(table, row, word) {
-            return Some(SettingKey {
+            return Some(SweptKey {
                 table: Some(table),
                 item: None,
                 key: row.key,
@@ -168,21 +168,21 @@ fn is_after_dot(key: &[u8], bytes: &[u8]) -> bool
 }
 
 /// Whether two keys are spelt alike, and so are their tables and items.
-pub(crate) fn is_same(key: SettingKey, other: SettingKey) -> bool
+pub(crate) fn is_same(key: SweptKey, other: SweptKey) -> bool
     ensures { result ≡ is_same key other }
 {
     are_alike(key, other) && are_same_items(key.item, other.item)
 }
 
 /// Whether two keys are spelt alike, and so are their tables.
-fn are_alike(key: SettingKey, other: SettingKey) -> bool
+fn are_alike(key: SweptKey, other: SweptKey) -> bool
     ensures { result ≡ are_alike key other }
 {
     key.key.text() == other.key.text() && are_same_tables(key.table, other.table)
 }
 
 /// Whether two keys are alike, of names of which the one is the other with `.1` behind.
-pub(crate) fn names_first(alloc: Global, key: SettingKey, other: SettingKey) -> Result<bool, Memory>
+pub(crate) fn names_first(alloc: Global, key: SweptKey, other: SweptKey) -> Result<bool, Memory>
     ensures { IfOk result (λ it. it ≡ names_first key other) }
 {
     if !are_alike(key, other) {

@@ -1,5 +1,5 @@
 //! Many runs of one scenario: which keys of its text are set to which values, by which words that is
-//! asked for, and the scenario of each case.
+//! asked for, and the scenario of each setting.
 #![tactic(auto)]
 
 mod axes;
@@ -15,19 +15,19 @@ mod meant;
 mod missing;
 mod plan;
 mod seeds;
-mod settings;
+mod swept_keys;
 mod telling;
 mod values;
 
 pub use axes::axis_end;
-pub use choice::{Choice, settings_text};
+pub use choice::{Choice, choices_text};
 pub use document::{read_with, with_values};
 pub use fault::PlanFault;
 pub use items::ItemName;
-pub use keys::SettingKey;
+pub use keys::SweptKey;
 pub use missing::{items_meant, missing_item};
 pub use plan::Plan;
 pub use seeds::Seeds;
-pub use settings::{Setting, sets_again};
+pub use swept_keys::{Swept, sets_again};
 pub use telling::{axis_text, names_text, place_count, values_text};
-pub use values::SettingValue;
+pub use values::SweptValue;

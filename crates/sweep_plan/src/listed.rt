@@ -7,13 +7,13 @@ ghost use Rattle.sweep_plan.specs.Listed.{IsItemIn, IsNamedIn, NamesNone};
 ghost use Rattle.sweep_plan.specs.declared.items.ItemName.{ItemName as Wanted};
 
 use crate::items::ItemName;
-use crate::keys::{SettingKey, is_plain};
+use crate::keys::{SweptKey, is_plain};
 use schema::{FormatKey, KeyRule, Kind, Section, Version};
 
 /// The key of this name among those of items of lists: the list's name, that of the item and the key's, with dots
 /// between them.
 #[tactic(auto, unfolding(crate::specs::Keys::listed))]
-pub(crate) fn listed_key(word: &[u8]) -> Option<SettingKey>
+pub(crate) fn listed_key(word: &[u8]) -> Option<SweptKey>
     ensures some { IfSome result (IsNamedIn listed word.now) }
     ensures none { IsNone result → NamesNone listed word.now }
 {
@@ -21,7 +21,7 @@ pub(crate) fn listed_key(word: &[u8]) -> Option<SettingKey>
 }
 
 /// The key of this name among those that rows of the whole text give to items.
-fn key_of_lists(rows: &[KeyRule], word: &[u8]) -> Option<SettingKey>
+fn key_of_lists(rows: &[KeyRule], word: &[u8]) -> Option<SweptKey>
     ensures some { IfSome result (IsNamedIn (flat_map keys_of_items rows.now) word.now) }
     ensures none { IsNone result → NamesNone (flat_map keys_of_items rows.now) word.now }
 {
@@ -34,7 +34,7 @@ fn key_of_lists(rows: &[KeyRule], word: &[u8]) -> Option<SettingKey>
 }
 
 /// The key of this name among those that a row of the whole text gives to items.
-fn key_of_list(row: &KeyRule, word: &[u8]) -> Option<SettingKey>
+fn key_of_list(row: &KeyRule, word: &[u8]) -> Option<SweptKey>
     ensures some { IfSome result (IsNamedIn (keys_of_items row.now) word.now) }
     ensures none { IsNone result → NamesNone (keys_of_items row.now) word.now }
 {
@@ -45,7 +45,7 @@ fn key_of_list(row: &KeyRule, word: &[u8]) -> Option<SettingKey>
 }
 
 /// The key of this name among those that rows give to the items of a list.
-fn key_in_list(list: FormatKey, rows: &[KeyRule], word: &[u8]) -> Option<SettingKey>
+fn key_in_list(list: FormatKey, rows: &[KeyRule], word: &[u8]) -> Option<SweptKey>
     ensures some { IfSome result (IsNamedIn (keys_of_table list rows.now) word.now) }
     ensures none { IsNone result → NamesNone (keys_of_table list rows.now) word.now }
 {
@@ -58,7 +58,7 @@ fn key_in_list(list: FormatKey, rows: &[KeyRule], word: &[u8]) -> Option<Setting
 }
 
 /// The key of this name where it is that which a row gives to the items of a list.
-fn key_of_row(list: FormatKey, row: &KeyRule, word: &[u8]) -> Option<SettingKey>
+fn key_of_row(list: FormatKey, row: &KeyRule, word: &[u8]) -> Option<SweptKey>
     ensures some { IfSome result (IsNamedIn (keys_of_table list (row.now ∷ [])) word.now) }
     ensures none { IsNone result → NamesNone (keys_of_table list (row.now ∷ [])) word.now }
 {
@@ -66,7 +66,7 @@ fn key_of_row(list: FormatKey, row: &KeyRule, word: &[u8]) -> Option<SettingKey>
         return None;
     }
     match item_in(list.text().as_bytes(), row.key.text().as_bytes(), word) {
-        Some(item) => Some(SettingKey {
+        Some(item) => Some(SweptKey {
             table: Some(list),
             item: Some(item),
             key: row.key,

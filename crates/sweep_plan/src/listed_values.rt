@@ -10,7 +10,7 @@ ghost use Rattle.sweep_plan.specs.Document.{data_of, with_item, with_items, with
 use crate::document::{data, with_entry};
 use crate::items::ItemName;
 use crate::meant::marks;
-use crate::values::SettingValue;
+use crate::values::SweptValue;
 use base::Memory;
 use schema::FormatKey;
 use std::alloc::Global;
@@ -23,7 +23,7 @@ pub(crate) fn with_listed(
     list: FormatKey,
     item: ItemName,
     key: FormatKey,
-    value: SettingValue,
+    value: SweptValue,
 ) -> Result<Value, Memory>
     requires { FitsToml value }
     ensures { IfOk result (λ v. view v ≡ with_listed list (item_text item) key (data_of value) (view tree)) }
@@ -42,7 +42,7 @@ fn changed_list(
     list: FormatKey,
     name: &str,
     key: FormatKey,
-    value: SettingValue,
+    value: SweptValue,
 ) -> Result<Option<Value>, Memory>
     requires { FitsToml value }
     ensures { IfOk result (λ changed. option_map view changed ≡ option_map (with_items name.now key (data_of value)) (value_at list (view tree.now))) }
@@ -59,7 +59,7 @@ fn with_items(
     list: &Value,
     name: &str,
     key: FormatKey,
-    value: SettingValue,
+    value: SweptValue,
 ) -> Result<Value, Memory>
     requires { FitsToml value }
     ensures { IfOk result (λ v. view v ≡ with_items name.now key (data_of value) (view list.now)) }
@@ -79,7 +79,7 @@ fn with_meant(
     items: &[Value],
     name: &str,
     key: FormatKey,
-    value: SettingValue,
+    value: SweptValue,
 ) -> Result<Vec<Value>, Memory>
     requires { FitsToml value }
     ensures { IfOk result (λ changed. map view changed.items ≡ with_marked key (data_of value) (marks_of name.now (map view items.now)) (map view items.now)) }
@@ -94,7 +94,7 @@ fn with_marked(
     items: &[Value],
     marks: &[bool],
     key: FormatKey,
-    value: SettingValue,
+    value: SweptValue,
 ) -> Result<Vec<Value>, Memory>
     requires fits { FitsToml value }
     requires each { length marks.now ≡ length items.now }
@@ -113,7 +113,7 @@ fn with_item(
     item: &Value,
     is_meant: bool,
     key: FormatKey,
-    value: SettingValue,
+    value: SweptValue,
 ) -> Result<Value, Memory>
     requires { FitsToml value }
     ensures { IfOk result (λ v. view v ≡ with_item key (data_of value) is_meant (view item.now)) }

@@ -5,25 +5,25 @@ ghost use Rattle.toml.specs.View.{view};
 ghost use Rattle.sweep_plan.specs.Missing.{is_missing, meant_count, missing_of};
 
 use crate::items::ItemName;
-use crate::keys::SettingKey;
+use crate::keys::SweptKey;
 use crate::meant::marks;
-use crate::settings::Setting;
+use crate::swept_keys::Swept;
 use base::Memory;
 use schema::{FormatKey, items_at};
 use std::alloc::Global;
 use toml::Value;
 
-/// The first of the settings' keys whose name means no item of the document, or more than one; none where each means one.
+/// The first of the swept keys' keys whose name means no item of the document, or more than one; none where each means one.
 /// Where it means none, `with_values` sets nothing at that key; where it means two, it sets both.
 pub fn missing_item(
     alloc: Global,
-    settings: &[Setting],
+    swept_keys: &[Swept],
     document: &Value,
-) -> Result<Option<SettingKey>, Memory>
-    ensures { IfOk result (λ missing. missing ≡ missing_of (view document.now) settings.now) }
+) -> Result<Option<SweptKey>, Memory>
+    ensures { IfOk result (λ missing. missing ≡ missing_of (view document.now) swept_keys.now) }
 {
-    for setting in settings {
-        let key = setting.key();
+    for swept in swept_keys {
+        let key = swept.key();
         if is_missing(alloc, key, document)? {
             return Ok(Some(key));
         }
@@ -32,7 +32,7 @@ pub fn missing_item(
 }
 
 /// Whether a key stands in no item, or in more than one.
-fn is_missing(alloc: Global, key: SettingKey, document: &Value) -> Result<bool, Memory>
+fn is_missing(alloc: Global, key: SweptKey, document: &Value) -> Result<bool, Memory>
     ensures { IfOk result (λ it. it ≡ is_missing (view document.now) key) }
 {
     let count = items_meant(alloc, key, document)?;
@@ -40,7 +40,7 @@ fn is_missing(alloc: Global, key: SettingKey, document: &Value) -> Result<bool, 
 }
 
 /// How many items of its list a key's name means; 1 for a key outside lists.
-pub fn items_meant(alloc: Global, key: SettingKey, document: &Value) -> Result<usize, Memory>
+pub fn items_meant(alloc: Global, key: SweptKey, document: &Value) -> Result<usize, Memory>
     ensures { IfOk result (λ count. count ≡ meant_count (view document.now) key.table key.item) }
 {
     match key.table {

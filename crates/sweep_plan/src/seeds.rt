@@ -1,4 +1,4 @@
-//! The seeds with which each case runs.
+//! The seeds with which each setting runs.
 ghost use Rattle.std.specs.Prelude.{◌≡◌, ◌≤◌, ◌<◌, ◌^◌, ◌+◌, ◌-◌, option_map, IfSome, IsNone, IfOk, IfErr};
 ghost use Rattle.sweep_plan.specs.Asked.{AsksForSeeds, IsRange};
 ghost use Rattle.sweep_plan.specs.declared.seeds.Seeds.{Seeds as Range};

@@ -1,7 +1,7 @@
 //! The values that a sweep sets.
 ghost use Rattle.std.specs.Prelude.{◌≡◌, string_bytes, IfOk, IfSome, IsNone};
 ghost use Rattle.sweep_plan.specs.Values.{value_text, IsValue};
-ghost use Rattle.sweep_plan.specs.declared.values.SettingValue.{SettingValue as Wanted};
+ghost use Rattle.sweep_plan.specs.declared.values.SweptValue.{SweptValue as Wanted};
 
 use base::Memory;
 use decimals::number;
@@ -9,27 +9,27 @@ use std::alloc::Global;
 
 /// A value that a key is set to.
 #[derive(Clone, Copy, Debug, PartialEq, Eq)]
-pub enum SettingValue {
+pub enum SweptValue {
     /// A whole number, which a word says in decimal; at most 2^63 - 1.
     Whole(u64),
     /// A switch, which a word says as `true` or `false`.
     Switch(bool),
 }
 
-impl SettingValue {
+impl SweptValue {
     /// The value that a word says: `true`, `false`, or a whole number in decimal, without sign or
     /// leading zero, of at most 2^63 - 1.
-    pub fn read(word: &str) -> Option<SettingValue>
+    pub fn read(word: &str) -> Option<SweptValue>
         ensures some { IfSome result (IsValue word.now) }
         ensures none { IsNone result → (value : Wanted) → ¬ (IsValue word.now value) }
     {
         if word == "true" {
-            return Some(SettingValue::Switch(true));
+            return Some(SweptValue::Switch(true));
         }
         if word == "false" {
-            return Some(SettingValue::Switch(false));
+            return Some(SweptValue::Switch(false));
         }
-        Some(SettingValue::Whole(number(word)?))
+        Some(SweptValue::Whole(number(word)?))
     }
 
     /// The value as words say it.
@@ -37,9 +37,9 @@ impl SettingValue {
         ensures { IfOk result (λ text. string_bytes text ≡ value_text self) }
     {
         match self {
-            SettingValue::Whole(number) => Ok(format!(in alloc; "{number}")?),
-            SettingValue::Switch(true) => Ok(String::from_str(alloc, "true")?),
-            SettingValue::Switch(false) => Ok(String::from_str(alloc, "false")?),
+            SweptValue::Whole(number) => Ok(format!(in alloc; "{number}")?),
+            SweptValue::Switch(true) => Ok(String::from_str(alloc, "true")?),
+            SweptValue::Switch(false) => Ok(String::from_str(alloc, "false")?),
         }
     }
 }

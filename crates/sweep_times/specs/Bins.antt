@@ -3,7 +3,7 @@ use Rattle.std.specs.Prelude.{ℕ, ◌+◌, ◌-◌, ◌*◌, ◌^◌, ◌==◌,
 use Rattle.std.specs.List.{range_with_len}
 use Rattle.std.specs.Option.{option_map_or}
 use Rattle.figures.specs.declared.histogram.Histogram.{Histogram}
-use Rattle.figures.specs.declared.summary.CaseSummary.{CaseSummary}
+use Rattle.figures.specs.declared.summary.SettingSummary.{SettingSummary}
 
 -- as far as 64 bits hold it
 abbrev pub held : ℕ → ℕ
@@ -29,17 +29,17 @@ end_at times bin = option_map_or (filled_end times bin) (slice_get times.bins bi
 unfoldable pub reach_of : Histogram → ℕ
 reach_of times = fold (λ most bin. max most (end_at times bin)) 0 (range_with_len 0 20)
 
--- how far those of the case at a place reach
-unfoldable pub reach_at : List CaseSummary → ℕ → ℕ
-reach_at cases place = option_map_or (λ case. reach_of case.confirm_times) (slice_get cases place) 0
+-- how far those of the setting at a place reach
+unfoldable pub reach_at : List SettingSummary → ℕ → ℕ
+reach_at settings place = option_map_or (λ setting. reach_of setting.confirm_times) (slice_get settings place) 0
 
--- how far those of the cases at these places reach; 1 at least
-unfoldable pub greatest_reach : List CaseSummary → List ℕ → ℕ
-greatest_reach cases places = fold (λ (most : ℕ) (place : ℕ). max most (reach_at cases place)) 1 places
+-- how far those of the settings at these places reach; 1 at least
+unfoldable pub greatest_reach : List SettingSummary → List ℕ → ℕ
+greatest_reach settings places = fold (λ (most : ℕ) (place : ℕ). max most (reach_at settings place)) 1 places
 
 -- how far the axis of all these reaches: a billion billions at most
-unfoldable pub axis_reach : List CaseSummary → List ℕ → ℕ
-axis_reach cases places = min (greatest_reach cases places) (10 ^ 18)
+unfoldable pub axis_reach : List SettingSummary → List ℕ → ℕ
+axis_reach settings places = min (greatest_reach settings places) (10 ^ 18)
 
 -- how many times the fullest bin has; 1 at least
 unfoldable pub fullest : Histogram → ℕ
@@ -53,6 +53,6 @@ height_of times = min (fullest times) (10 ^ 18)
 unfoldable pub in_no_bin : ℕ → Histogram → ℕ
 in_no_bin crashes times = crashes - sum_by (λ count. count) times.bins
 
--- how many crashes of a case were never confirmed: the bins have all those that were
-unfoldable pub never_confirmed : CaseSummary → ℕ
-never_confirmed case = held (in_no_bin case.crashes case.confirm_times)
+-- how many crashes of a setting were never confirmed: the bins have all those that were
+unfoldable pub never_confirmed : SettingSummary → ℕ
+never_confirmed setting = held (in_no_bin setting.crashes setting.confirm_times)

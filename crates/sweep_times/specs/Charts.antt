@@ -1,4 +1,4 @@
--- A chart of the times of a case: a bar for each bin.
+-- A chart of the times of a setting: a bar for each bin.
 use Rattle.std.specs.Prelude.{ℕ, ◌+◌, ◌==◌, if◌then◌else◌, min, List, [], ◌++◌, codes, decimal, slice_get}
 use Rattle.std.specs.List.{flat_map, range_with_len}
 use Rattle.std.specs.Option.{option_map_or}
@@ -8,8 +8,8 @@ use Rattle.drawing.specs.Escaped.{markup}
 use Rattle.drawing.specs.Numbers.{grouped}
 use Rattle.drawing.specs.Shapes.{bar, rule, plot_opening, plot_end}
 use Rattle.figures.specs.declared.histogram.Histogram.{Histogram}
-use Rattle.figures.specs.declared.summary.CaseSummary.{CaseSummary}
-use Rattle.sweep_cells.specs.Words.{number_words, settings_at, time_words}
+use Rattle.figures.specs.declared.summary.SettingSummary.{SettingSummary}
+use Rattle.sweep_cells.specs.Words.{number_words, swept_keys_at, time_words}
 use Rattle.sweep_times.specs.Bins.{held, bin_start, bin_end, height_of, never_confirmed}
 
 -- the bar of a bin, as wide as the bin and as high as its times are many; the plot cuts it off
@@ -28,11 +28,11 @@ bar_at times across up bin = option_map_or (bin_bar times across up bin) (slice_
 unfoldable pub bars : Histogram → ℕ → ℕ → List ℕ
 bars times across up = flat_map (bar_at times across up) (range_with_len 0 20)
 
--- an upright rule at the median; none where a case has none
-unfoldable pub median_rule : CaseSummary → ℕ → ℕ → List ℕ
-median_rule case across up = option_map_or (λ time. rule (codes "median") (min time across) up) case.confirm_p50 []
+-- an upright rule at the median; none where a setting has none
+unfoldable pub median_rule : SettingSummary → ℕ → ℕ → List ℕ
+median_rule setting across up = option_map_or (λ time. rule (codes "median") (min time across) up) setting.confirm_p50 []
 
--- what the plot of the case at a place is called
+-- what the plot of the setting at a place is called
 unfoldable pub plot_title : ℕ → List ℕ
 plot_title place = codes "Setting " ++ decimal (held (place + 1)) ++ codes ": ticks until a crash is first confirmed"
 
@@ -43,35 +43,35 @@ times_opening place across up =
     (codes "Across: ticks since the crash, as far as in each chart here. Up: how many crashes were first confirmed then. The upright rule is the median. The table beneath has the numbers.")
 
 -- the bars and the rule
-unfoldable pub times_plane : ℕ → CaseSummary → ℕ → ℕ → List ℕ
-times_plane place case across up =
-    markup (codes "<div class=\"plane\">") ++ times_opening place across up ++ bars case.confirm_times across up ++ median_rule case across up ++ plot_end ++ markup (codes "</div>")
+unfoldable pub times_plane : ℕ → SettingSummary → ℕ → ℕ → List ℕ
+times_plane place setting across up =
+    markup (codes "<div class=\"plane\">") ++ times_opening place across up ++ bars setting.confirm_times across up ++ median_rule setting across up ++ plot_end ++ markup (codes "</div>")
 
--- the chart of the case at a place begins by its number and its settings
+-- the chart of the setting at a place begins by its number and its choices
 unfoldable pub chart_heading : List KeyValues → ℕ → List ℕ
-chart_heading settings place =
-    markup (codes "<div><h3><span class=\"number\">") ++ number_words place ++ markup (codes "</span> <code>") ++ settings_at settings place ++ markup (codes "</code></h3>")
+chart_heading swept_keys place =
+    markup (codes "<div><h3><span class=\"number\">") ++ number_words place ++ markup (codes "</span> <code>") ++ swept_keys_at swept_keys place ++ markup (codes "</code></h3>")
 
 -- its median, and how many crashes were never confirmed
-unfoldable pub chart_words : CaseSummary → List ℕ
-chart_words case =
-    markup (codes "<p class=\"soft\">Median: ") ++ time_words case.confirm_p50 ++ markup (codes " ticks. Never confirmed: ") ++ grouped (never_confirmed case)
-    ++ markup (codes " of ") ++ grouped (held case.crashes) ++ markup (codes " crashes.</p>")
+unfoldable pub chart_words : SettingSummary → List ℕ
+chart_words setting =
+    markup (codes "<p class=\"soft\">Median: ") ++ time_words setting.confirm_p50 ++ markup (codes " ticks. Never confirmed: ") ++ grouped (never_confirmed setting)
+    ++ markup (codes " of ") ++ grouped (held setting.crashes) ++ markup (codes " crashes.</p>")
 
 -- its plot with both axes
-unfoldable pub times_plot : ℕ → ℕ → CaseSummary → List ℕ
-times_plot across place case =
-    markup (codes "<div class=\"chart\">") ++ axis_up (height_of case.confirm_times) ++ times_plane place case across (height_of case.confirm_times)
+unfoldable pub times_plot : ℕ → ℕ → SettingSummary → List ℕ
+times_plot across place setting =
+    markup (codes "<div class=\"chart\">") ++ axis_up (height_of setting.confirm_times) ++ times_plane place setting across (height_of setting.confirm_times)
     ++ axis_across across (codes "ticks since the crash") ++ markup (codes "</div></div>")
 
--- the chart of a case
-unfoldable pub times_chart : List KeyValues → ℕ → ℕ → CaseSummary → List ℕ
-times_chart settings across place case = chart_heading settings place ++ chart_words case ++ times_plot across place case
+-- the chart of a setting
+unfoldable pub times_chart : List KeyValues → ℕ → ℕ → SettingSummary → List ℕ
+times_chart swept_keys across place setting = chart_heading swept_keys place ++ chart_words setting ++ times_plot across place setting
 
--- that of the case at a place
-unfoldable pub chart_at : List KeyValues → List CaseSummary → ℕ → ℕ → List ℕ
-chart_at settings cases across place = option_map_or (times_chart settings across place) (slice_get cases place) []
+-- that of the setting at a place
+unfoldable pub chart_at : List KeyValues → List SettingSummary → ℕ → ℕ → List ℕ
+chart_at swept_keys settings across place = option_map_or (times_chart swept_keys across place) (slice_get settings place) []
 
--- the charts of the cases at these places
-unfoldable pub charts : List KeyValues → List CaseSummary → ℕ → List ℕ → List ℕ
-charts settings cases across places = markup (codes "<div class=\"many\">") ++ flat_map (chart_at settings cases across) places ++ markup (codes "</div>")
+-- the charts of the settings at these places
+unfoldable pub charts : List KeyValues → List SettingSummary → ℕ → List ℕ → List ℕ
+charts swept_keys settings across places = markup (codes "<div class=\"many\">") ++ flat_map (chart_at swept_keys settings across) places ++ markup (codes "</div>")

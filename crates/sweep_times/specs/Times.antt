@@ -1,4 +1,4 @@
--- The figure of times: for each case on the front, after how many ticks its crashes were first confirmed.
+-- The figure of times: for each setting on the front, after how many ticks its crashes were first confirmed.
 use Rattle.std.specs.Prelude.{ℕ, ◌-◌, ◌==◌, if◌then◌else◌, List, [], ◌++◌, codes, length, slice_get, take}
 use Rattle.std.specs.List.{flat_map, range_with_len}
 use Rattle.std.specs.Option.{option_map_or}
@@ -7,12 +7,12 @@ use Rattle.drawing.specs.Escaped.{markup}
 use Rattle.drawing.specs.Numbers.{grouped}
 use Rattle.drawing.specs.Shapes.{figure_opening, figure_end}
 use Rattle.figures.specs.declared.histogram.Histogram.{Histogram}
-use Rattle.figures.specs.declared.summary.CaseSummary.{CaseSummary}
+use Rattle.figures.specs.declared.summary.SettingSummary.{SettingSummary}
 use Rattle.sweep_cells.specs.Words.{count_words, number_words}
 use Rattle.sweep_times.specs.Bins.{axis_reach, bin_start, bin_end, never_confirmed}
 use Rattle.sweep_times.specs.Charts.{charts}
 
--- a row begins with the number of its case
+-- a row begins with the number of its setting
 unfoldable pub row_opening : ℕ → List ℕ
 row_opening place = markup (codes "<tr><td>") ++ number_words place ++ markup (codes "</td><td>")
 
@@ -32,29 +32,29 @@ bin_row times place bin count = if count == 0 then [] else filled_row times plac
 unfoldable pub row_at : Histogram → ℕ → ℕ → List ℕ
 row_at times place bin = option_map_or (bin_row times place bin) (slice_get times.bins bin) []
 
--- the rows of all bins of a case
+-- the rows of all bins of a setting
 unfoldable pub bin_rows : Histogram → ℕ → List ℕ
 bin_rows times place = flat_map (row_at times place) (range_with_len 0 20)
 
 -- the row of the crashes that were never confirmed
-unfoldable pub never_row : ℕ → CaseSummary → List ℕ
-never_row place case = row_opening place ++ markup (codes "never") ++ row_end (never_confirmed case)
+unfoldable pub never_row : ℕ → SettingSummary → List ℕ
+never_row place setting = row_opening place ++ markup (codes "never") ++ row_end (never_confirmed setting)
 
--- the rows of a case
-unfoldable pub case_rows : ℕ → CaseSummary → List ℕ
-case_rows place case = bin_rows case.confirm_times place ++ never_row place case
+-- the rows of a setting
+unfoldable pub setting_rows : ℕ → SettingSummary → List ℕ
+setting_rows place setting = bin_rows setting.confirm_times place ++ never_row place setting
 
--- those of the case at a place
-unfoldable pub rows_at : List CaseSummary → ℕ → List ℕ
-rows_at cases place = option_map_or (case_rows place) (slice_get cases place) []
+-- those of the setting at a place
+unfoldable pub rows_at : List SettingSummary → ℕ → List ℕ
+rows_at settings place = option_map_or (setting_rows place) (slice_get settings place) []
 
 -- what the columns are
 unfoldable pub times_heads : List ℕ
 times_heads = codes "<details><summary>These times in numbers</summary><div class=\"wide\"><table><caption>How many crashes were first confirmed when</caption><thead><tr><th scope=\"col\">setting</th><th scope=\"col\">ticks until first confirmed</th><th scope=\"col\">crashes</th></tr></thead><tbody>"
 
--- the bins of the cases at these places in numbers, folded
-unfoldable pub times_table : List CaseSummary → List ℕ → List ℕ
-times_table cases places = times_heads ++ flat_map (rows_at cases) places ++ markup (codes "</tbody></table></div></details>")
+-- the bins of the settings at these places in numbers, folded
+unfoldable pub times_table : List SettingSummary → List ℕ → List ℕ
+times_table settings places = times_heads ++ flat_map (rows_at settings) places ++ markup (codes "</tbody></table></div></details>")
 
 -- what the charts show
 unfoldable pub times_words : List ℕ
@@ -68,12 +68,12 @@ more_words more = markup (codes "<p class=\"soft\">") ++ count_words more (codes
 unfoldable pub undrawn_words : ℕ → List ℕ
 undrawn_words more = if more == 0 then [] else more_words more
 
--- the figure of the cases at these places, with how many more there are
-unfoldable pub figure_of : List KeyValues → List CaseSummary → List ℕ → ℕ → List ℕ
-figure_of settings cases places more =
-    figure_opening (codes "times") (codes "How the times to confirm spread") ++ times_words ++ charts settings cases (axis_reach cases places) places ++ undrawn_words more
-    ++ times_table cases places ++ figure_end
+-- the figure of the settings at these places, with how many more there are
+unfoldable pub figure_of : List KeyValues → List SettingSummary → List ℕ → ℕ → List ℕ
+figure_of swept_keys settings places more =
+    figure_opening (codes "times") (codes "How the times to confirm spread") ++ times_words ++ charts swept_keys settings (axis_reach settings places) places ++ undrawn_words more
+    ++ times_table settings places ++ figure_end
 
 -- that of the first twelve of these; nothing where there are none
-unfoldable pub times_figure : List KeyValues → List CaseSummary → List ℕ → List ℕ
-times_figure settings cases places = if length places == 0 then [] else figure_of settings cases (take 12 places) (length places - 12)
+unfoldable pub times_figure : List KeyValues → List SettingSummary → List ℕ → List ℕ
+times_figure swept_keys settings places = if length places == 0 then [] else figure_of swept_keys settings (take 12 places) (length places - 12)

@@ -1,9 +1,9 @@
-//! Where the bins of a case's times lie, and how many crashes are in none of them.
+//! Where the bins of a setting's times lie, and how many crashes are in none of them.
 ghost use Rattle.std.specs.Prelude.{◌≡◌, ◌<◌, ◌^◌, slice_get};
 ghost use Rattle.sweep_times.specs.Bins.{held, bin_start, bin_end, filled_end, end_at, reach_of, reach_at, greatest_reach, axis_reach, fullest, height_of, in_no_bin, never_confirmed};
 
-use figures::{CaseSummary, Histogram};
-use sweep_cells::case_at;
+use figures::{Histogram, SettingSummary};
+use sweep_cells::setting_at;
 
 /// The greatest number that an axis reaches.
 const MOST: u64 = 1_000_000_000_000_000_000;
@@ -67,36 +67,36 @@ fn reach_of(times: &Histogram) -> u64
     most
 }
 
-/// How far those of the case at a place reach; 0 where there is no such case.
+/// How far those of the setting at a place reach; 0 where there is no such setting.
 #[tactic(auto, unfolding(crate::specs::Bins::reach_at))]
-fn reach_at(cases: &[CaseSummary], place: usize) -> u64
-    ensures { result ≡ reach_at cases.now place }
+fn reach_at(settings: &[SettingSummary], place: usize) -> u64
+    ensures { result ≡ reach_at settings.now place }
 {
-    match case_at(cases, place) {
-        Some(case) => reach_of(&case.confirm_times),
+    match setting_at(settings, place) {
+        Some(setting) => reach_of(&setting.confirm_times),
         None => 0,
     }
 }
 
-/// How far the bins of these cases reach in which times are; 1 at least.
+/// How far the bins of these settings reach in which times are; 1 at least.
 #[tactic(auto, unfolding(crate::specs::Bins::greatest_reach))]
-fn greatest_reach(cases: &[CaseSummary], places: &[usize]) -> u64
-    ensures { result ≡ greatest_reach cases.now places.now }
+fn greatest_reach(settings: &[SettingSummary], places: &[usize]) -> u64
+    ensures { result ≡ greatest_reach settings.now places.now }
 {
     let mut most = 1;
     for place in places {
-        most = most.max(reach_at(cases, *place));
+        most = most.max(reach_at(settings, *place));
     }
     most
 }
 
-/// How far the axis reaches over which these cases are drawn, in ticks.
+/// How far the axis reaches over which these settings are drawn, in ticks.
 #[tactic(auto, unfolding(crate::specs::Bins::axis_reach))]
-pub(crate) fn axis_reach(cases: &[CaseSummary], places: &[usize]) -> u64
-    ensures is { result ≡ axis_reach cases.now places.now }
+pub(crate) fn axis_reach(settings: &[SettingSummary], places: &[usize]) -> u64
+    ensures is { result ≡ axis_reach settings.now places.now }
     ensures low { result < 2 ^ 63 }
 {
-    greatest_reach(cases, places).min(MOST)
+    greatest_reach(settings, places).min(MOST)
 }
 
 /// How many times the fullest bin has; 1 at least.
@@ -120,12 +120,12 @@ pub(crate) fn height_of(times: &Histogram) -> u64
     fullest(times).min(MOST)
 }
 
-/// How many crashes of a case were never confirmed, as far as 64 bits hold it.
+/// How many crashes of a setting were never confirmed, as far as 64 bits hold it.
 #[tactic(auto, unfolding(crate::specs::Bins::never_confirmed))]
-pub(crate) fn never_confirmed(case: &CaseSummary) -> u64
-    ensures { result ≡ never_confirmed case.now }
+pub(crate) fn never_confirmed(setting: &SettingSummary) -> u64
+    ensures { result ≡ never_confirmed setting.now }
 {
-    held(in_no_bin(case.crashes, &case.confirm_times))
+    held(in_no_bin(setting.crashes, &setting.confirm_times))
 }
 
 /// How many of so many crashes are in no bin.

@@ -1,4 +1,4 @@
-//! The charts: one for each case, all over one axis.
+//! The charts: one for each setting, all over one axis.
 ghost use Rattle.std.specs.Prelude.{◌≡◌, ◌<◌, ◌^◌, ◌++◌, IfOk, OnOk};
 ghost use Rattle.std.specs.List.{flat_map};
 ghost use Rattle.std.specs.String.{string_bytes};
@@ -8,27 +8,27 @@ use crate::bars::push_bars;
 use crate::bins::{height_of, held, never_confirmed};
 use base::Memory;
 use drawing::{close_plot, open_plot, push_across, push_grouped, push_markup, push_rule, push_up};
-use figures::CaseSummary;
+use figures::SettingSummary;
 use std::alloc::{AllocError, Global};
-use sweep_cells::{case_at, push_number, push_settings_at, push_time};
+use sweep_cells::{push_number, push_swept_keys_at, push_time, setting_at};
 use sweep_plan::Plan;
 
-/// Appends the charts of the cases at these places, over an axis of so many ticks.
+/// Appends the charts of the settings at these places, over an axis of so many ticks.
 #[tactic(auto, unfolding(crate::specs::Charts::charts))]
 pub(crate) fn push_charts(
     alloc: Global,
     text: &mut String,
     plan: &Plan,
-    cases: &[CaseSummary],
+    settings: &[SettingSummary],
     across: u64,
     places: &[usize],
 ) -> Result<(), Memory>
     requires { across < 2 ^ 63 }
     ensures { OnOk result (string_bytes text.new ≡ string_bytes text.old
-        ++ charts plan.now.settings cases.now across places.now) }
+        ++ charts plan.now.swept_keys settings.now across places.now) }
 {
     push_markup(text, "<div class=\"many\">")?;
-    push_each_chart(alloc, text, plan, cases, across, places)?;
+    push_each_chart(alloc, text, plan, settings, across, places)?;
     push_markup(text, "</div>")?;
     Ok(())
 }
@@ -38,41 +38,41 @@ fn push_each_chart(
     alloc: Global,
     text: &mut String,
     plan: &Plan,
-    cases: &[CaseSummary],
+    settings: &[SettingSummary],
     across: u64,
     places: &[usize],
 ) -> Result<(), Memory>
     requires { across < 2 ^ 63 }
     ensures { OnOk result (string_bytes text.new ≡ string_bytes text.old
-        ++ flat_map (chart_at plan.now.settings cases.now across) places.now) }
+        ++ flat_map (chart_at plan.now.swept_keys settings.now across) places.now) }
 {
     for place in places {
-        push_chart_at(alloc, text, plan, cases, across, *place)?;
+        push_chart_at(alloc, text, plan, settings, across, *place)?;
     }
     Ok(())
 }
 
-/// Appends the chart of the case at a place.
+/// Appends the chart of the setting at a place.
 #[tactic(auto, unfolding(crate::specs::Charts::chart_at))]
 fn push_chart_at(
     alloc: Global,
     text: &mut String,
     plan: &Plan,
-    cases: &[CaseSummary],
+    settings: &[SettingSummary],
     across: u64,
     place: usize,
 ) -> Result<(), Memory>
     requires { across < 2 ^ 63 }
     ensures { OnOk result (string_bytes text.new ≡ string_bytes text.old
-        ++ chart_at plan.now.settings cases.now across place) }
+        ++ chart_at plan.now.swept_keys settings.now across place) }
 {
-    match case_at(cases, place) {
-        Some(case) => push_chart(alloc, text, plan, across, place, &case),
+    match setting_at(settings, place) {
+        Some(setting) => push_chart(alloc, text, plan, across, place, &setting),
         None => Ok(()),
     }
 }
 
-/// Appends the chart of a case, which stands at this place.
+/// Appends the chart of a setting, which stands at this place.
 #[tactic(auto, unfolding(crate::specs::Charts::times_chart))]
 fn push_chart(
     alloc: Global,
@@ -80,42 +80,42 @@ fn push_chart(
     plan: &Plan,
     across: u64,
     place: usize,
-    case: &CaseSummary,
+    setting: &SettingSummary,
 ) -> Result<(), Memory>
     requires { across < 2 ^ 63 }
     ensures { OnOk result (string_bytes text.new ≡ string_bytes text.old
-        ++ times_chart plan.now.settings across place case.now) }
+        ++ times_chart plan.now.swept_keys across place setting.now) }
 {
     push_heading(alloc, text, plan, place)?;
-    push_words(text, case)?;
-    push_plot(alloc, text, across, place, case)?;
+    push_words(text, setting)?;
+    push_plot(alloc, text, across, place, setting)?;
     Ok(())
 }
 
-/// Begins it by the case's number and settings.
+/// Begins it by the setting's number and choices.
 #[tactic(auto, unfolding(crate::specs::Charts::chart_heading))]
 fn push_heading(alloc: Global, text: &mut String, plan: &Plan, place: usize) -> Result<(), Memory>
-    ensures { OnOk result (string_bytes text.new ≡ string_bytes text.old ++ chart_heading plan.now.settings place) }
+    ensures { OnOk result (string_bytes text.new ≡ string_bytes text.old ++ chart_heading plan.now.swept_keys place) }
 {
     push_markup(text, "<div><h3><span class=\"number\">")?;
     push_number(text, place)?;
     push_markup(text, "</span> <code>")?;
-    push_settings_at(alloc, text, plan, place)?;
+    push_swept_keys_at(alloc, text, plan, place)?;
     push_markup(text, "</code></h3>")?;
     Ok(())
 }
 
-/// Appends a case's median, and how many of its crashes were never confirmed.
+/// Appends a setting's median, and how many of its crashes were never confirmed.
 #[tactic(auto, unfolding(crate::specs::Charts::chart_words))]
-fn push_words(text: &mut String, case: &CaseSummary) -> Result<(), AllocError>
-    ensures { OnOk result (string_bytes text.new ≡ string_bytes text.old ++ chart_words case.now) }
+fn push_words(text: &mut String, setting: &SettingSummary) -> Result<(), AllocError>
+    ensures { OnOk result (string_bytes text.new ≡ string_bytes text.old ++ chart_words setting.now) }
 {
     push_markup(text, "<p class=\"soft\">Median: ")?;
-    push_time(text, case.confirm_p50)?;
+    push_time(text, setting.confirm_p50)?;
     push_markup(text, " ticks. Never confirmed: ")?;
-    push_grouped(text, never_confirmed(case))?;
+    push_grouped(text, never_confirmed(setting))?;
     push_markup(text, " of ")?;
-    push_grouped(text, held(case.crashes))?;
+    push_grouped(text, held(setting.crashes))?;
     push_markup(text, " crashes.</p>")
 }
 
@@ -126,15 +126,15 @@ fn push_plot(
     text: &mut String,
     across: u64,
     place: usize,
-    case: &CaseSummary,
+    setting: &SettingSummary,
 ) -> Result<(), Memory>
     requires { across < 2 ^ 63 }
-    ensures { OnOk result (string_bytes text.new ≡ string_bytes text.old ++ times_plot across place case.now) }
+    ensures { OnOk result (string_bytes text.new ≡ string_bytes text.old ++ times_plot across place setting.now) }
 {
-    let up = height_of(&case.confirm_times);
+    let up = height_of(&setting.confirm_times);
     push_markup(text, "<div class=\"chart\">")?;
     push_up(text, up)?;
-    push_plane(alloc, text, place, case, across, up)?;
+    push_plane(alloc, text, place, setting, across, up)?;
     push_across(text, across, "ticks since the crash")?;
     push_markup(text, "</div></div>")?;
     Ok(())
@@ -146,22 +146,22 @@ fn push_plane(
     alloc: Global,
     text: &mut String,
     place: usize,
-    case: &CaseSummary,
+    setting: &SettingSummary,
     across: u64,
     up: u64,
 ) -> Result<(), Memory>
-    ensures { OnOk result (string_bytes text.new ≡ string_bytes text.old ++ times_plane place case.now across up) }
+    ensures { OnOk result (string_bytes text.new ≡ string_bytes text.old ++ times_plane place setting.now across up) }
 {
     push_markup(text, "<div class=\"plane\">")?;
     open_times(alloc, text, place, across, up)?;
-    push_bars(text, &case.confirm_times, across, up)?;
-    push_median(text, case, across, up)?;
+    push_bars(text, &setting.confirm_times, across, up)?;
+    push_median(text, setting, across, up)?;
     close_plot(text)?;
     push_markup(text, "</div>")?;
     Ok(())
 }
 
-/// Begins the plot of the case at a place.
+/// Begins the plot of the setting at a place.
 #[tactic(auto, unfolding(crate::specs::Charts::times_opening))]
 fn open_times(
     alloc: Global,
@@ -185,7 +185,7 @@ fn open_times(
     Ok(())
 }
 
-/// What the plot of the case at a place is called.
+/// What the plot of the setting at a place is called.
 #[tactic(auto, unfolding(crate::specs::Charts::plot_title))]
 fn plot_title(alloc: Global, place: usize) -> Result<String, Memory>
     ensures { IfOk result (λ title. string_bytes title ≡ plot_title place) }
@@ -194,17 +194,17 @@ fn plot_title(alloc: Global, place: usize) -> Result<String, Memory>
     Ok(format!(in alloc; "Setting {number}: ticks until a crash is first confirmed")?)
 }
 
-/// Appends an upright rule at the median of a case, where it has one.
+/// Appends an upright rule at the median of a setting, where it has one.
 #[tactic(auto, unfolding(crate::specs::Charts::median_rule))]
 fn push_median(
     text: &mut String,
-    case: &CaseSummary,
+    setting: &SettingSummary,
     across: u64,
     up: u64,
 ) -> Result<(), AllocError>
-    ensures { OnOk result (string_bytes text.new ≡ string_bytes text.old ++ median_rule case.now across up) }
+    ensures { OnOk result (string_bytes text.new ≡ string_bytes text.old ++ median_rule setting.now across up) }
 {
-    match case.confirm_p50 {
+    match setting.confirm_p50 {
         Some(time) => push_rule(text, "median", time.min(across), up),
         None => Ok(()),
     }

@@ -2,25 +2,25 @@
 ghost use Rattle.std.specs.Prelude.{◌≡◌, ◌++◌, OnOk};
 ghost use Rattle.std.specs.List.{flat_map};
 ghost use Rattle.std.specs.String.{string_bytes};
-ghost use Rattle.sweep_times.specs.Times.{row_opening, row_end, filled_row, bin_row, row_at, bin_rows, never_row, case_rows, rows_at, times_heads, times_table};
+ghost use Rattle.sweep_times.specs.Times.{row_opening, row_end, filled_row, bin_row, row_at, bin_rows, never_row, setting_rows, rows_at, times_heads, times_table};
 
 use crate::bins::{bin_end, bin_start, count_at, never_confirmed};
 use drawing::{push_grouped, push_markup};
-use figures::{CaseSummary, Histogram};
+use figures::{Histogram, SettingSummary};
 use std::alloc::AllocError;
-use sweep_cells::{case_at, push_number};
+use sweep_cells::{push_number, setting_at};
 
-/// Appends the bins of the cases at these places, folded.
+/// Appends the bins of the settings at these places, folded.
 #[tactic(auto, unfolding(crate::specs::Times::times_table))]
 pub(crate) fn push_rows(
     text: &mut String,
-    cases: &[CaseSummary],
+    settings: &[SettingSummary],
     places: &[usize],
 ) -> Result<(), AllocError>
-    ensures { OnOk result (string_bytes text.new ≡ string_bytes text.old ++ times_table cases.now places.now) }
+    ensures { OnOk result (string_bytes text.new ≡ string_bytes text.old ++ times_table settings.now places.now) }
 {
     push_heads(text)?;
-    push_rows_of(text, cases, places)?;
+    push_rows_of(text, settings, places)?;
     push_markup(text, "</tbody></table></div></details>")
 }
 
@@ -37,38 +37,46 @@ fn push_heads(text: &mut String) -> Result<(), AllocError>
     )
 }
 
-/// Appends the rows of these cases.
+/// Appends the rows of these settings.
 fn push_rows_of(
     text: &mut String,
-    cases: &[CaseSummary],
+    settings: &[SettingSummary],
     places: &[usize],
 ) -> Result<(), AllocError>
-    ensures { OnOk result (string_bytes text.new ≡ string_bytes text.old ++ flat_map (rows_at cases.now) places.now) }
+    ensures { OnOk result (string_bytes text.new ≡ string_bytes text.old ++ flat_map (rows_at settings.now) places.now) }
 {
     for place in places {
-        push_rows_at(text, cases, *place)?;
+        push_rows_at(text, settings, *place)?;
     }
     Ok(())
 }
 
-/// Appends the rows of the case at a place.
+/// Appends the rows of the setting at a place.
 #[tactic(auto, unfolding(crate::specs::Times::rows_at))]
-fn push_rows_at(text: &mut String, cases: &[CaseSummary], place: usize) -> Result<(), AllocError>
-    ensures { OnOk result (string_bytes text.new ≡ string_bytes text.old ++ rows_at cases.now place) }
+fn push_rows_at(
+    text: &mut String,
+    settings: &[SettingSummary],
+    place: usize,
+) -> Result<(), AllocError>
+    ensures { OnOk result (string_bytes text.new ≡ string_bytes text.old ++ rows_at settings.now place) }
 {
-    match case_at(cases, place) {
-        Some(case) => push_case_rows(text, place, &case),
+    match setting_at(settings, place) {
+        Some(setting) => push_setting_rows(text, place, &setting),
         None => Ok(()),
     }
 }
 
-/// Appends the rows of a case: of its bins, and of the crashes that were never confirmed.
-#[tactic(auto, unfolding(crate::specs::Times::case_rows))]
-fn push_case_rows(text: &mut String, place: usize, case: &CaseSummary) -> Result<(), AllocError>
-    ensures { OnOk result (string_bytes text.new ≡ string_bytes text.old ++ case_rows place case.now) }
+/// Appends the rows of a setting: of its bins, and of the crashes that were never confirmed.
+#[tactic(auto, unfolding(crate::specs::Times::setting_rows))]
+fn push_setting_rows(
+    text: &mut String,
+    place: usize,
+    setting: &SettingSummary,
+) -> Result<(), AllocError>
+    ensures { OnOk result (string_bytes text.new ≡ string_bytes text.old ++ setting_rows place setting.now) }
 {
-    push_bin_rows(text, &case.confirm_times, place)?;
-    push_never_row(text, place, case)
+    push_bin_rows(text, &setting.confirm_times, place)?;
+    push_never_row(text, place, setting)
 }
 
 /// Appends the rows of its bins.
@@ -133,17 +141,21 @@ fn push_filled_row(
     push_row_end(text, count)
 }
 
-/// Appends the row of the crashes of a case that were never confirmed.
+/// Appends the row of the crashes of a setting that were never confirmed.
 #[tactic(auto, unfolding(crate::specs::Times::never_row))]
-fn push_never_row(text: &mut String, place: usize, case: &CaseSummary) -> Result<(), AllocError>
-    ensures { OnOk result (string_bytes text.new ≡ string_bytes text.old ++ never_row place case.now) }
+fn push_never_row(
+    text: &mut String,
+    place: usize,
+    setting: &SettingSummary,
+) -> Result<(), AllocError>
+    ensures { OnOk result (string_bytes text.new ≡ string_bytes text.old ++ never_row place setting.now) }
 {
     push_row_opening(text, place)?;
     push_markup(text, "never")?;
-    push_row_end(text, never_confirmed(case))
+    push_row_end(text, never_confirmed(setting))
 }
 
-/// Begins a row with the number of its case.
+/// Begins a row with the number of its setting.
 #[tactic(auto, unfolding(crate::specs::Times::row_opening))]
 fn push_row_opening(text: &mut String, place: usize) -> Result<(), AllocError>
     ensures { OnOk result (string_bytes text.new ≡ string_bytes text.old ++ row_opening place) }

@@ -8,61 +8,61 @@ use crate::charts::push_charts;
 use crate::rows::push_rows;
 use base::Memory;
 use drawing::{close_figure, open_figure, push_markup};
-use figures::CaseSummary;
+use figures::SettingSummary;
 use std::alloc::{AllocError, Global};
 use sweep_cells::push_count;
 use sweep_plan::Plan;
 
-/// How many cases are drawn.
+/// How many settings are drawn.
 const MOST_DRAWN: usize = 12;
 
-/// Appends a figure of the times to confirm of each case on the front, or nothing where there is
-/// none. It takes the summary of each case of the plan, in their order, and the places among them of
+/// Appends a figure of the times to confirm of each setting on the front, or nothing where there is
+/// none. It takes the summary of each setting of the plan, in their order, and the places among them of
 /// those on the front; it draws the first twelve of these. It fails only where memory is refused.
 #[tactic(auto, unfolding(crate::specs::Times::times_figure))]
 pub fn push_times(
     alloc: Global,
     text: &mut String,
     plan: &Plan,
-    cases: &[CaseSummary],
+    settings: &[SettingSummary],
     places: &[usize],
 ) -> Result<(), Memory>
     ensures { OnOk result (string_bytes text.new ≡ string_bytes text.old
-        ++ times_figure plan.now.settings cases.now places.now) }
+        ++ times_figure plan.now.swept_keys settings.now places.now) }
 {
     if places.is_empty() {
         return Ok(());
     }
     let more = places.len().saturating_sub(MOST_DRAWN);
-    push_figure(alloc, text, plan, cases, first_places(places), more)
+    push_figure(alloc, text, plan, settings, first_places(places), more)
 }
 
-/// The places of the cases that are drawn.
+/// The places of the settings that are drawn.
 fn first_places(places: &[usize]) -> &[usize]
     ensures { result.now ≡ take 12 places.now }
 {
     &places[..MOST_DRAWN.min(places.len())]
 }
 
-/// Appends the figure of the cases at these places, with how many more are on the front.
+/// Appends the figure of the settings at these places, with how many more are on the front.
 #[tactic(auto, unfolding(crate::specs::Times::figure_of))]
 fn push_figure(
     alloc: Global,
     text: &mut String,
     plan: &Plan,
-    cases: &[CaseSummary],
+    settings: &[SettingSummary],
     places: &[usize],
     more: usize,
 ) -> Result<(), Memory>
     ensures { OnOk result (string_bytes text.new ≡ string_bytes text.old
-        ++ figure_of plan.now.settings cases.now places.now more) }
+        ++ figure_of plan.now.swept_keys settings.now places.now more) }
 {
-    let across = axis_reach(cases, places);
+    let across = axis_reach(settings, places);
     open_figure(text, "times", "How the times to confirm spread")?;
     push_words(text)?;
-    push_charts(alloc, text, plan, cases, across, places)?;
+    push_charts(alloc, text, plan, settings, across, places)?;
     push_undrawn(text, more)?;
-    push_rows(text, cases, places)?;
+    push_rows(text, settings, places)?;
     close_figure(text)?;
     Ok(())
 }
@@ -79,7 +79,7 @@ fn push_words(text: &mut String) -> Result<(), AllocError>
     )
 }
 
-/// Appends how many cases on the front aren't drawn, where some aren't.
+/// Appends how many settings on the front aren't drawn, where some aren't.
 #[tactic(auto, unfolding(crate::specs::Times::undrawn_words))]
 fn push_undrawn(text: &mut String, more: usize) -> Result<(), AllocError>
     ensures { OnOk result (string_bytes text.new ≡ string_bytes text.old ++ undrawn_words more) }

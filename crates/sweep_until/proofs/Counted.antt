@@ -1,11 +1,11 @@
 -- In how many runs members were thrown out, one run more.
 use Rattle.std.proofs.Common.{◌≡◌, ◌+◌, ◌==◌, ◌≤◌, ◌-◌, ◌^◌, ℕ, List, [], ◌∷◌, ◌++◌, cond, not, arith, length, min}
 use Rattle.std.proofs.lemmas.List.Sums.{count_by-le-length, sum_by-append}
-use Rattle.figures.specs.Cases.{runs_with}
+use Rattle.figures.specs.Settings.{runs_with}
 use Rattle.figures.specs.Kept.{AreFiguresOf}
 use Rattle.figures.specs.Notes.{Note}
 use Rattle.sweep_until.specs.Kept.{AreKept}
-use Rattle.sweep_until.specs.declared.runs.CaseRuns.{CaseRuns}
+use Rattle.sweep_until.specs.declared.runs.SettingRuns.{SettingRuns}
 
 pub few_with : (runs : List Note) → runs_with runs ≤ length runs
 few_with runs = count_by-le-length (λ (run : Note). not (run.thrown_out == 0)) runs
@@ -14,7 +14,7 @@ counted_more : (runs : List Note) (note : Note) → runs_with (runs ++ note ∷ 
 counted_more runs note = sum_by-append (λ (run : Note). cond (not (run.thrown_out == 0)) 1 0) runs (note ∷ [])
 
 -- what is kept, with one run more
-pub kept_more : (runs : List Note) (note : Note) (old new : CaseRuns) (one : ℕ) → AreKept runs old → one ≡ runs_with (note ∷ []) → AreFiguresOf new.figures (runs ++ note ∷ [])
+pub kept_more : (runs : List Note) (note : Note) (old new : SettingRuns) (one : ℕ) → AreKept runs old → one ≡ runs_with (note ∷ []) → AreFiguresOf new.figures (runs ++ note ∷ [])
     → old.figures.runs ≤ 1000000 → new.runs_with ≡ min (old.runs_with + one) (2 ^ 64 - 1) → AreKept (runs ++ note ∷ []) new
 kept_more runs note old new one kept alone figures few added = record {
   figures = figures;

@@ -1,4 +1,4 @@
--- Runs of a case that are enough.
+-- Runs of a setting that are enough.
 use Rattle.std.proofs.Common.{◌≡◌, ◌∙◌, ◌<◌, ◌≤◌, ◌⊎◌, ◌+◌, ℕ, suc, List, [], ◌∷◌, ◌++◌, true, false, true≢false, refl, sym, ap, arith, inl, inr, length, length-append, take, take_at}
 use Rattle.std.proofs.Math.Seq.{take-append-le}
 use Rattle.figures.specs.Notes.{Note}

@@ -1,4 +1,4 @@
--- Runs that are left can be made: of a case until they are enough, and of all cases.
+-- Runs that are left can be made: of a setting until they are enough, and of all settings.
 use Rattle.std.proofs.Common.{◌≡◌, ◌∙◌, ◌<◌, ◌≤◌, ◌+◌, ◌*◌, ◌-◌, ◌⊎◌, ℕ, zero, suc, List, [], ◌∷◌, ◌++◌, Bool, true, false, Some, None, refl, sym, ap, subst, arith, get_or, inl, inr, length, length-append, map, take, drop, append-nil, append_assoc}
 use Rattle.std.specs.Prelude.{slice_get}
 use Rattle.std.specs.List.{AllZip, range_with_len}
@@ -13,7 +13,7 @@ use Rattle.toml.specs.Data.{Data}
 use Rattle.scenario.specs.Setup.{Setup, IsSound}
 use Rattle.trace.specs.declared.row.Row.{Row}
 use Rattle.member_laws.specs.Runs.{IsRunOf}
-use Rattle.sweep_plan.specs.Sweep.{Sweep, case_count, run_count, seed_count}
+use Rattle.sweep_plan.specs.Sweep.{Sweep, setting_count, run_count, seed_count}
 use Rattle.sweep.specs.Runs.{Planned, Made, IsMadeAs, AreMadeBetween, noted, planned_as, runs_of}
 use Rattle.sweep.specs.Judged.{IsAccepted, AreAccepted}
 use Rattle.sweep.proofs.Flat.{runs_counted}
@@ -26,17 +26,17 @@ pub range_more : (first k next : ℕ) → first + k ≡ next → range_with_len 
 range_more first k next is =
     sym (map-id (range_with_len first (k + 1))) ∙ map-range_with_len_more (λ (x : ℕ). x) first k next is ∙ ap (λ xs. xs ++ next ∷ []) (map-id (range_with_len first k))
 
--- the runs of a case are among all
-pub case_within : (cases each number : ℕ) → number < cases → number * each + each ≤ cases * each
-case_within cases each number low =
-    omega (arith, suc-mul number each, mul-le (suc number) each cases each (omega (arith, low)) (omega arith))
+-- the runs of a setting are among all
+pub setting_within : (settings each number : ℕ) → number < settings → number * each + each ≤ settings * each
+setting_within settings each number low =
+    omega (arith, suc-mul number each, mul-le (suc number) each settings each (omega (arith, low)) (omega arith))
 
--- one case more was made
-pub one_case : (tree : Data) (sweep : Sweep) (width first count number : ℕ) (made : List (List Made)) (case : List Made) → first + count ≡ number
-    → AreMadeFrom tree sweep width first count made → IsMadeUntil tree sweep width number case → AreMadeFrom tree sweep width first (count + 1) (made ++ case ∷ [])
-one_case tree sweep width first count number made case is before here =
-    subst (λ l. AllZip (IsMadeUntil tree sweep width) l (made ++ case ∷ [])) (sym (range_more first count number is))
-    (all_zipped_more (IsMadeUntil tree sweep width) (range_with_len first count) made number case before here)
+-- one setting more was made
+pub one_setting : (tree : Data) (sweep : Sweep) (width first count number : ℕ) (made : List (List Made)) (setting : List Made) → first + count ≡ number
+    → AreMadeFrom tree sweep width first count made → IsMadeUntil tree sweep width number setting → AreMadeFrom tree sweep width first (count + 1) (made ++ setting ∷ [])
+one_setting tree sweep width first count number made setting is before here =
+    subst (λ l. AllZip (IsMadeUntil tree sweep width) l (made ++ setting ∷ [])) (sym (range_more first count number is))
+    (all_zipped_more (IsMadeUntil tree sweep width) (range_with_len first count) made number setting before here)
 
 module _ (tree : Data) (sweep : Sweep) (one : OneRun) (exists : (s : Setup) → IsSound s → (rows : List Row) × IsRunOf s rows) (ok : AreAccepted tree sweep) (width : ℕ) where
   -- the run of a number can be made
@@ -47,13 +47,13 @@ module _ (tree : Data) (sweep : Sweep) (one : OneRun) (exists : (s : Setup) → 
       let p = get_or all number (planned_as [] None) in
       let here : IsAccepted tree p = All-get_or (IsAccepted tree) all number _ within ok in
       let run = exists here.0 here.2 in
-      (p, record { case = p.case; scenario = here.0; rows = run.0 }, slice_get-get_or all number _ within, record { same = refl; accepted = here.1; run = run.1 })
+      (p, record { setting = p.setting; scenario = here.0; rows = run.0 }, slice_get-get_or all number _ within, record { same = refl; accepted = here.1; run = run.1 })
 
-  module _ (number : ℕ) (low : number < case_count sweep.settings) where
+  module _ (number : ℕ) (low : number < setting_count sweep.swept_keys) where
     abbrev first : ℕ
     first = number * seed_count sweep.seeds
 
-    -- so the runs of a case can be made until they are enough
+    -- so the runs of a setting can be made until they are enough
     abbrev Filled : List Made → Type 0
     Filled made = (more : List Made) × IsMadeUntil tree sweep width number (made ++ more)
 
@@ -78,7 +78,7 @@ module _ (tree : Data) (sweep : Sweep) (one : OneRun) (exists : (s : Setup) → 
         → (b : Bool) → is_narrow_of width (map noted made) ≡ b → Filled made
     one_further left made full are wide further true narrow = enough made (omega (arith, full)) are wide (inl narrow)
     one_further left made full are wide further false narrow =
-        let within = case_within (case_count sweep.settings) (seed_count sweep.seeds) number low in
+        let within = setting_within (setting_count sweep.swept_keys) (seed_count sweep.seeds) number low in
         let place = first + length made in
         let next = run_left place (omega (arith, within, full)) in
         let longer = made ++ next.1 ∷ [] in
@@ -90,12 +90,12 @@ module _ (tree : Data) (sweep : Sweep) (one : OneRun) (exists : (s : Setup) → 
         let rest = further longer (omega (arith, size, full)) are_grown wide_grown in
         (next.1 ∷ rest.0, subst (IsMadeUntil tree sweep width number) (append_assoc made (next.1 ∷ []) rest.0) rest.1)
 
-    case_left : (left : ℕ) (made : List Made) → length made + left ≡ seed_count sweep.seeds → Are made → IsWide width (map noted made) → Filled made
-    case_left zero made full are wide = enough made (omega (arith, full)) are wide (inr (omega (arith, full)))
-    case_left (suc left) made full are wide = one_further left made full are wide (case_left left) (is_narrow_of width (map noted made)) refl
+    setting_left : (left : ℕ) (made : List Made) → length made + left ≡ seed_count sweep.seeds → Are made → IsWide width (map noted made) → Filled made
+    setting_left zero made full are wide = enough made (omega (arith, full)) are wide (inr (omega (arith, full)))
+    setting_left (suc left) made full are wide = one_further left made full are wide (setting_left left) (is_narrow_of width (map noted made)) refl
 
     pub filled : (made : List Made) → length made ≤ seed_count sweep.seeds → AreMadeBetween tree sweep first (first + length made) made → IsWide width (map noted made) → Filled made
-    filled made few are wide = case_left (seed_count sweep.seeds - length made) made (omega (arith, few)) are wide
+    filled made few are wide = setting_left (seed_count sweep.seeds - length made) made (omega (arith, few)) are wide
 
     none_made : AreMadeBetween tree sweep first (first + 0) []
     none_made =
@@ -105,13 +105,13 @@ module _ (tree : Data) (sweep : Sweep) (one : OneRun) (exists : (s : Setup) → 
     pub fresh : (made : List Made) × IsMadeUntil tree sweep width number made
     fresh = filled [] (omega arith) none_made (λ n less. absurd (omega arith))
 
-  -- and so can those of the cases that are left
-  pub cases_left : (left first count all : ℕ) (made : List (List Made)) → count + left ≡ all → first + all ≤ case_count sweep.settings → AreMadeFrom tree sweep width first count made
+  -- and so can those of the settings that are left
+  pub settings_left : (left first count all : ℕ) (made : List (List Made)) → count + left ≡ all → first + all ≤ setting_count sweep.swept_keys → AreMadeFrom tree sweep width first count made
       → (more : List (List Made)) × AreMadeFrom tree sweep width first all (made ++ more)
-  cases_left zero first count all made full within are =
+  settings_left zero first count all made full within are =
       let same : count ≡ all = omega (arith, full) in
       ([], subst (λ l. AreMadeFrom tree sweep width first all l) (sym (append-nil made)) (subst (λ n. AreMadeFrom tree sweep width first n made) same are))
-  cases_left (suc left) first count all made full within are =
+  settings_left (suc left) first count all made full within are =
       let next = fresh (first + count) (omega (arith, full, within)) in
-      let rest = cases_left left first (count + 1) all (made ++ next.0 ∷ []) (omega (arith, full)) within (one_case tree sweep width first count (first + count) made next.0 refl are next.1) in
+      let rest = settings_left left first (count + 1) all (made ++ next.0 ∷ []) (omega (arith, full)) within (one_setting tree sweep width first count (first + count) made next.0 refl are next.1) in
       (next.0 ∷ rest.0, subst (λ l. AreMadeFrom tree sweep width first all l) (append_assoc made (next.0 ∷ []) rest.0) rest.1)

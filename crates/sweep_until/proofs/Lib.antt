@@ -2,6 +2,6 @@ pub mod Counted
 pub mod Same
 pub mod Wide
 pub mod Left
-pub mod Cases
-pub mod PieceCases
+pub mod Settings
+pub mod ShardSettings
 pub mod Enough

@@ -30,11 +30,11 @@ OneRun = (s : Setup) (first second : List Row) → IsSound s → IsRunOf s first
 module _ (tree : Data) (one : OneRun) where
   same_run : (p : Planned) (a b : Made) → IsAccepted tree p → IsMadeAs tree p a → IsMadeAs tree p b → a ≡ b
   same_run p a b ok x y =
-      let cases : a.case ≡ b.case = x.same ∙ sym y.same in
+      let settings : a.setting ≡ b.setting = x.same ∙ sym y.same in
       let scenarios : a.scenario ≡ b.scenario = same_ok a.scenario b.scenario (sym x.accepted ∙ y.accepted) in
       let sound : IsSound a.scenario = subst IsSound (same_ok ok.0 a.scenario (sym ok.1 ∙ x.accepted)) ok.2 in
       let rows : a.rows ≡ b.rows = one a.scenario a.rows b.rows sound x.run (subst (λ s. IsRunOf s b.rows) (sym scenarios) y.run) in
-      (λ i. record { case = cases i; scenario = scenarios i; rows = rows i })
+      (λ i. record { setting = settings i; scenario = scenarios i; rows = rows i })
 
   same_runs : (xs : List Planned) (a b : List Made) → All (IsAccepted tree) xs → AllZip (IsMadeAs tree) xs a → AllZip (IsMadeAs tree) xs b → a ≡ b
   same_runs [] [] [] ok x y = refl

@@ -1,4 +1,4 @@
--- How the runs of a case come to be enough.
+-- How the runs of a setting come to be enough.
 use Rattle.std.proofs.Common.{◌≡◌, ◌∙◌, ◌<◌, ◌≤◌, ◌+◌, ℕ, List, Bool, true, false, Option, inl, refl, sym, ap, arith, take, length, ltb, map}
 use Rattle.std.proofs.lemmas.Bool.{ltb-true, ltb-false}
 use Rattle.std.proofs.lemmas.List.{take-map, take_all, length-map}
@@ -12,7 +12,7 @@ use Rattle.sweep.specs.Table.{BeginsLines, Course}
 use Rattle.trace.proofs.Beginnings.{beginning-whole}
 use Rattle.sweep_until.specs.Kept.{AreKept}
 use Rattle.sweep_until.specs.Until.{BeginsWide, GoesOn, HasEnded, HasGone, IsWide, is_narrow_of}
-use Rattle.sweep_until.specs.declared.runs.CaseRuns.{CaseRuns}
+use Rattle.sweep_until.specs.declared.runs.SettingRuns.{SettingRuns}
 use Rattle.sweep_until.proofs.Same.{OneRun, made_long, same_first}
 
 -- no fewer of some are narrow, nor are they: so are no fewer of their first
@@ -50,7 +50,7 @@ module _ (tree : Data) (sweep : Sweep) (one : OneRun) (ok : AreAccepted tree swe
       ap (is_narrow_of width) (take-map noted n more ∙ ap (map noted) same ∙ sym (take-map noted n made)) ∙ up_to width n (map noted made) wide open_yet (omega arith)
 
   -- one line more was written
-  pub goes_next : (course : Course) (mid held : Option (List ℕ)) (before after : CaseRuns) (number : ℕ) → number < run_count sweep → GoesOn tree sweep width course mid before number
+  pub goes_next : (course : Course) (mid held : Option (List ℕ)) (before after : SettingRuns) (number : ℕ) → number < run_count sweep → GoesOn tree sweep width course mid before number
       → HasCome tree sweep course held (λ notes. AreKept notes after) (number + 1) → HasGone tree sweep width course held after (number + 1)
   goes_next course mid held before after number high goes come =
       let gone = goes.gone in
@@ -62,7 +62,7 @@ module _ (tree : Data) (sweep : Sweep) (one : OneRun) (ok : AreAccepted tree swe
       }
 
   -- a beginning of it was
-  pub begins_next : (course : Course) (mid held : Option (List ℕ)) (before : CaseRuns) (number : ℕ) → number < run_count sweep → number + 1 ≤ course.till
+  pub begins_next : (course : Course) (mid held : Option (List ℕ)) (before : SettingRuns) (number : ℕ) → number < run_count sweep → number + 1 ≤ course.till
       → GoesOn tree sweep width course mid before number
       → BeginsLines tree sweep (up_till course (number + 1)) held
       → BeginsWide tree sweep width course held
@@ -77,7 +77,7 @@ module _ (tree : Data) (sweep : Sweep) (one : OneRun) (ok : AreAccepted tree swe
       }
 
 module _ (tree : Data) (sweep : Sweep) (width : ℕ) where
-  module _ (course : Course) (held : Option (List ℕ)) (kept : CaseRuns) (number : ℕ) (answer : Bool) (tells : (runs : List Note) → AreKept runs kept → answer ≡ is_narrow_of width runs) where
+  module _ (course : Course) (held : Option (List ℕ)) (kept : SettingRuns) (number : ℕ) (answer : Bool) (tells : (runs : List Note) → AreKept runs kept → answer ≡ is_narrow_of width runs) where
     pub goes_on : answer ≡ false → HasGone tree sweep width course held kept number → GoesOn tree sweep width course held kept number
     goes_on is gone = record { gone = gone; open_yet = sym (tells _ gone.come.gathered) ∙ is }
 
@@ -86,7 +86,7 @@ module _ (tree : Data) (sweep : Sweep) (width : ℕ) where
     ends_here first past more high is gone = record { next = number; more = more; high = high; gone = gone; ends = inl (sym (tells _ gone.come.gathered) ∙ is) }
 
   -- no line more
-  pub begins_so : (course : Course) (held : Option (List ℕ)) (kept : CaseRuns) (number : ℕ) → number ≤ course.till → HasGone tree sweep width course held kept number
+  pub begins_so : (course : Course) (held : Option (List ℕ)) (kept : SettingRuns) (number : ℕ) → number ≤ course.till → HasGone tree sweep width course held kept number
       → BeginsWide tree sweep width course held
   begins_so course held kept number till gone =
       let lines = gone.come.lines in

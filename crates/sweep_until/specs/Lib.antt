@@ -1,4 +1,4 @@
 pub mod Kept
-pub mod Pieces
+pub mod Shards
 pub mod Until
 pub mod Widths

@@ -1,21 +1,24 @@
-//! What of the table of a piece was made before.
+//! What of the table of a shard was made before.
 ghost use Rattle.std.specs.Prelude.{◌≡◌};
 
-/// What of the table of a piece of whole cases was made before it was cut off.
+/// What of the table of a shard of whole settings was made before it was cut off.
 #[derive(Clone, Copy)]
-pub struct BegunCases {
-    /// How many bytes of it stay: its first line, or a beginning of that, and the lines of its first cases.
+pub struct BegunSettings {
+    /// How many bytes of it stay: its first line, or a beginning of that, and the lines of its first settings.
     pub kept: usize,
-    /// How many cases they are.
-    pub cases: usize,
+    /// How many settings they are.
+    pub settings: usize,
 }
 
-impl BegunCases {
+impl BegunSettings {
     /// Nothing of it.
-    pub fn nothing() -> BegunCases
+    pub fn nothing() -> BegunSettings
         ensures kept { result.kept ≡ 0 }
-        ensures cases { result.cases ≡ 0 }
+        ensures settings { result.settings ≡ 0 }
     {
-        BegunCases { kept: 0, cases: 0 }
+        BegunSettings {
+            kept: 0,
+            settings: 0,
+        }
     }
 }

@@ -1,4 +1,4 @@
-//! The runs of a case, some at a time, side by side.
+//! The runs of a setting, some at a time, side by side.
 ghost use Rattle.std.specs.Prelude.{◌≡◌, ◌<◌, ◌≤◌, ◌^◌, ◌+◌, OnErr, IfOk, IfErr};
 ghost use Rattle.toml.specs.View.{view};
 ghost use Rattle.sweep_plan.specs.Sweep.{run_count};
@@ -9,7 +9,7 @@ ghost use Rattle.sweep.specs.Shares.{AreShares};
 ghost use Rattle.sweep.specs.Table.{Course, HasCause};
 ghost use Rattle.sweep_until.specs.Until.{BeginsWide, GoesOn, HasGone};
 
-use crate::runs::CaseRuns;
+use crate::runs::SettingRuns;
 use base::Fault;
 use sequential_run::the_run_is_one;
 use std::alloc::Global;
@@ -20,7 +20,7 @@ use sweep_plan::Plan;
 use toml::Value;
 use trace::Sink;
 
-/// Makes the runs of a case from one number to before another, which are those of these shares, side by side, and writes their
+/// Makes the runs of a setting from one number to before another, which are those of these shares, side by side, and writes their
 /// lines up to the first run with which the interval is narrow enough. Answers the number of the run after the last that
 /// was written; what was made beyond is thrown away.
 pub(crate) fn make_lot<S: Sink>(
@@ -33,7 +33,7 @@ pub(crate) fn make_lot<S: Sink>(
     shares: &[Share],
     from: usize,
     till: usize,
-    runs: &mut CaseRuns,
+    runs: &mut SettingRuns,
     table: &mut S,
 ) -> Result<usize, Fault>
     requires asked { IsAskedFor plan.now }

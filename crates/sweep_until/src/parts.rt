@@ -1,18 +1,18 @@
-//! What is told while the runs of a piece are made.
+//! What is told while the runs of a shard are made.
 use sweep::Progress;
 
-/// Tells of the runs of a piece alone.
+/// Tells of the runs of a shard alone.
 #[derive(Drop)]
-pub(crate) struct PieceProgress<'p, P: Progress> {
+pub(crate) struct ShardProgress<'p, P: Progress> {
     /// Whom it is told.
     pub(crate) whole: &'p mut P,
     /// How many runs there are before its first.
     pub(crate) before: usize,
-    /// How many it has, where no case ends early.
+    /// How many it has, where no setting ends early.
     pub(crate) all: usize,
 }
 
-impl<P: Progress> Progress for PieceProgress<'_, P> {
+impl<P: Progress> Progress for ShardProgress<'_, P> {
     fn runs_made(&mut self, made: usize, _all: usize) {
         self.whole
             .runs_made(made.saturating_sub(self.before), self.all);

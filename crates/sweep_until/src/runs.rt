@@ -1,11 +1,11 @@
-//! What is kept of the runs of one case while they are made.
+//! What is kept of the runs of one setting while they are made.
 ghost use Rattle.std.specs.Prelude.{◌≡◌, ◌≤◌, ◌<◌, ◌∷◌, [], List, IfOk};
-ghost use Rattle.figures.specs.Cases.{runs_with};
+ghost use Rattle.figures.specs.Settings.{runs_with};
 ghost use Rattle.figures.specs.Notes.{Note};
 
 use crate::widths::is_narrow;
 use base::Memory;
-use figures::{CaseFigures, CaseSummary, RunNote};
+use figures::{RunMetadata, SettingFigures, SettingSummary};
 use std::alloc::Global;
 use std::mem::replace;
 use sweep::Gather;
@@ -13,26 +13,26 @@ use sweep::Gather;
 /// The most runs that there is room for.
 const MOST_RUNS: u64 = 1_000_000;
 
-/// What is kept of the runs of one case while they are made, one after the other. There is room for 1,000,000 runs.
+/// What is kept of the runs of one setting while they are made, one after the other. There is room for 1,000,000 runs.
 #[derive(Drop)]
-pub struct CaseRuns {
+pub struct SettingRuns {
     /// Their figures.
-    figures: CaseFigures,
+    figures: SettingFigures,
     /// In how many of them members were thrown out.
     runs_with: u64,
 }
 
-impl CaseRuns {
-    ghost use Rattle.figures.specs.Cases.{IsSummaryOf};
+impl SettingRuns {
+    ghost use Rattle.figures.specs.Settings.{IsSummaryOf};
     ghost use Rattle.sweep_until.specs.Kept.{AreKept, runs_in};
     ghost use Rattle.sweep_until.specs.Until.{is_narrow_of};
 
-    /// Nothing of a case yet. It takes no memory.
-    pub fn new(alloc: Global) -> CaseRuns
+    /// Nothing of a setting yet. It takes no memory.
+    pub fn new(alloc: Global) -> SettingRuns
         ensures { AreKept [] result }
     {
-        CaseRuns {
-            figures: CaseFigures::new(alloc),
+        SettingRuns {
+            figures: SettingFigures::new(alloc),
             runs_with: 0,
         }
     }
@@ -47,7 +47,7 @@ impl CaseRuns {
     }
 
     /// What is told of the runs.
-    pub fn into_summary(self) -> Result<CaseSummary, Memory>
+    pub fn into_summary(self) -> Result<SettingSummary, Memory>
         requires { 0 < runs_in self }
         ensures { IfOk result (λ summary. (runs : List Note) → AreKept runs self → IsSummaryOf summary runs) }
     {
@@ -55,15 +55,15 @@ impl CaseRuns {
     }
 }
 
-impl Gather for CaseRuns {
+impl Gather for SettingRuns {
     ghost use Rattle.sweep_until.specs.Kept.{AreKept};
 
     ghost has = { λ kept _ runs. AreKept runs kept };
 
-    // a case has no more runs than there is room for, which the trait can't say
-    fn add(&mut self, alloc: Global, note: &RunNote) -> Result<(), Memory> {
+    // a setting has no more runs than there is room for, which the trait can't say
+    fn add(&mut self, alloc: Global, note: &RunMetadata) -> Result<(), Memory> {
         let alone = runs_with(alloc, note)?;
-        let figures = replace(&mut self.figures, CaseFigures::new(alloc));
+        let figures = replace(&mut self.figures, SettingFigures::new(alloc));
         if figures.runs() >= MOST_RUNS {
             return Err(Memory);
         }
@@ -73,10 +73,10 @@ impl Gather for CaseRuns {
     }
 }
 
-/// Whether members were thrown out in a run, as its number of such runs: that of a case which has this run alone.
-fn runs_with(alloc: Global, note: &RunNote) -> Result<u64, Memory>
+/// Whether members were thrown out in a run, as its number of such runs: that of a setting which has this run alone.
+fn runs_with(alloc: Global, note: &RunMetadata) -> Result<u64, Memory>
     ensures { IfOk result (λ n. n ≡ runs_with (note.now ∷ [])) }
 {
-    let figures = CaseFigures::new(alloc).with(note)?;
+    let figures = SettingFigures::new(alloc).with(note)?;
     Ok(figures.summary()?.runs_with)
 }

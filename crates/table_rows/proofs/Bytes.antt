@@ -8,8 +8,8 @@ use Rattle.std.proofs.lemmas.List.Elements.{All-append, All-cons, All-head, All-
 use Rattle.csv.specs.Writing.{default_writer, escaped, field_text, quoted}
 use Rattle.reports.specs.Text.{figure}
 use Rattle.sweep_plan.specs.Values.{value_text, FitsToml}
-use Rattle.sweep_plan.specs.declared.values.SettingValue.{SettingValue}
-use Rattle.sweep_plan.specs.declared.values.SettingValue.TheVariants.{Whole, Switch}
+use Rattle.sweep_plan.specs.declared.values.SweptValue.{SweptValue}
+use Rattle.sweep_plan.specs.declared.values.SweptValue.TheVariants.{Whole, Switch}
 use Rattle.sweep_plan.proofs.Words.{Lacks, decimal_lacks}
 use Rattle.figures.specs.Notes.{Note, IsSmall, note_figures, note_text}
 
@@ -66,7 +66,7 @@ field_lacks xs lack = by _
 
 -- ---- words of a sweep
 
-pub value_lacks : (c : ℕ) (v : SettingValue) → FitsToml v → c < 48 → Lacks c (value_text v)
+pub value_lacks : (c : ℕ) (v : SweptValue) → FitsToml v → c < 48 → Lacks c (value_text v)
 value_lacks c (Whole n) low small = decimal_lacks n c (omega (arith, low)) small
 value_lacks c (Switch true) low small = letters c (116 ∷ 114 ∷ 117 ∷ 101 ∷ []) (above c 116 small (lit< tt), (above c 114 small (lit< tt), (above c 117 small (lit< tt), (above c 101 small (lit< tt), tt))))
   where

@@ -3,7 +3,7 @@ pub mod Bytes
 pub mod Notes
 pub mod Items
 pub mod OneLine
-pub mod OneCase
+pub mod OneSetting
 pub mod Read
-pub mod CasesOf
+pub mod SettingsOf
 pub mod MadeLines

@@ -6,7 +6,7 @@ use Rattle.std.specs.Option.{MatchOption}
 use Rattle.std.proofs.lemmas.Str.Pattern.{IsSplitOnceResult, split_after, split_parts}
 use Rattle.sweep_plan.proofs.Words.{cut_once, lacks_each, unlike}
 use Rattle.figures.specs.Notes.{Note, IsNoteWord, note_text}
-use Rattle.table_rows.specs.Lines.{HasLine, IsBehindSum, Line, IsLine, ReadsLine, piece_line}
+use Rattle.table_rows.specs.Lines.{HasLine, IsBehindSum, Line, IsLine, ReadsLine, shard_line}
 use Rattle.table_rows.proofs.Bytes.{note_lacks}
 use Rattle.table_rows.proofs.Notes.{same_note}
 
@@ -17,14 +17,14 @@ Parted = Option (Bor (List ℕ) × Bor (List ℕ))
 abbrev behind : Line → List ℕ → List ℕ
 behind l left = note_text l.note ++ 44 ∷ (l.body ++ 10 ∷ left)
 
-pub laid : (l : Line) (left : List ℕ) → piece_line l ++ left ≡ l.sum ++ 32 ∷ behind l left
+pub laid : (l : Line) (left : List ℕ) → shard_line l ++ left ≡ l.sum ++ 32 ∷ behind l left
 laid l left =
     append_assoc l.sum (32 ∷ behind l []) left
     ∙ ap (λ x. l.sum ++ 32 ∷ x)
     (append_assoc (note_text l.note) (44 ∷ (l.body ++ 10 ∷ [])) left ∙ ap (λ x. note_text l.note ++ 44 ∷ x) (append_assoc l.body (10 ∷ []) left))
 
 -- lines with which one text begins are one, and leave the same
-pub same_line : (a b : Line) (x y : List ℕ) → IsLine a → IsLine b → piece_line a ++ x ≡ piece_line b ++ y → (a ≡ b) × (x ≡ y)
+pub same_line : (a b : Line) (x y : List ℕ) → IsLine a → IsLine b → shard_line a ++ x ≡ shard_line b ++ y → (a ≡ b) × (x ≡ y)
 same_line a b x y sound sound_too same =
     let space = cut_once 32 a.sum b.sum (behind a x) (behind b y) sound.spaceless sound_too.spaceless (sym (laid a x) ∙ same ∙ laid b y) in
     let comma = cut_once 44 (note_text a.note) (note_text b.note) (a.body ++ 10 ∷ x) (b.body ++ 10 ∷ y) (note_lacks 44 (lit< tt) refl a.note sound.small) (note_lacks 44 (lit< tt) refl b.note sound_too.small)

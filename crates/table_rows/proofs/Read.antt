@@ -1,11 +1,11 @@
--- Lines and cases that are read until their text ends.
+-- Lines and settings that are read until their text ends.
 use Rattle.std.proofs.Common.{◌≡◌, ◌∙◌, ◌+◌, ℕ, List, [], ◌∷◌, ◌++◌, length, sym, ap, subst, append_assoc, append-nil}
 use Rattle.std.specs.List.{AllZip}
 use Rattle.std.proofs.lemmas.List.{map-append}
 use Rattle.figures.specs.Notes.{Note}
-use Rattle.figures.specs.declared.summary.CaseSummary.{CaseSummary}
-use Rattle.table_rows.specs.Lines.{Line, IsLine, ReadsLine, ReadsLines, notes_of, piece_line}
-use Rattle.table_rows.specs.Cases.{IsCase, ReadsCases, SumsUpCase, SumsUpLines, piece_case}
+use Rattle.figures.specs.declared.summary.SettingSummary.{SettingSummary}
+use Rattle.table_rows.specs.Lines.{Line, IsLine, ReadsLine, ReadsLines, notes_of, shard_line}
+use Rattle.table_rows.specs.Settings.{IsSetting, ReadsSettings, SumsUpSetting, SumsUpLines, shard_setting}
 use Rattle.table_rows.proofs.Items.{Reads, all_read, none_read, one_more}
 
 pub zipped_both : {X Y : Type 0} (R : X → Y → Type 0) (xs zs : List X) (ys ws : List Y) → AllZip R xs ys → AllZip R zs ws → AllZip R (xs ++ zs) (ys ++ ws)
@@ -21,52 +21,52 @@ abbrev pub Gathers : (ℕ → List Note → Type 0) → (ℕ → List Note → T
 Gathers Had Has more = (each : ℕ) (notes : List Note) → Had each notes → Has each (notes ++ more)
 
 abbrev pub ReadsSome : (ℕ → List Note → Type 0) → (ℕ → List Note → Type 0) → List ℕ → List ℕ → ℕ → Type 0
-ReadsSome Had Has text left count = Reads IsLine piece_line (λ lines. Gathers Had Has (notes_of lines)) text left count
+ReadsSome Had Has text left count = Reads IsLine shard_line (λ lines. Gathers Had Has (notes_of lines)) text left count
 
 pub no_lines : (Had : ℕ → List Note → Type 0) (text : List ℕ) → ReadsSome Had Had text text 0
-no_lines Had text = none_read IsLine piece_line (λ lines. Gathers Had Had (notes_of lines)) text (λ each notes had. subst (Had each) (sym (append-nil notes)) had)
+no_lines Had text = none_read IsLine shard_line (λ lines. Gathers Had Had (notes_of lines)) text (λ each notes had. subst (Had each) (sym (append-nil notes)) had)
 
 pub lines_more : (Had Between Has : ℕ → List Note → Type 0) (text left next : List ℕ) (count : ℕ) → ReadsSome Had Between text left count
     → ReadsLine left next (λ note. Gathers Between Has (note ∷ [])) → ReadsSome Had Has text next (count + 1)
 lines_more Had Between Has text left next count so one =
     let line = one.begins.one in
-    one_more IsLine piece_line (λ ls. Gathers Had Between (notes_of ls)) (λ ls. Gathers Had Has (notes_of ls)) text left next count so one.begins
+    one_more IsLine shard_line (λ ls. Gathers Had Between (notes_of ls)) (λ ls. Gathers Had Has (notes_of ls)) text left next count so one.begins
     (λ each notes had.
     subst (Has each) (append_assoc notes (notes_of so.items) (line.note ∷ []) ∙ ap (λ l. notes ++ l) (sym (map-append (λ (l : Line). l.note) so.items (line ∷ []))))
     (one.gathered each (notes ++ notes_of so.items) (so.holds each notes had)))
 
 pub lines_read : (Had Has : ℕ → List Note → Type 0) (text left : List ℕ) (at count : ℕ) → at ≡ count → length left ≡ 0 → ReadsSome Had Has text left at → ReadsLines text count (Gathers Had Has)
 lines_read Had Has text left at count counted none so =
-    let all = all_read IsLine piece_line (λ ls. Gathers Had Has (notes_of ls)) text left at count counted none so in
+    let all = all_read IsLine shard_line (λ ls. Gathers Had Has (notes_of ls)) text left at count counted none so in
     record { are = all.0; gathered = all.1 }
 
--- ---- cases, which are summed up
+-- ---- settings, which are summed up
 
--- the summaries of cases come behind others
-pub record AreSummedUp (before after : List CaseSummary) (own : List (List Line)) : Type 0 where
-  pub summaries : List CaseSummary
+-- the summaries of settings come behind others
+pub record AreSummedUp (before after : List SettingSummary) (own : List (List Line)) : Type 0 where
+  pub summaries : List SettingSummary
   pub told : AllZip SumsUpLines own summaries
   pub added : after ≡ before ++ summaries
 
 module _ (width each : ℕ) where
-  abbrev pub SumsUpSome : List ℕ → List ℕ → List CaseSummary → List CaseSummary → ℕ → Type 0
-  SumsUpSome text left before after count = Reads (IsCase width each) piece_case (AreSummedUp before after) text left count
+  abbrev pub SumsUpSome : List ℕ → List ℕ → List SettingSummary → List SettingSummary → ℕ → Type 0
+  SumsUpSome text left before after count = Reads (IsSetting width each) shard_setting (AreSummedUp before after) text left count
 
-  pub no_cases : (text : List ℕ) (cases : List CaseSummary) → SumsUpSome text text cases cases 0
-  no_cases text cases = none_read (IsCase width each) piece_case (AreSummedUp cases cases) text (record { summaries = []; told = tt; added = sym (append-nil cases) })
+  pub no_settings : (text : List ℕ) (settings : List SettingSummary) → SumsUpSome text text settings settings 0
+  no_settings text settings = none_read (IsSetting width each) shard_setting (AreSummedUp settings settings) text (record { summaries = []; told = tt; added = sym (append-nil settings) })
 
-  pub cases_more : (text left next : List ℕ) (before between after : List CaseSummary) (count : ℕ) → SumsUpSome text left before between count
-      → SumsUpCase width each left next between after → SumsUpSome text next before after (count + 1)
-  cases_more text left next before between after count so one =
-      one_more (IsCase width each) piece_case (AreSummedUp before between) (AreSummedUp before after) text left next count so one.begins
+  pub settings_more : (text left next : List ℕ) (before between after : List SettingSummary) (count : ℕ) → SumsUpSome text left before between count
+      → SumsUpSetting width each left next between after → SumsUpSome text next before after (count + 1)
+  settings_more text left next before between after count so one =
+      one_more (IsSetting width each) shard_setting (AreSummedUp before between) (AreSummedUp before after) text left next count so one.begins
       (record {
         summaries = so.holds.summaries ++ one.summary ∷ [];
         told = zipped_both SumsUpLines so.items (one.begins.one ∷ []) so.holds.summaries (one.summary ∷ []) so.holds.told (one.told, tt);
         added = one.added ∙ ap (λ l. l ++ one.summary ∷ []) so.holds.added ∙ append_assoc before so.holds.summaries (one.summary ∷ []);
       })
 
-  pub cases_read : (text left : List ℕ) (before after : List CaseSummary) (at count : ℕ) → at ≡ count → length left ≡ 0 → SumsUpSome text left before after at
-      → ReadsCases width each text count before after
-  cases_read text left before after at count counted none so =
-      let all = all_read (IsCase width each) piece_case (AreSummedUp before after) text left at count counted none so in
+  pub settings_read : (text left : List ℕ) (before after : List SettingSummary) (at count : ℕ) → at ≡ count → length left ≡ 0 → SumsUpSome text left before after at
+      → ReadsSettings width each text count before after
+  settings_read text left before after at count counted none so =
+      let all = all_read (IsSetting width each) shard_setting (AreSummedUp before after) text left at count counted none so in
       record { are = all.0; summaries = all.1.summaries; told = all.1.told; added = all.1.added }

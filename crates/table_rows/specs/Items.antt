@@ -1,4 +1,4 @@
--- What stands in a text one after the other: lines, and cases, which have several.
+-- What stands in a text one after the other: lines, and settings, which have several.
 use Rattle.std.specs.Prelude.{◌≡◌, ℕ, List, ◌++◌, All, length}
 use Rattle.std.specs.List.{flat_map}
 

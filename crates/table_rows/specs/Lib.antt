@@ -1,5 +1,5 @@
 pub mod Items
 pub mod Lines
-pub mod Cases
+pub mod Settings
 pub mod Refused
 pub mod Made

@@ -16,8 +16,8 @@ pub record IsLine (l : Line) : Type 0 where
   pub one : All (λ byte. (byte == 10) ≡ false) l.body
 
 -- the line as it stands in a table
-abbrev pub piece_line : Line → List ℕ
-piece_line l = l.sum ++ 32 ∷ (note_text l.note ++ 44 ∷ (l.body ++ 10 ∷ []))
+abbrev pub shard_line : Line → List ℕ
+shard_line l = l.sum ++ 32 ∷ (note_text l.note ++ 44 ∷ (l.body ++ 10 ∷ []))
 
 abbrev pub notes_of : List Line → List Note
 notes_of lines = map (λ l. l.note) lines
@@ -30,16 +30,16 @@ pub record IsBehindSum (text rest : List ℕ) : Type 0 where
 
 -- the text begins with a line, whatever is left
 abbrev pub HasLine : List ℕ → Type 0
-HasLine text = (left : List ℕ) × BeginsWith IsLine piece_line text left
+HasLine text = (left : List ℕ) × BeginsWith IsLine shard_line text left
 
 -- it begins with one, this is left, and this holds of its note
 pub record ReadsLine (text left : List ℕ) (Gathers : Note → Type 0) : Type 0 where
-  pub begins : BeginsWith IsLine piece_line text left
+  pub begins : BeginsWith IsLine shard_line text left
   pub gathered : Gathers begins.one.note
 
 -- the text is so many lines
 abbrev pub AreLines : List ℕ → ℕ → Type 0
-AreLines text count = IsAllOf IsLine piece_line text count
+AreLines text count = IsAllOf IsLine shard_line text count
 
 -- and this holds of their notes
 pub record ReadsLines (text : List ℕ) (count : ℕ) (Gathers : List Note → Type 0) : Type 0 where

@@ -10,6 +10,6 @@ use Rattle.sweep.specs.Runs.{Made, noted}
 -- it is written in few digits: each of its values, its figures and those of its note is at most 2^63 - 1
 pub record IsTellable (m : Made) : Type 0 where
   pub note : IsSmall (noted m)
-  pub values : All (λ c. FitsToml c.value) m.case
+  pub values : All (λ c. FitsToml c.value) m.setting
   pub seed : m.scenario.seed < 2 ^ 63
   pub figures : (revived : Bool) → All (λ f. ForSome f (λ n. n < 2 ^ 63)) (figures_in_order revived (figures_of m.scenario m.rows))

@@ -1,12 +1,12 @@
 //! The lines of a sweep's table, each with its checksum and the note of its run before it, and how they are read.
 #![tactic(auto)]
 
-mod by_cases;
-mod cases_of;
+mod by_settings;
 mod fault;
 mod lines;
+mod settings_of;
 
-pub use by_cases::{read_case, read_cases};
-pub use cases_of::{StandingCases, are_cases_of, cases_of_runs};
+pub use by_settings::{read_setting, read_settings};
 pub use fault::LineFault;
 pub use lines::{read_line, read_lines};
+pub use settings_of::{StandingSettings, are_settings_of, settings_of_runs};

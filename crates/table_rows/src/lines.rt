@@ -6,7 +6,7 @@ ghost use Rattle.table_rows.specs.Refused.{Refuses};
 
 use crate::fault::LineFault;
 use base::Memory;
-use figures::{NoteFault, RunNote};
+use figures::{MetadataFault, RunMetadata};
 use std::alloc::Global;
 use sweep::Gather;
 
@@ -32,10 +32,10 @@ pub fn read_line<'a, G: Gather>(
     let Some((_body, left)) = rest.split_once('\n') else {
         return Err(LineFault::Torn);
     };
-    let note = match RunNote::read(alloc, word) {
+    let note = match RunMetadata::read(alloc, word) {
         Ok(note) => note,
-        Err(NoteFault::Word) => return Err(LineFault::Torn),
-        Err(NoteFault::Memory) => return Err(LineFault::Memory),
+        Err(MetadataFault::Word) => return Err(LineFault::Torn),
+        Err(MetadataFault::Memory) => return Err(LineFault::Memory),
     };
     match gathering.add(alloc, &note) {
         Ok(()) => Ok(left),

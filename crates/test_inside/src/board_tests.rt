@@ -43,7 +43,7 @@ fn empty<R: Abort + Wait>(rt: &R, board: &Numbers, seat: &mut Seat<u64, u64>)
 }
 
 #[test]
-fn three_pieces_leave_in_their_order(rt: HostRuntime) -> Result<(), Fail> {
+fn three_shards_leave_in_their_order(rt: HostRuntime) -> Result<(), Fail> {
     let (board, mut seats) = Numbers::new(rt.alloc(), 3, 1)?;
     let seat = &mut seats[0];
     fill(&rt, &board, seat);

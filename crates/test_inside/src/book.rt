@@ -236,7 +236,7 @@ fn let_others_go_on() {
 
 /// Runs the text's scenario by as many parts and workers as the gate is for, with these members in each part. The report
 /// is dropped.
-pub(crate) fn run_told(
+pub(crate) fn run_result(
     rt: &(impl Abort + AllocGlobal + Threads + Wait + Sync),
     gate: &Book,
     text: &str,

@@ -137,7 +137,7 @@ fn by_members(rt: &(impl Abort + AllocGlobal), scenario: &Scenario) -> Result<Di
 }
 
 /// Runs the chain by so many workers, told to the gate. The report is dropped.
-fn run_told(
+fn run_result(
     rt: &(impl Abort + AllocGlobal + Threads + Wait + Sync),
     gate: &Bounds,
     workers: usize,
@@ -226,7 +226,7 @@ fn windows_of_a_chain_go_to_bounds_of_their_own(rt: HostRuntime) -> Result<(), F
     for workers in [1, 2, 3] {
         let gate = Bounds::new(rt.alloc())?;
         let mut trace = MemorySink::new(rt.alloc());
-        let outcome = run_told(&rt, &gate, workers, &scenario, &mut trace);
+        let outcome = run_result(&rt, &gate, workers, &scenario, &mut trace);
         assert_as_one(&rt, &scenario, outcome, &trace);
         for (number, round) in ROUNDS.iter().enumerate() {
             assert_round(&rt, &gate, number, round);

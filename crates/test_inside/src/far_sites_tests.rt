@@ -1,6 +1,6 @@
 //! Parts of far sites run long windows, each with a bound of its own: how many there are, as a gate counts them.
 
-use crate::book::{Book, Holding, run_told};
+use crate::book::{Book, Holding, run_result};
 use crate::ways::{Way, run_by};
 use scenario_reader::read;
 use std::marker::Sync;
@@ -56,7 +56,7 @@ delay = 1
 fn assert_few_windows(rt: &(impl Abort + AllocGlobal + Threads + Wait + Sync), gate: &Book) {
     let mut trace = MemorySink::new(rt.alloc());
     let parts = [0, 0, 1, 1, 2, 2, 3, 3];
-    let outcome = run_told(rt, gate, FOUR_SITES, &parts, &mut trace);
+    let outcome = run_result(rt, gate, FOUR_SITES, &parts, &mut trace);
     assert!(rt; outcome.is_ok());
     let scenario = read(rt.alloc(), FOUR_SITES.as_bytes()).expect(rt, "scenario");
     let mut one_trace = MemorySink::new(rt.alloc());

@@ -1,7 +1,7 @@
 //! Runs by threads, told to a gate: each part is entered once in each window, before it is run, by a worker that there
 //! is; and the workers run at once.
 
-use crate::book::{Book, Holding, run_told};
+use crate::book::{Book, Holding, run_result};
 use crate::texts::{CRASH_DETECTED, JOIN, Worked};
 use std::marker::Sync;
 use std::process::Abort;
@@ -20,7 +20,7 @@ fn assert_entered(
     part_of: &[u8],
 ) -> u64 {
     let mut trace = MemorySink::new(rt.alloc());
-    let outcome = run_told(rt, gate, worked.scenario, part_of, &mut trace);
+    let outcome = run_result(rt, gate, worked.scenario, part_of, &mut trace);
     assert!(rt; outcome.is_ok());
     assert!(rt; trace.bytes() == worked.trace.as_bytes());
     assert!(rt; gate.wrong() == 0);

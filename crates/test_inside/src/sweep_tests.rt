@@ -1,7 +1,7 @@
 //! A sweep whose table fails where only the inside can make it: at its flush.
 
 use base::Fault;
-use figures::CaseSummary;
+use figures::SettingSummary;
 use scenario::Workers;
 use scenario_reader::document;
 use std::marker::Sync;
@@ -39,7 +39,7 @@ fn sweep_by(
     rt: &(impl Abort + AllocGlobal + Threads + Sync),
     workers: usize,
     table: &mut MemorySink,
-) -> Result<Result<Vec<CaseSummary>, Fault>, Fail> {
+) -> Result<Result<Vec<SettingSummary>, Fault>, Fail> {
     let plan = Plan::read(rt.alloc(), &SETTINGS, Some("1..2"), None)?;
     let text = document(rt.alloc(), THREE.as_bytes())?;
     let workers = Workers::new(workers).expect(rt, "workers");
@@ -60,7 +60,7 @@ fn sweep_by(
 }
 
 /// Asserts that a sweep ended since the table failed.
-fn assert_stopped(rt: &impl Abort, swept: Result<Vec<CaseSummary>, Fault>) {
+fn assert_stopped(rt: &impl Abort, swept: Result<Vec<SettingSummary>, Fault>) {
     let Err(fault) = swept else {
         panic!(rt; "not stopped");
     };

@@ -9,10 +9,10 @@ use Rattle.sweep_plan.specs.Asked.{IsSweepOf}
 use Rattle.sweep_plan.specs.Keys.{IsKeyNamed}
 use Rattle.sweep_plan.specs.Sweep.{Sweep}
 use Rattle.sweep_plan.specs.Values.{IsValue}
-use Rattle.sweep_plan.specs.declared.keys.SettingKey.{SettingKey}
-use Rattle.sweep_plan.specs.declared.values.SettingValue.{SettingValue}
-use Rattle.shards.specs.Pieces.{IsPieceWord}
-use Rattle.shards.specs.declared.piece.Piece.{Piece}
+use Rattle.sweep_plan.specs.declared.keys.SweptKey.{SweptKey}
+use Rattle.sweep_plan.specs.declared.values.SweptValue.{SweptValue}
+use Rattle.shards.specs.Shards.{IsShardWord}
+use Rattle.shards.specs.declared.shard.Shard.{Shard}
 use Rattle.reasons.specs.declared.words.Clash.{Clash}
 use Rattle.reasons.specs.declared.words.Clash.TheVariants as clash
 use Rattle.reasons.specs.declared.words.WordFault.{WordFault}
@@ -40,25 +40,25 @@ WantsNothing word = (want : Want) → ¬ (IsWantWord word want)
 
 -- the name is that of a key that may be set
 abbrev pub NamesKey : Text → Type 0
-NamesKey name = (k : SettingKey) × IsKeyNamed name k
+NamesKey name = (k : SweptKey) × IsKeyNamed name k
 
 abbrev pub NamesNoKey : Text → Type 0
-NamesNoKey name = (k : SettingKey) → ¬ (IsKeyNamed name k)
+NamesNoKey name = (k : SweptKey) → ¬ (IsKeyNamed name k)
 
 -- the item is no value
 abbrev pub IsNoValue : Text → Type 0
-IsNoValue item = (value : SettingValue) → ¬ (IsValue item value)
+IsNoValue item = (value : SweptValue) → ¬ (IsValue item value)
 
 -- ---- what is wrong with words
 
 -- whether options that don't go together stand so
-abbrev pub tells_cases : List Row → Bool
-tells_cases rows = is_some (first_of (codes "page") rows) || is_given (first_of (codes "jsonl") rows)
+abbrev pub tells_settings : List Row → Bool
+tells_settings rows = is_some (first_of (codes "page") rows) || is_given (first_of (codes "jsonl") rows)
 
 abbrev pub clashes : List Row → Clash → Bool
 clashes rows clash.PartsAndDivision = is_some (first_of (codes "parts") rows) && is_some (first_of (codes "division") rows)
 clashes rows clash.ResumeAlone = is_none (first_of (codes "shard") rows) && is_given (first_of (codes "resume") rows)
-clashes rows clash.PieceTelling = is_some (first_of (codes "shard") rows) && tells_cases rows
+clashes rows clash.ShardTelling = is_some (first_of (codes "shard") rows) && tells_settings rows
 clashes rows clash.NameAlone = is_some (first_of (codes "name") rows) && is_none (first_of (codes "page") rows)
 
 -- the word of an option is no number from 1 to the most
@@ -73,11 +73,11 @@ IsRefusedWord rows fault.Parts word = IsNoNumber (codes "parts") 64 rows word
 IsRefusedWord rows fault.PartNumber word = first_of (codes "division") rows ≡ Some word
 IsRefusedWord rows fault.ListLength word = first_of (codes "division") rows ≡ Some word
 IsRefusedWord rows fault.Until word = IsNoNumber (codes "until") 100 rows word
-IsRefusedWord rows fault.Shard word = (first_of (codes "shard") rows ≡ Some word) × ((p : Piece) → ¬ (IsPieceWord word p))
+IsRefusedWord rows fault.Shard word = (first_of (codes "shard") rows ≡ Some word) × ((p : Shard) → ¬ (IsShardWord word p))
 IsRefusedWord rows fault.Seeds word = (first_of (codes "seeds") rows ≡ Some word) × SeedsNothing word
 IsRefusedWord rows fault.SeedsOrder word = (first_of (codes "seeds") rows ≡ Some word) × SeedsNothing word
 IsRefusedWord rows fault.SeedsMany word = (first_of (codes "seeds") rows ≡ Some word) × SeedsNothing word
-IsRefusedWord rows fault.Setting word = Contains (words_of (codes "set") rows) word × SetsNothing word
+IsRefusedWord rows fault.Swept word = Contains (words_of (codes "set") rows) word × SetsNothing word
 IsRefusedWord rows fault.KeyTwice word = Contains (words_of (codes "set") rows) word
 IsRefusedWord rows fault.Want word = Contains (words_of (codes "want") rows) word × WantsNothing word
 
@@ -97,12 +97,12 @@ abbrev pub IsReasonMet : Option (Text × List Row) → WordReason → Type 0
 IsReasonMet met reason = (rows : List Row) × (option_map (λ (p : Text × List Row). p.1) met ≡ Some rows) × IsReasonOf rows reason
 
 -- what is wrong with a word of --set
-abbrev pub IsSettingReason : Text → WordReason → Type 0
-IsSettingReason word (reason.Word fault.Setting w) = w.now ≡ word
-IsSettingReason word (reason.Key w key guess) = (w.now ≡ word) × NamesNoKey key.now
-IsSettingReason word (reason.Value w value) = (w.now ≡ word) × IsNoValue value.now
-IsSettingReason word (reason.Share w parts) = w.now ≡ word
-IsSettingReason word _ = ⊥
+abbrev pub IsSweptReason : Text → WordReason → Type 0
+IsSweptReason word (reason.Word fault.Swept w) = w.now ≡ word
+IsSweptReason word (reason.Key w key guess) = (w.now ≡ word) × NamesNoKey key.now
+IsSweptReason word (reason.Value w value) = (w.now ≡ word) × IsNoValue value.now
+IsSweptReason word (reason.Share w parts) = w.now ≡ word
+IsSweptReason word _ = ⊥
 
 -- what is wrong with a word of --seeds
 abbrev pub IsSeedsReason : Text → WordReason → Type 0

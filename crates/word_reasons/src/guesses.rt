@@ -6,7 +6,7 @@ use base::Memory;
 use schema::{FormatKey, KeyRule, Kind, Section, Version};
 use std::alloc::Global;
 use strsim::levenshtein;
-use sweep_plan::SettingKey;
+use sweep_plan::SweptKey;
 
 /// A name that is longer is near none.
 const LONGEST: usize = 80;
@@ -23,7 +23,7 @@ pub(crate) fn guess_of(alloc: Global, name: &str) -> Result<Option<String>, Memo
     ensures { IfOk result (λ guess. IfSome guess (λ text. NamesKey (string_bytes text))) }
 {
     let guess = nearest(alloc, name)?;
-    if SettingKey::named(guess.name.as_str()).is_some() {
+    if SweptKey::named(guess.name.as_str()).is_some() {
         return Ok(Some(guess.name));
     }
     Ok(None)

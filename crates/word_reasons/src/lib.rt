@@ -3,9 +3,9 @@
 
 mod guesses;
 mod options;
-mod settings;
 mod shares;
 mod sweeping;
+mod swept_keys;
 mod wants;
 mod words;
 

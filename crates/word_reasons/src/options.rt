@@ -1,12 +1,12 @@
 //! What is wrong with single options, and with those that don't go together.
 ghost use Rattle.std.specs.Prelude.{◌≡◌, ◌⊎◌, ◌<◌, ◌^◌, IfSome};
 ghost use Rattle.clap.specs.Words.{found_of, rows_of};
-ghost use Rattle.word_reasons.specs.Found.{IsNumberReason, IsReasonOf, tells_cases};
+ghost use Rattle.word_reasons.specs.Found.{IsNumberReason, IsReasonOf, tells_settings};
 
 use arguments::{is_given, number_within, value_of};
 use clap::ArgMatches;
 use reasons::{Clash, WordFault, WordReason};
-use shards::Piece;
+use shards::Shard;
 
 /// The options of a run that exclude each other.
 pub(crate) fn run_clash<'a>(run: &ArgMatches<'a>) -> Option<WordReason<'a>>
@@ -48,19 +48,19 @@ fn resume_clash<'a>(sweep: &ArgMatches<'a>) -> Option<WordReason<'a>>
     None
 }
 
-/// `--page` or `--jsonl` of a piece.
+/// `--page` or `--jsonl` of a shard.
 fn telling_clash<'a>(sweep: &ArgMatches<'a>) -> Option<WordReason<'a>>
     ensures { IfSome result (IsReasonOf (rows_of (found_of sweep.now))) }
 {
-    if value_of(sweep, "shard").is_some() && tells_cases(sweep) {
-        return Some(WordReason::Clash(Clash::PieceTelling));
+    if value_of(sweep, "shard").is_some() && tells_settings(sweep) {
+        return Some(WordReason::Clash(Clash::ShardTelling));
     }
     None
 }
 
-/// Whether the cases are to be told by a page or as objects.
-fn tells_cases(sweep: &ArgMatches<'_>) -> bool
-    ensures { result ≡ tells_cases (rows_of (found_of sweep.now)) }
+/// Whether the settings are to be told by a page or as objects.
+fn tells_settings(sweep: &ArgMatches<'_>) -> bool
+    ensures { result ≡ tells_settings (rows_of (found_of sweep.now)) }
 {
     value_of(sweep, "page").is_some() || is_given(sweep, "jsonl")
 }
@@ -112,12 +112,12 @@ pub(crate) fn list_word<'a>(matches: &ArgMatches<'a>, fault: WordFault) -> Optio
     Some(WordReason::Word { fault, word })
 }
 
-/// The word of `--shard`, where it is no piece.
+/// The word of `--shard`, where it is no shard.
 pub(crate) fn shard_word<'a>(sweep: &ArgMatches<'a>) -> Option<WordReason<'a>>
     ensures { IfSome result (IsReasonOf (rows_of (found_of sweep.now))) }
 {
     let word = value_of(sweep, "shard")?;
-    if Piece::read(word).is_some() {
+    if Shard::read(word).is_some() {
         return None;
     }
     Some(WordReason::Word {

@@ -4,7 +4,7 @@ ghost use Rattle.clap.specs.Words.{found_of, rows_of};
 ghost use Rattle.word_reasons.specs.Found.{IsReasonOf, IsSeedsReason, SeedsNothing};
 
 use crate::options::{shard_word, sweep_clash, until_word};
-use crate::settings::settings_reason;
+use crate::swept_keys::swept_keys_reason;
 use crate::wants::wants_reason;
 use arguments::{value_of, values_of};
 use base::Memory;
@@ -40,11 +40,11 @@ fn option_reason<'a>(sweep: &ArgMatches<'a>) -> Option<WordReason<'a>>
     }
 }
 
-/// What is wrong with the settings, the seeds and what is wanted, else with how many runs there are.
+/// What is wrong with the swept keys, the seeds and what is wanted, else with how many runs there are.
 fn plan_reason<'a>(alloc: Global, sweep: &ArgMatches<'a>) -> Result<Option<WordReason<'a>>, Memory>
     ensures { IfOk result (λ reason. IfSome reason (IsReasonOf (rows_of (found_of sweep.now)))) }
 {
-    if let Some(reason) = settings_reason(alloc, sweep)? {
+    if let Some(reason) = swept_keys_reason(alloc, sweep)? {
         return Ok(Some(reason));
     }
     if let Some(reason) = seeds_reason(alloc, sweep)? {
@@ -97,7 +97,7 @@ fn range_of(word: &str) -> Option<(u64, u64)> {
     Some((number(first)?, number(last)?))
 }
 
-/// Whether the settings and the seeds, each of which may stand, ask for more runs than a sweep has.
+/// Whether the swept keys and the seeds, each of which may stand, ask for more runs than a sweep has.
 fn runs_reason<'a>(alloc: Global, sweep: &ArgMatches<'a>) -> Result<Option<WordReason<'a>>, Memory>
     ensures { IfOk result (λ reason. IfSome reason (IsReasonOf (rows_of (found_of sweep.now)))) }
 {

@@ -9,7 +9,7 @@ use Rattle.sweep_command.specs.Outcomes.{SetsNoItem}
 use Rattle.sweep_command.proofs.Causes.{sweep_item}
 use Rattle.cli.specs.Outcomes.{Fails}
 use Rattle.command_line.specs.declared.failure.Failure.{Failure}
-use Rattle.command_line.specs.declared.failure.Failure.TheVariants.{File, Usage, Preset, NoItem, Rule, Mistaken, Case, Pieces, Workers, Division, Run, Memory, Output}
+use Rattle.command_line.specs.declared.failure.Failure.TheVariants.{File, Usage, Preset, NoItem, Rule, Mistaken, Setting, Shards, Workers, Division, Run, Memory, Output}
 use Rattle.cli.proofs.program.command.Goals as goal
 
 -- no failure has the status of what was done
@@ -21,8 +21,8 @@ no_failure Preset e = omega arith
 no_failure (NoItem key) e = omega arith
 no_failure (Rule number) e = omega arith
 no_failure (Mistaken number) e = omega arith
-no_failure (Case number settings) e = omega arith
-no_failure (Pieces cause) e = omega arith
+no_failure (Setting number swept_keys) e = omega arith
+no_failure (Shards cause) e = omega arith
 no_failure Workers e = omega arith
 no_failure (Division cause) e = omega arith
 no_failure (Run cause) e = omega arith
@@ -38,8 +38,8 @@ is_usage Refused words before after making old new Preset e usage preset fails =
 is_usage Refused words before after making old new (NoItem key) e usage preset fails = inr (sweep_item Refused words before after making fails.0 key fails.1 fails.2)
 is_usage Refused words before after making old new (Rule number) e usage preset fails = absurd (omega arith)
 is_usage Refused words before after making old new (Mistaken number) e usage preset fails = absurd (omega arith)
-is_usage Refused words before after making old new (Case number settings) e usage preset fails = absurd (omega arith)
-is_usage Refused words before after making old new (Pieces cause) e usage preset fails = absurd (omega arith)
+is_usage Refused words before after making old new (Setting number swept_keys) e usage preset fails = absurd (omega arith)
+is_usage Refused words before after making old new (Shards cause) e usage preset fails = absurd (omega arith)
 is_usage Refused words before after making old new Workers e usage preset fails = absurd (omega arith)
 is_usage Refused words before after making old new (Division cause) e usage preset fails = absurd (omega arith)
 is_usage Refused words before after making old new (Run cause) e usage preset fails = absurd (omega arith)
@@ -60,8 +60,8 @@ has_three Usage is = absurd is
 has_three Preset is = absurd is
 has_three (NoItem key) is = absurd is
 has_three (Rule number) is = absurd is
-has_three (Case number settings) is = absurd is
-has_three (Pieces cause) is = absurd is
+has_three (Setting number swept_keys) is = absurd is
+has_three (Shards cause) is = absurd is
 has_three Workers is = absurd is
 has_three (Division cause) is = absurd is
 has_three (Run cause) is = absurd is
@@ -76,8 +76,8 @@ asks_to_explain Refused words before after making old new Usage fails is = absur
 asks_to_explain Refused words before after making old new Preset fails is = absurd is
 asks_to_explain Refused words before after making old new (NoItem key) fails is = absurd is
 asks_to_explain Refused words before after making old new (Rule number) fails is = absurd is
-asks_to_explain Refused words before after making old new (Case number settings) fails is = absurd is
-asks_to_explain Refused words before after making old new (Pieces cause) fails is = absurd is
+asks_to_explain Refused words before after making old new (Setting number swept_keys) fails is = absurd is
+asks_to_explain Refused words before after making old new (Shards cause) fails is = absurd is
 asks_to_explain Refused words before after making old new Workers fails is = absurd is
 asks_to_explain Refused words before after making old new (Division cause) fails is = absurd is
 asks_to_explain Refused words before after making old new (Run cause) fails is = absurd is
@@ -127,7 +127,7 @@ pub returns-in-Err-clause-failed : goal.returns-in-Err-clause-failed
 returns-in-Err-clause-failed g c _ = record {
   failure = c.in-Err.failure;
   told = c.refuse-status.ensures.status;
-  cause = fails_still _ _ _ _ _ _ _ _ _ _ c.in-Err.failure c.tell_why.ensures.counted c.tell_why.ensures.same c.in-Err.ensures.failed;
+  cause = fails_still _ _ _ _ _ _ _ _ _ _ c.in-Err.failure c.print_why.ensures.counted c.print_why.ensures.same c.in-Err.ensures.failed;
   silent = c.in-Err.ensures.silent;
 }
 

@@ -1,6 +1,6 @@
 -- a run or a sweep that the words ask for, done and told or not done
 use Rattle.std.proofs.lemmas.Result.{IfErr-weaker, on_ok_weaker}
-use Rattle.cli.proofs.Commands.{asked_explain_done, asked_explain_failed, asked_init_done, asked_init_failed, asked_join_done, asked_join_fails, asked_join_unprinted, asked_page_done, asked_page_failed, asked_piece, asked_run_done, asked_run_fails, asked_run_unprinted, asked_run_untold, asked_sweep_done, asked_sweep_fails, asked_sweep_unprinted, asked_untold, asked_wants, is_command, joined_wants, on_done}
+use Rattle.cli.proofs.Commands.{asked_explain_done, asked_explain_failed, asked_init_done, asked_init_failed, asked_join_done, asked_join_fails, asked_join_unprinted, asked_page_done, asked_page_failed, asked_shard, asked_run_done, asked_run_fails, asked_run_unprinted, asked_run_untold, asked_sweep_done, asked_sweep_fails, asked_sweep_unprinted, asked_untold, asked_wants, is_command, joined_wants, on_done}
 use Rattle.scenario_files.proofs.Held.{handed_on}
 use Rattle.cli.proofs.program.perform.Goals as goal
 
@@ -67,8 +67,8 @@ returns-in_err-lines-in-Sweep-clause-unasked g c none =
 pub returns-in_err-lines-in-Sweep-clause-other : goal.returns-in_err-lines-in-Sweep-clause-other
 returns-in_err-lines-in-Sweep-clause-other g c none = absurd (none (is_command _ _ c.in_ok-help.ensures.answer))
 
-pub sweep_file-requires-clause-piece : goal.sweep_file-requires-clause-piece
-sweep_file-requires-clause-piece g c _ _ = asked_piece _ _ _ c.in-Sweep.is c.in_ok-help.ensures.answer
+pub sweep_file-requires-clause-shard : goal.sweep_file-requires-clause-shard
+sweep_file-requires-clause-shard g c _ _ = asked_shard _ _ _ c.in-Sweep.is c.in_ok-help.ensures.answer
 
 pub sweep_file-requires-clause-wants : goal.sweep_file-requires-clause-wants
 sweep_file-requires-clause-wants g c _ _ = asked_wants _ _ _ c.in-Sweep.is c.in_ok-help.ensures.answer

@@ -1,13 +1,13 @@
 use Rattle.std.proofs.Common.{rules, refl}
 use Rattle.clap.specs.Words.{found_of, rows_of}
-use Rattle.command_line.proofs.Sweeps.{no_plan, no_piece, no_wants}
+use Rattle.command_line.proofs.Sweeps.{no_plan, no_shard, no_wants}
 use Rattle.command_line.proofs.sweeping.runs_asked.Goals as goal
 
 pub returns-in_err-plan-clause-usage : goal.returns-in_err-plan-clause-usage
 returns-in_err-plan-clause-usage c e wish h = no_plan (rows_of (found_of c.args.sweep.now)) wish h (c.in_err-plan.ensures.usage (search rules))
 
-pub returns-in_err-piece-clause-usage : goal.returns-in_err-piece-clause-usage
-returns-in_err-piece-clause-usage c e wish h = no_piece (rows_of (found_of c.args.sweep.now)) wish h (c.in_err-piece.ensures.usage (search rules))
+pub returns-in_err-shard-clause-usage : goal.returns-in_err-shard-clause-usage
+returns-in_err-shard-clause-usage c e wish h = no_shard (rows_of (found_of c.args.sweep.now)) wish h (c.in_err-shard.ensures.usage (search rules))
 
 pub returns-in_err-wants-clause-usage : goal.returns-in_err-wants-clause-usage
 returns-in_err-wants-clause-usage c e wish h = no_wants (rows_of (found_of c.args.sweep.now)) wish h (c.in_err-wants.ensures.usage (search rules))
@@ -19,7 +19,7 @@ returns-clause-sweep c = record {
   file = c.requires.file;
   table = c.requires.table;
   plan = c.in_ok-plan.ensures.plan;
-  piece = c.in_ok-piece.ensures.piece;
+  shard = c.in_ok-shard.ensures.shard;
   wants = c.in_ok-wants.ensures.wants;
   workers = search rules;
   progress = search rules;

@@ -6,7 +6,7 @@ use Rattle.diagnostic_text.proofs.as_json.json.Goals as goal
 
 pub returns : goal.returns
 returns c =
-    let found = c.args.mistakes.now.list.items in
+    let found = c.args.diagnostics.now.list.items in
     let values = map view c.in_ok-values.values.items in
     let line = string_bytes c.in_ok-text.text in
     let more : c.saturating_sub-more.result ≡ length found - 50 = search rules in

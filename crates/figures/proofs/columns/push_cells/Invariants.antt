@@ -1,6 +1,6 @@
 use Rattle.std.proofs.Common.{◌≡◌, ◌++◌, map, take}
 use Rattle.std.specs.String.{string_bytes}
-use Rattle.figures.specs.CaseLines.{cells_aligned}
+use Rattle.figures.specs.SettingLines.{cells_aligned}
 use Rattle.figures.proofs.columns.push_cells.Given as goal
 
 -- the cells so far are added

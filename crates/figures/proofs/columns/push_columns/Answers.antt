@@ -1,6 +1,6 @@
 use Rattle.std.proofs.Common.{◌++◌, codes, map, ap, ◌∙◌, append_assoc}
 use Rattle.std.specs.String.{string_bytes}
-use Rattle.figures.specs.CaseLines.{cells_aligned, figure_widths}
+use Rattle.figures.specs.SettingLines.{cells_aligned, figure_widths}
 use Rattle.figures.proofs.columns.push_columns.Goals as goal
 
 pub returns : goal.returns

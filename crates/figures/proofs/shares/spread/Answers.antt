@@ -1,5 +1,5 @@
 use Rattle.std.proofs.Common.{◌+◌, ◌*◌, ◌/◌, ◌-◌, ap, sym, ◌∙◌}
-use Rattle.figures.specs.Cases.{root}
+use Rattle.figures.specs.Settings.{root}
 use Rattle.figures.proofs.Roots.{root_is}
 use Rattle.figures.proofs.shares.spread.Goals as goal
 

@@ -1,6 +1,6 @@
 use Rattle.std.proofs.Common.{◌++◌, ◌∙◌, ap}
 use Rattle.std.specs.Option.{option_to_list}
-use Rattle.figures.specs.Cases.{last_in}
+use Rattle.figures.specs.Settings.{last_in}
 use Rattle.figures.proofs.Runs.{time_more}
 use Rattle.figures.proofs.times.push_last.Goals as goal
 

@@ -1,6 +1,6 @@
 use Rattle.std.proofs.Common.{◌≡◌, ◌++◌, take}
 use Rattle.std.specs.List.{filter_map}
-use Rattle.figures.specs.Cases.{last_in}
+use Rattle.figures.specs.Settings.{last_in}
 use Rattle.figures.proofs.times.push_last.Given as goal
 
 -- the times of the crashes so far are added

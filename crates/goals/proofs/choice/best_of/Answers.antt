@@ -6,11 +6,11 @@ use Rattle.goals.proofs.choice.best_of.Goals as goal
 
 pub returns-then-is_best : goal.returns-then-is_best
 returns-then-is_best c =
-    let cases = c.args.cases.now in
+    let settings = c.args.settings.now in
     let place = c.loop-place.place in
     record {
-      case = _;
-      there = slice_get-get_or cases place _ c.loop-place-test.true;
+      setting = _;
+      there = slice_get-get_or settings place _ c.loop-place-test.true;
       best = sym c.is_best.ensures ∙ c.if-is_best.true;
-      first = λ earlier other before there. none_before (is_best c.args.wants.now cases) cases place earlier other c.loop-place.invariant before there;
+      first = λ earlier other before there. none_before (is_best c.args.wants.now settings) settings place earlier other c.loop-place.invariant before there;
     }

@@ -5,4 +5,4 @@ use Rattle.goals.proofs.choice.best_of.Given as goal
 
 -- none so far is best
 abbrev pub invariant-loop-place : goal.invariant-loop-place
-invariant-loop-place l = list_any (is_best l.wants l.cases) (take l.place l.cases) ≡ false
+invariant-loop-place l = list_any (is_best l.wants l.settings) (take l.place l.settings) ≡ false

@@ -5,4 +5,4 @@ use Rattle.goals.proofs.choice.is_refuted.Given as goal
 
 -- none so far is refuted
 abbrev pub invariant-loop-want : goal.invariant-loop-want
-invariant-loop-want l = list_any (λ want. refutes want.statistic want.most l.case) (take l.want-index l.wants) ≡ false
+invariant-loop-want l = list_any (λ want. refutes want.statistic want.most l.setting) (take l.want-index l.wants) ≡ false

@@ -5,4 +5,4 @@ use Rattle.goals.proofs.choice.meets.Given as goal
 
 -- all so far are shown
 abbrev pub invariant-loop-want : goal.invariant-loop-want
-invariant-loop-want l = list_any (λ want. not (shows want.statistic want.most l.case)) (take l.want-index l.wants) ≡ false
+invariant-loop-want l = list_any (λ want. not (shows want.statistic want.most l.setting)) (take l.want-index l.wants) ≡ false

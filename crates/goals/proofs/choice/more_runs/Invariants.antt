@@ -4,4 +4,4 @@ use Rattle.goals.proofs.choice.more_runs.Given as goal
 
 -- what is left tells
 abbrev pub invariant-loop-want : goal.invariant-loop-want
-invariant-loop-want l = more_runs (drop l.want-index l.wants) l.case ≡ more_runs l.wants l.case
+invariant-loop-want l = more_runs (drop l.want-index l.wants) l.setting ≡ more_runs l.wants l.setting

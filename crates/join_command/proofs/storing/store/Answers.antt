@@ -9,7 +9,7 @@ returns-clause-done g c =
     let known = g.F.Files.known in
     let making = g.F.Files.making c.args.files.now in
     let filled = c.fill-made in
-    told_on_ok _ filled.result.1 c.run_told.result c.run_told.ensures
+    told_on_ok _ filled.result.1 c.run_result.result c.run_result.ensures
     (each_on_ok filled.result.1 filled.ensures.whole (λ written.
     stored c.args.source.now c.args.name.now making (known c.args.files.now) (known c.make_whole.new.self) (known c.close.new.self) _ _
     c.in-Ok.ensures.apart c.in-Ok.ensures.others c.close.ensures.others c.in-Ok.ensures.empty c.in-Ok.ensures.made c.close.ensures.closed c.args.text.now written))
@@ -20,7 +20,7 @@ returns-clause-failed g c =
     let making = g.F.Files.making c.args.files.now in
     let filled = c.fill-made in
     let counted = one_closed _ _ _ _ c.make_whole.ensures.counted c.close.ensures.refused in
-    told_failed _ filled.result.1 c.run_told.result c.run_told.ensures
+    told_failed _ filled.result.1 c.run_result.result c.run_result.ensures
     (each_err_with filled.result.1 filled.ensures.part (is_refused filled.result.1 _ _ _ counted filled.ensures.failures filled.ensures.causes) (λ f part is.
     begun c.args.source.now c.args.name.now making (known c.args.files.now) (known c.make_whole.new.self) (known c.close.new.self) _ _
     c.in-Ok.ensures.apart c.in-Ok.ensures.others c.close.ensures.others c.in-Ok.ensures.empty c.in-Ok.ensures.made c.close.ensures.closed _ c.args.text.now f is.0 is.1 part))

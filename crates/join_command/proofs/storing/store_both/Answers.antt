@@ -9,7 +9,7 @@ returns-clause-done g c =
     let known = g.F.Files.known in
     let making = g.F.Files.making c.args.files.now in
     let filled = c.fill_both-made in
-    told_on_ok _ filled.result.2 c.run_told.result c.run_told.ensures
+    told_on_ok _ filled.result.2 c.run_result.result c.run_result.ensures
     (each_on_ok filled.result.2 filled.ensures.whole (λ written.
     both_stored c.args.source.now c.args.name.now c.args.page.now making (known c.args.files.now) (known c.make_both_whole.new.self) (known c.close.new.self) (known c.close-2.new.self)
     c.in-Ok.ensures.apart c.in-Ok.ensures.differ c.in-Ok.ensures.others c.close.ensures.others c.close-2.ensures.others
@@ -22,7 +22,7 @@ returns-clause-failed g c =
     let making = g.F.Files.making c.args.files.now in
     let filled = c.fill_both-made in
     let counted = both_closed _ _ _ _ _ _ c.make_both_whole.ensures.counted c.close.ensures.refused c.close-2.ensures.refused in
-    told_failed _ filled.result.2 c.run_told.result c.run_told.ensures
+    told_failed _ filled.result.2 c.run_result.result c.run_result.ensures
     (each_err_with filled.result.2 filled.ensures.part (is_refused filled.result.2 _ _ _ counted filled.ensures.failures filled.ensures.causes) (λ f part is.
     both_begun c.args.source.now c.args.name.now c.args.page.now making (known c.args.files.now) (known c.make_both_whole.new.self) (known c.close.new.self) (known c.close-2.new.self)
     c.in-Ok.ensures.apart c.in-Ok.ensures.differ c.in-Ok.ensures.others c.close.ensures.others c.close-2.ensures.others

@@ -1,5 +1,5 @@
 use Rattle.page_runs.proofs.Keeping.{unbegun}
-use Rattle.page_runs.proofs.paged.run_told.Goals as goal
+use Rattle.page_runs.proofs.paged.run_result.Goals as goal
 
 pub returns-in-Err-clause-promise : goal.returns-in-Err-clause-promise
 returns-in-Err-clause-promise g c =

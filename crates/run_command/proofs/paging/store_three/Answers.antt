@@ -24,7 +24,7 @@ returns-clause-done g c =
     let page = c.args.page.now in
     let s = c.args.prepared.now.scenario in
     let release = c.args.shown.now.release.now in
-    told_done _ run.result.3 c.run_told.result c.run_told.ensures (each_ok run.result.3 run.ensures.written (λ summary writes.
+    told_done _ run.result.3 c.run_result.result c.run_result.ensures (each_ok run.result.3 run.ensures.written (λ summary writes.
     subst (λ (name : List ℕ). StoresPaged s name release start end trace (Some report) page summary.rows) c.requires.named
     (paged_stored s c.args.shown.now.name.now release start end trace (Some report) page _ _ _ _ _ _
     (first_of_three start made one two end trace report page c.in-Ok.ensures.differ c.in-Ok.ensures.others c.close.ensures.others c.close-2.ensures.others c.close-3.ensures.others
@@ -54,7 +54,7 @@ returns-clause-failed g c =
     let refused = g.F.Files.refused in
     let ends_by = g.M.Simulator.ends_by c.args.prepared.now.scenario c.args.prepared.now.workers in
     let ends = EndsWithCause (refused c.args.files.now < refused c.close-3.new.self) ends_by in
-    told_failed _ run.result.3 c.run_told.result c.run_told.ensures (each_err run.result.3 run.ensures.beginning (λ cause is begins. (
+    told_failed _ run.result.3 c.run_result.result c.run_result.ensures (each_err run.result.3 run.ensures.beginning (λ cause is begins. (
       c.in-Ok.ensures.apart,
       subst (λ (name : List ℕ). BreaksOffPaged ends s name release start end trace (Some report) page cause) c.requires.named
           (paged_begun s c.args.shown.now.name.now release start end trace (Some report) page _ _ _ _ _ _
@@ -75,7 +75,7 @@ returns-clause-failed g c =
 pub returns-clause-whole : goal.returns-clause-whole
 returns-clause-whole g c =
     let run = c.simulate_with_page-made_trace in
-    told_whole _ _ run.result.3 c.run_told.result c.run_told.ensures
+    told_whole _ _ run.result.3 c.run_result.result c.run_result.ensures
     (three_whole _ _ _ run.result.3 run.ensures.whole run.ensures.whole_report run.ensures.whole_page)
     (λ none. three_kept _ _ _ _ _ _ _ _ c.in-Ok.ensures.counted c.close.ensures.refused c.close-2.ensures.refused c.close-3.ensures.refused
     (none.0, none.1 ∙ c.new.ensures.failures, none.2))

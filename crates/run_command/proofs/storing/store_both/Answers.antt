@@ -13,7 +13,7 @@ returns-clause-done g c =
     let known = g.F.Files.known in
     let run = c.simulate-made_trace in
     let holds = g.F.Made.Write.contents in
-    told_done _ run.result.2 c.run_told.result c.run_told.ensures (each_ok run.result.2 run.ensures.written (λ summary writes.
+    told_done _ run.result.2 c.run_result.result c.run_result.ensures (each_ok run.result.2 run.ensures.written (λ summary writes.
     both_stored (known c.args.files.now) (known c.make_both.new.self) (known c.close.new.self) (known c.close-2.new.self) c.args.words.trace.now c.args.report.now
     c.in-Ok.ensures.differ c.in-Ok.ensures.others c.close.ensures.others c.close-2.ensures.others
     c.args.prepared.now.scenario summary.rows _ _ _ _ c.in-Ok.ensures.empty c.in-Ok.ensures.made c.in-Ok.ensures.empty_too
@@ -28,7 +28,7 @@ returns-clause-failed g c =
     let refused = g.F.Files.refused in
     let ends_by = g.M.Simulator.ends_by c.args.prepared.now.scenario c.args.prepared.now.workers in
     let ends = EndsWithCause (refused c.args.files.now < refused c.close-2.new.self) ends_by in
-    told_failed _ run.result.2 c.run_told.result c.run_told.ensures (each_err run.result.2 run.ensures.beginning (λ cause is begins. (
+    told_failed _ run.result.2 c.run_result.result c.run_result.ensures (each_err run.result.2 run.ensures.beginning (λ cause is begins. (
       c.in-Ok.ensures.apart,
       both_begun (known c.args.files.now) (known c.make_both.new.self) (known c.close.new.self) (known c.close-2.new.self) c.args.words.trace.now c.args.report.now
           c.in-Ok.ensures.differ c.in-Ok.ensures.others c.close.ensures.others c.close-2.ensures.others
@@ -43,5 +43,5 @@ returns-clause-failed g c =
 pub returns-clause-whole : goal.returns-clause-whole
 returns-clause-whole g c =
     let run = c.simulate-made_trace in
-    told_whole _ _ run.result.2 c.run_told.result c.run_told.ensures (both_whole _ _ run.result.2 run.ensures.whole run.ensures.whole_report)
+    told_whole _ _ run.result.2 c.run_result.result c.run_result.ensures (both_whole _ _ run.result.2 run.ensures.whole run.ensures.whole_report)
     (λ none. two_kept _ _ _ _ _ _ c.in-Ok.ensures.counted c.close.ensures.refused c.close-2.ensures.refused (none.0, none.1 ∙ c.new.ensures.failures))

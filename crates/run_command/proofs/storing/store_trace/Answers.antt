@@ -12,7 +12,7 @@ pub returns-clause-done : goal.returns-clause-done
 returns-clause-done g c =
     let known = g.F.Files.known in
     let run = c.simulate-made in
-    told_done _ run.result.2 c.run_told.result c.run_told.ensures (each_ok run.result.2 run.ensures.written (λ summary writes.
+    told_done _ run.result.2 c.run_result.result c.run_result.ensures (each_ok run.result.2 run.ensures.written (λ summary writes.
     trace_stored c.args.prepared.now.scenario (known c.args.files.now) (known c.make.new.self) (known c.close.new.self) c.args.words.trace.now _ _ _ _
     c.in-Ok.ensures.others c.close.ensures.others c.in-Ok.ensures.empty c.in-Ok.ensures.made c.close.ensures.closed summary.rows writes))
 
@@ -23,7 +23,7 @@ returns-clause-failed g c =
     let refused = g.F.Files.refused in
     let ends_by = g.M.Simulator.ends_by c.args.prepared.now.scenario c.args.prepared.now.workers in
     let ends = EndsWithCause (refused c.args.files.now < refused c.close.new.self) ends_by in
-    told_failed _ run.result.2 c.run_told.result c.run_told.ensures (each_err run.result.2 run.ensures.beginning (λ cause is begins. (
+    told_failed _ run.result.2 c.run_result.result c.run_result.ensures (each_err run.result.2 run.ensures.beginning (λ cause is begins. (
       c.in-Ok.ensures.apart,
       trace_begun c.args.prepared.now.scenario (known c.args.files.now) (known c.make.new.self) (known c.close.new.self) c.args.words.trace.now _ _ _ _
           c.in-Ok.ensures.others c.close.ensures.others c.in-Ok.ensures.empty c.in-Ok.ensures.made c.close.ensures.closed ends cause (
@@ -35,4 +35,4 @@ returns-clause-failed g c =
 pub returns-clause-whole : goal.returns-clause-whole
 returns-clause-whole g c =
     let run = c.simulate-made in
-    told_whole _ _ run.result.2 c.run_told.result c.run_told.ensures run.ensures.whole (one_kept _ _ _ _ c.in-Ok.ensures.counted c.close.ensures.refused)
+    told_whole _ _ run.result.2 c.run_result.result c.run_result.ensures run.ensures.whole (one_kept _ _ _ _ c.in-Ok.ensures.counted c.close.ensures.refused)

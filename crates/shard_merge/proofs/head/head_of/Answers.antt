@@ -1,5 +1,5 @@
 use Rattle.std.proofs.Common.{◌≡◌, ◌++◌, ℕ, List, rules, subst}
-use Rattle.sweep.specs.Pieces.{piece_header}
+use Rattle.sweep.specs.Shards.{shard_header}
 use Rattle.shard_merge.proofs.Heads.{not_begun}
 use Rattle.shard_merge.proofs.head.head_of.Goals as goal
 
@@ -10,6 +10,6 @@ pub returns-then-not-begins-clause-none : goal.returns-then-not-begins-clause-no
 returns-then-not-begins-clause-none c _ =
     let head = c.in-Ok.head in
     let same : c.as_bytes.result.now ≡ c.args.text.now = search rules in
-    not_begun c.args.text.now head.mark.now head.revived c.args.revived head.plan head.piece c.in-Ok.ensures.same c.in-Ok.ensures.only
-    (subst (λ (t : List ℕ). (rest : List ℕ) → ¬ (t ≡ piece_header head.revived head.mark.now head.plan head.piece ++ rest)) same
+    not_begun c.args.text.now head.mark.now head.revived c.args.revived head.plan head.shard c.in-Ok.ensures.same c.in-Ok.ensures.only
+    (subst (λ (t : List ℕ). (rest : List ℕ) → ¬ (t ≡ shard_header head.revived head.mark.now head.plan head.shard ++ rest)) same
     (c.in_ok-begins.ensures.other c.if-not-begins.true))

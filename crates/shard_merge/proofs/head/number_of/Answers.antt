@@ -1,6 +1,6 @@
 use Rattle.std.proofs.Common.{ap, is_some, sym}
-use Rattle.shards.specs.declared.piece.Piece.{Piece}
-use Rattle.shard_merge.proofs.Heads.{same_piece}
+use Rattle.shards.specs.declared.shard.Shard.{Shard}
+use Rattle.shard_merge.proofs.Heads.{same_shard}
 use Rattle.shard_merge.proofs.head.number_of.Goals as goal
 
 pub returns-in_default-read-clause-none : goal.returns-in_default-read-clause-none
@@ -9,5 +9,5 @@ returns-in_default-read-clause-none c _ mark revived sweep p b =
 
 pub returns-clause-only : goal.returns-clause-only
 returns-clause-only c mark revived sweep p b =
-    let same = same_piece c.in-Some.word.now _ p c.in-Some-read.ensures.some (c.in-Some.ensures.some mark revived sweep p b).0 b.sound in
-    sym (ap (λ (q : Piece). q.number) same)
+    let same = same_shard c.in-Some.word.now _ p c.in-Some-read.ensures.some (c.in-Some.ensures.some mark revived sweep p b).0 b.sound in
+    sym (ap (λ (q : Shard). q.number) same)

@@ -1,6 +1,6 @@
 use Rattle.std.proofs.Common.{◌∙◌, ap, is_some, sym}
 use Rattle.figures.proofs.Handing.{handed}
-use Rattle.shard_merge.proofs.Heads.{same_piece, name_refused}
+use Rattle.shard_merge.proofs.Heads.{same_shard, name_refused}
 use Rattle.shard_merge.proofs.Names.{mark_read, marked_words}
 use Rattle.shard_merge.proofs.head.read_head.Goals as goal
 
@@ -30,4 +30,4 @@ pub returns-clause-only : goal.returns-clause-only
 returns-clause-only c mark revived sweep p b =
     let parts = c.in-Some.ensures.some mark revived sweep p b in
     let cut = rw c.in-Some-split_once.is at (marked_words c.in-Some.rest.now mark _ c.split_once.result parts.1 b.marked c.split_once.ensures.cases) in
-    (cut.0, c.in_ok-plan.ensures.only sweep b.asked cut.1, same_piece c.in-Some.word.now _ p c.in-Some-read.ensures.some parts.0 b.sound)
+    (cut.0, c.in_ok-plan.ensures.only sweep b.asked cut.1, same_shard c.in-Some.word.now _ p c.in-Some-read.ensures.some parts.0 b.sound)

@@ -1,5 +1,5 @@
 use Rattle.std.proofs.Common.{ap, is_some, rules}
-use Rattle.figures.proofs.NoteWords.{if_ok_then}
+use Rattle.figures.proofs.MetadataWords.{if_ok_then}
 use Rattle.shard_merge.proofs.Heads.{asked_by, no_plans_are, none_parted, none_split, one_parted, plans_are, told_number, words_cut}
 use Rattle.shard_merge.proofs.head.read_plan.Goals as goal
 

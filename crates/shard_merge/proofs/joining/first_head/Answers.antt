@@ -20,7 +20,7 @@ returns-in-Some-clause-first c =
     record {
       text = _;
       there = c.text_at-bytes.ensures;
-      begins = subst (λ t. BeginsAs t head.mark.now head.revived head.plan head.piece) same (rw c.in-Some.is at c.in_ok-head.ensures.found);
+      begins = subst (λ t. BeginsAs t head.mark.now head.revived head.plan head.shard) same (rw c.in-Some.is at c.in_ok-head.ensures.found);
     }
 
 pub returns-in-Some-2-clause-first : goal.returns-in-Some-2-clause-first
@@ -30,5 +30,5 @@ returns-in-Some-2-clause-first c =
     record {
       text = _;
       there = c.text_at-bytes.ensures;
-      begins = subst (λ t. BeginsAs t head.mark.now head.revived head.plan head.piece) same (rw c.in-Some-2.is at c.in_ok-head-2.ensures.found);
+      begins = subst (λ t. BeginsAs t head.mark.now head.revived head.plan head.shard) same (rw c.in-Some-2.is at c.in_ok-head-2.ensures.found);
     }

@@ -6,7 +6,7 @@ use Rattle.sweep.specs.Table.{Course, IsMadeOf}
 use Rattle.sweep.specs.Summaries.{HasCome}
 use Rattle.sweep.proofs.chunks.make_some.Given as goal
 
--- the lines of the first runs are written, what their cases keep of them is gathered, and the table has not failed
+-- the lines of the first runs are written, what their settings keep of them is gathered, and the table has not failed
 abbrev pub invariant-loop-made : goal.invariant-loop-made
 invariant-loop-made g l = record {
   within : l.from + length l.yielded ≤ l.till;

@@ -1,7 +1,7 @@
 use Rattle.std.proofs.Common.{◌≤◌, [], ◌+◌, sym, subst, arith, ap, ◌∙◌}
 use Rattle.toml.specs.View.{view}
 use Rattle.sweep_plan.specs.Sweep.{run_count}
-use Rattle.shards.specs.Pieces.{first_run, past_run, whole}
+use Rattle.shards.specs.Shards.{first_run, past_run, whole}
 use Rattle.shards.proofs.Whole.{first_of_whole, past_of_whole}
 use Rattle.sweep.specs.Summaries.{IsGathered, MakesAll}
 use Rattle.run_output.proofs.Faults.{on_err}
@@ -10,7 +10,7 @@ use Rattle.sweep.proofs.WholeSweep.{begins_table, makes_all}
 use Rattle.sweep.proofs.chunks.sweep.Goals as goal
 
 pub new-gathering-requires-clause-few : goal.new-gathering-requires-clause-few
-new-gathering-requires-clause-few g c = subst (λ n. n ≤ 1000000) (sym c.runs_of_case.ensures) (few_runs c.args.plan.now c.requires.asked)
+new-gathering-requires-clause-few g c = subst (λ n. n ≤ 1000000) (sym c.runs_of_setting.ensures) (few_runs c.args.plan.now c.requires.asked)
 
 pub write_table-requires-clause-few : goal.write_table-requires-clause-few
 write_table-requires-clause-few g c _ _ =
@@ -20,7 +20,7 @@ write_table-requires-clause-few g c _ _ =
     omega (arith, first, past, c.nothing.ensures.runs)
 
 pub write_table-requires-clause-fresh : goal.write_table-requires-clause-fresh
-write_table-requires-clause-fresh g c _ _ = subst (λ n. IsGathered n [] c.new-gathering.result) c.runs_of_case.ensures c.new-gathering.ensures
+write_table-requires-clause-fresh g c _ _ = subst (λ n. IsGathered n [] c.new-gathering.result) c.runs_of_setting.ensures c.new-gathering.ensures
 
 pub returns-in_err-write_table-clause-part : goal.returns-in_err-write_table-clause-part
 returns-in_err-write_table-clause-part g c =

@@ -6,6 +6,6 @@ use Rattle.sweep.specs.Runs.{runs_of}
 use Rattle.sweep.specs.Judged.{IsAccepted}
 use Rattle.sweep.proofs.judging.judge.Given as goal
 
--- the runs of the first cases are accepted
-abbrev pub invariant-loop-case : goal.invariant-loop-case
-invariant-loop-case l = All (IsAccepted (view l.document)) (take (l.case * seed_count l.plan.seeds) (runs_of l.plan))
+-- the runs of the first settings are accepted
+abbrev pub invariant-loop-setting : goal.invariant-loop-setting
+invariant-loop-setting l = All (IsAccepted (view l.document)) (take (l.setting * seed_count l.plan.seeds) (runs_of l.plan))

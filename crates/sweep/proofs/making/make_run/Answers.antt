@@ -18,15 +18,15 @@ returns c =
     record {
       planned = read.0;
       there = read.1;
-      made = record { case = run.case.items; scenario = c.in_ok-scenario.scenario; rows = c.in_ok-tallies.tallies };
+      made = record { setting = run.setting.items; scenario = c.in_ok-scenario.scenario; rows = c.in_ok-tallies.tallies };
       is = record {
-        same = ap (λ p. p.case) (same_Some (planned_as run.case.items run.seed) read.0 (sym c.in_ok-run.ensures.run ∙ read.1));
+        same = ap (λ p. p.setting) (same_Some (planned_as run.setting.items run.seed) read.0 (sym c.in_ok-run.ensures.run ∙ read.1));
         accepted = read.2;
         run = c.in_ok-tallies.ensures.run;
       };
       written = c.in_ok-line.ensures
           ∙ ap (summed c.args.key.now) (c.deref-2.ensures.value ∙ c.in_ok-body.ensures
-          ∙ (λ i. note_cell (note i) ++ run_line (c.tells_revived.ensures i) (texts_of (c.deref.ensures.value i)) (c.seed.ensures i) (figures i)));
+          ∙ (λ i. note_cell (note i) ++ run_line (c.counts_revived.ensures i) (texts_of (c.deref.ensures.value i)) (c.seed.ensures i) (figures i)));
       kept = note;
     }
 

@@ -11,5 +11,5 @@ memory_of-requires c =
     let tree = view c.args.document.now in
     let run = c.in_ok-run.run' in
     let refusal = c.in-Err.refusal in
-    refused_for_memory tree c.args.plan.now c.args.number (planned_as run.case.items run.seed) refusal.rule c.requires.judged c.in_ok-run.ensures.run
+    refused_for_memory tree c.args.plan.now c.args.number (planned_as run.setting.items run.seed) refusal.rule c.requires.judged c.in_ok-run.ensures.run
     (subst (λ l. refusal.rule ≢ 11 → document_verdict (with_values tree l run.seed) ≡ Err refusal.rule) c.deref.ensures.value c.in-Err.ensures.refused)

@@ -7,8 +7,8 @@ use Rattle.sweep_command.proofs.making.make_runs.Goals as goal
 
 pub returns-in-Some-clause-whole : goal.returns-in-Some-clause-whole
 returns-in-Some-clause-whole g c =
-    ok_by (λ until cases. MakesRuns until (view c.args.document.now) c.args.mark.now c.args.plan.now (g.S.Sink.held c.args.table.now) (g.S.Sink.held c.sweep_until.new.table) cases.items)
-    _ _ c.sweep_until.result (sym c.until.ensures.same ∙ c.in-Some.is) c.sweep_until.ensures.whole (λ cases makes. few_made _ _ _ _ _ _ cases.items makes)
+    ok_by (λ until settings. MakesRuns until (view c.args.document.now) c.args.mark.now c.args.plan.now (g.S.Sink.held c.args.table.now) (g.S.Sink.held c.sweep_until.new.table) settings.items)
+    _ _ c.sweep_until.result (sym c.until.ensures.same ∙ c.in-Some.is) c.sweep_until.ensures.whole (λ settings makes. few_made _ _ _ _ _ _ settings.items makes)
 
 pub returns-in-Some-clause-part : goal.returns-in-Some-clause-part
 returns-in-Some-clause-part g c =
@@ -17,8 +17,8 @@ returns-in-Some-clause-part g c =
 
 pub returns-in-None-clause-whole : goal.returns-in-None-clause-whole
 returns-in-None-clause-whole g c =
-    ok_by (λ until cases. MakesRuns until (view c.args.document.now) c.args.mark.now c.args.plan.now (g.S.Sink.held c.args.table.now) (g.S.Sink.held c.sweep.new.table) cases.items)
-    _ _ c.sweep.result (sym c.until.ensures.same ∙ c.in-None.is) c.sweep.ensures.whole (λ cases makes. all_made _ _ _ _ _ cases.items makes)
+    ok_by (λ until settings. MakesRuns until (view c.args.document.now) c.args.mark.now c.args.plan.now (g.S.Sink.held c.args.table.now) (g.S.Sink.held c.sweep.new.table) settings.items)
+    _ _ c.sweep.result (sym c.until.ensures.same ∙ c.in-None.is) c.sweep.ensures.whole (λ settings makes. all_made _ _ _ _ _ settings.items makes)
 
 pub returns-in-None-clause-part : goal.returns-in-None-clause-part
 returns-in-None-clause-part g c =

@@ -17,19 +17,19 @@ pub returns-clause-done : goal.returns-clause-done
 returns-clause-done g c =
     let known = g.F.Files.known in
     let filled = c.fill_table-made in
-    told_done _ filled.result.1 c.run_told.result c.run_told.ensures (each_ok filled.result.1 filled.ensures.whole (λ lines tells.
+    told_done _ filled.result.1 c.run_result.result c.run_result.ensures (each_ok filled.result.1 filled.ensures.whole (λ lines tells.
     table_stored _ _ _ (known c.args.files.now) (known c.make_after.new.self) (known c.close.new.self) _ _ _ _
-    c.in-Ok.ensures.others c.close.ensures.others c.in-Ok.ensures.beginning c.in-Ok.ensures.made c.close.ensures.closed c.args.words.now.piece _ c.requires.stood tells))
+    c.in-Ok.ensures.others c.close.ensures.others c.in-Ok.ensures.beginning c.in-Ok.ensures.made c.close.ensures.closed c.args.words.now.shard _ c.requires.stood tells))
 
 pub returns-clause-failed : goal.returns-clause-failed
 returns-clause-failed g c =
     let known = g.F.Files.known in
     let filled = c.fill_table-made in
     let counted = one_closed _ _ _ _ c.make_after.ensures.counted c.close.ensures.refused in
-    told_failed _ filled.result.1 c.run_told.result c.run_told.ensures
+    told_failed _ filled.result.1 c.run_result.result c.run_result.ensures
     (each_err_with filled.result.1 filled.ensures.part (is_caused _ _ filled.result.1 _ _ _ counted filled.ensures.failures filled.ensures.causes) (λ cause begins caused. (
       c.in-Ok.ensures.apart,
       table_begun _ _ _ (known c.args.files.now) (known c.make_after.new.self) (known c.close.new.self) _ _ _ _
           c.in-Ok.ensures.others c.close.ensures.others c.in-Ok.ensures.beginning c.in-Ok.ensures.made c.close.ensures.closed
-          _ cause caused c.args.words.now.piece c.requires.stood begins,
+          _ cause caused c.args.words.now.shard c.requires.stood begins,
     )))

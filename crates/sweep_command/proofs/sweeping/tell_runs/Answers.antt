@@ -1,23 +1,23 @@
--- what is told of the cases; where that finds no memory, the whole table is there
+-- what is told of the settings; where that finds no memory, the whole table is there
 use Rattle.std.proofs.Common.{ℕ, List, string_bytes, subst, sym}
 use Rattle.std.specs.Prelude.{All}
 use Rattle.goals.specs.Wants.{HasFewRuns}
-use Rattle.figures.specs.declared.summary.CaseSummary.{CaseSummary}
+use Rattle.figures.specs.declared.summary.SettingSummary.{SettingSummary}
 use Rattle.scenario_files.proofs.Held.{on_err_of}
 use Rattle.sweep_command.proofs.Few.{few_runs_each}
 use Rattle.sweep_command.proofs.Told.{told_as}
 use Rattle.sweep_command.proofs.Tables.{all_begins, marked_makes}
 use Rattle.sweep_command.proofs.sweeping.tell_runs.Goals as goal
 
-pub cases_told-requires-clause-few : goal.cases_told-requires-clause-few
-cases_told-requires-clause-few g c = subst (All HasFewRuns) (sym c.deref-2.ensures.value) (few_runs_each _ _ _ _ _ _ _ c.requires.asked c.in_ok-cases.ensures.whole)
+pub settings_printed-requires-clause-few : goal.settings_printed-requires-clause-few
+settings_printed-requires-clause-few g c = subst (All HasFewRuns) (sym c.deref-2.ensures.value) (few_runs_each _ _ _ _ _ _ _ c.requires.asked c.in_ok-settings.ensures.whole)
 
 pub returns-clause-whole : goal.returns-clause-whole
 returns-clause-whole g c = record {
-  cases = c.in_ok-cases.cases.items;
-  makes = marked_makes _ _ _ _ _ _ _ _ c.as_str-mark.ensures.value c.in_ok-cases.ensures.whole;
-  text = told_as _ _ _ _ _ _ _ _ _ c.tells_revived-revived.ensures c.deref.ensures.value c.deref-2.ensures.value c.in_ok-lines.ensures;
+  settings = c.in_ok-settings.settings.items;
+  makes = marked_makes _ _ _ _ _ _ _ _ c.as_str-mark.ensures.value c.in_ok-settings.ensures.whole;
+  text = told_as _ _ _ _ _ _ _ _ _ c.counts_revived-revived.ensures c.deref.ensures.value c.deref-2.ensures.value c.in_ok-lines.ensures;
 }
 
 pub returns-in_err-lines-clause-part : goal.returns-in_err-lines-clause-part
-returns-in_err-lines-clause-part g c = on_err_of c.from_residual-in_err-lines.result (all_begins _ _ _ _ _ _ _ (marked_makes _ _ _ _ _ _ _ _ c.as_str-mark.ensures.value c.in_ok-cases.ensures.whole))
+returns-in_err-lines-clause-part g c = on_err_of c.from_residual-in_err-lines.result (all_begins _ _ _ _ _ _ _ (marked_makes _ _ _ _ _ _ _ _ c.as_str-mark.ensures.value c.in_ok-settings.ensures.whole))

@@ -7,17 +7,17 @@ use Rattle.sweep_keys.proofs.keys.push_axes.Goals as goal
 
 pub loop-from-preserved : goal.loop-from-preserved
 loop-from-preserved c =
-    let settings = c.args.settings.now in
+    let swept_keys = c.args.swept_keys.now in
     let from = c.loop-from.from in
     let end = c.axis_end-end.result in
-    let axis : List KeyValues = take (end - from) (drop from settings) in
-    let pushed : string_bytes c.push_key.new.text ≡ string_bytes c.loop-from.text ++ key_figure_of c.args.plan.now.settings c.args.cases.now from axis = search rules in
+    let axis : List KeyValues = take (end - from) (drop from swept_keys) in
+    let pushed : string_bytes c.push_key.new.text ≡ string_bytes c.loop-from.text ++ key_figure_of c.args.plan.now.swept_keys c.args.settings.now from axis = search rules in
     record {
-      so_far = figure_more c.args.plan.now.settings c.args.cases.now settings from end (string_bytes c.loop-from.text) (string_bytes c.push_key.new.text) _ c.axis_end-end.ensures.past c.axis_end-end.ensures.within
+      so_far = figure_more c.args.plan.now.swept_keys c.args.settings.now swept_keys from end (string_bytes c.loop-from.text) (string_bytes c.push_key.new.text) _ c.axis_end-end.ensures.past c.axis_end-end.ensures.within
           c.axis_end-end.ensures.axis pushed c.loop-from.invariant.so_far;
       within = c.axis_end-end.ensures.within;
     }
 
 pub returns : goal.returns
 returns c =
-    no_figure_more c.args.plan.now.settings c.args.cases.now c.args.settings.now c.loop-from.from _ _ c.loop-from-test.false c.loop-from.invariant.so_far
+    no_figure_more c.args.plan.now.swept_keys c.args.settings.now c.args.swept_keys.now c.loop-from.from _ _ c.loop-from-test.false c.loop-from.invariant.so_far

@@ -5,4 +5,4 @@ use Rattle.sweep_keys.specs.Keys.{marks_over}
 use Rattle.sweep_keys.proofs.line.push_all_marks.Given as goal
 
 abbrev pub invariant-loop-value : goal.invariant-loop-value
-invariant-loop-value l = string_bytes l.text ≡ string_bytes l.fn.text ++ flat_map (marks_over l.plot.cases.now l.plot.lines l.plot.statistic l.plot.most l.line) (range_with_len 0 l.value)
+invariant-loop-value l = string_bytes l.text ≡ string_bytes l.fn.text ++ flat_map (marks_over l.plot.settings.now l.plot.lines l.plot.statistic l.plot.most l.line) (range_with_len 0 l.value)

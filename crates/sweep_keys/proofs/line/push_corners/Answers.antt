@@ -6,9 +6,9 @@ use Rattle.sweep_keys.specs.Keys.{corner_over}
 use Rattle.sweep_keys.proofs.line.push_corners.Goals as goal
 
 pub loop-value-preserved : goal.loop-value-preserved
-loop-value-preserved c = place_more (corner_over c.args.plot.now.cases.now c.args.plot.now.lines c.args.plot.now.statistic c.args.plot.now.most c.args.line) c.loop-value.value _ _ _ c.loop-value.invariant c.in_ok-push_corner.ensures
+loop-value-preserved c = place_more (corner_over c.args.plot.now.settings.now c.args.plot.now.lines c.args.plot.now.statistic c.args.plot.now.most c.args.line) c.loop-value.value _ _ _ c.loop-value.invariant c.in_ok-push_corner.ensures
 
 pub returns : goal.returns
 returns c =
     c.loop-value.invariant
-    ∙ ap (λ n. string_bytes c.args.text.now ++ flat_map (corner_over c.args.plot.now.cases.now c.args.plot.now.lines c.args.plot.now.statistic c.args.plot.now.most c.args.line) (range_with_len 0 n)) (omega (arith, c.loop-value-test.false, c.loop-value.auto.value-end))
+    ∙ ap (λ n. string_bytes c.args.text.now ++ flat_map (corner_over c.args.plot.now.settings.now c.args.plot.now.lines c.args.plot.now.statistic c.args.plot.now.most c.args.line) (range_with_len 0 n)) (omega (arith, c.loop-value-test.false, c.loop-value.auto.value-end))

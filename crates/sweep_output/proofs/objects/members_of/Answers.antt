@@ -6,11 +6,11 @@ use Rattle.sweep_output.proofs.objects.members_of.Goals as goal
 
 pub returns : goal.returns
 returns c =
-    let case = c.args.case.now in
+    let setting = c.args.setting.now in
     let choices = map choice_member c.args.chosen.now in
-    let figures = figure_members c.args.revived case in
-    let wanted = wanted_members c.args.wants.now c.args.is_best case in
-    let front = member (codes "front") (truth (is_on_front case c.args.all.now)) in
+    let figures = figure_members c.args.revived setting in
+    let wanted = wanted_members c.args.wants.now c.args.is_best setting in
+    let front = member (codes "front") (truth (is_on_front setting c.args.all.now)) in
     c.in_ok-push_wanted.ensures
     ∙ ap (λ l. l ++ wanted) (c.in_ok-push_truth.ensures ∙ ap (λ b. map string_bytes c.push_figures.new.members.items ++ member (codes "front") (truth b) ∷ []) c.is_on_front.ensures
     ∙ ap (λ l. l ++ front ∷ []) (c.in_ok-push_figures.ensures ∙ ap (λ l. l ++ figures) (c.in_ok-push_choices.ensures ∙ ap (λ l. map string_bytes l ++ choices) c.new-members.ensures.items)))

@@ -4,4 +4,4 @@ use Rattle.sweep_page.proofs.front_points.front_points.Goals as goal
 
 pub returns : goal.returns
 unfolding front_points
-returns c = in_one_order c.args.crashed c.args.cases.now c.args.front.now _ _ c.in_ok-points.ensures c.in_ok-sort.ensures.permutation c.in_ok-sort.ensures.sorted
+returns c = in_one_order c.args.crashed c.args.settings.now c.args.front.now _ _ c.in_ok-points.ensures c.in_ok-sort.ensures.permutation c.in_ok-sort.ensures.sorted

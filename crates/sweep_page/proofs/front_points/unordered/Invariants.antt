@@ -4,4 +4,4 @@ use Rattle.sweep_page.specs.Points.{points_at}
 use Rattle.sweep_page.proofs.front_points.unordered.Given as goal
 
 abbrev pub invariant-loop-place : goal.invariant-loop-place
-invariant-loop-place l = l.points.items ≡ flat_map (points_at l.crashed l.cases l.front) (range_with_len 0 l.place)
+invariant-loop-place l = l.points.items ≡ flat_map (points_at l.crashed l.settings l.front) (range_with_len 0 l.place)

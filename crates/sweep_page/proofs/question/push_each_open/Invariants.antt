@@ -5,4 +5,4 @@ use Rattle.sweep_page.specs.Question.{open_item_at}
 use Rattle.sweep_page.proofs.question.push_each_open.Given as goal
 
 abbrev pub invariant-loop-place : goal.invariant-loop-place
-invariant-loop-place l = string_bytes l.text ≡ string_bytes l.fn.text ++ flat_map (open_item_at l.plan.settings l.wants l.cases) (range_with_len 0 l.place)
+invariant-loop-place l = string_bytes l.text ≡ string_bytes l.fn.text ++ flat_map (open_item_at l.plan.swept_keys l.wants l.settings) (range_with_len 0 l.place)

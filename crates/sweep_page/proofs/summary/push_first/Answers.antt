@@ -6,9 +6,9 @@ use Rattle.sweep_page.specs.Summary.{told_at}
 use Rattle.sweep_page.proofs.summary.push_first.Goals as goal
 
 pub loop-place-preserved : goal.loop-place-preserved
-loop-place-preserved c = place_more (told_at c.args.crashed c.args.plan.now.settings c.args.cases.now c.args.points.now) c.loop-place.place _ _ _ c.loop-place.invariant c.in_ok-push_told_at.ensures
+loop-place-preserved c = place_more (told_at c.args.crashed c.args.plan.now.swept_keys c.args.settings.now c.args.points.now) c.loop-place.place _ _ _ c.loop-place.invariant c.in_ok-push_told_at.ensures
 
 pub returns : goal.returns
 returns c =
     c.loop-place.invariant
-    ∙ ap (λ n. string_bytes c.args.text.now ++ flat_map (told_at c.args.crashed c.args.plan.now.settings c.args.cases.now c.args.points.now) (range_with_len 0 n)) (omega (arith, c.loop-place-test.false, c.loop-place.auto.place-end, c.min-place-end.ensures))
+    ∙ ap (λ n. string_bytes c.args.text.now ++ flat_map (told_at c.args.crashed c.args.plan.now.swept_keys c.args.settings.now c.args.points.now) (range_with_len 0 n)) (omega (arith, c.loop-place-test.false, c.loop-place.auto.place-end, c.min-place-end.ensures))

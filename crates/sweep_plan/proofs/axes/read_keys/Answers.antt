@@ -5,7 +5,7 @@ use Rattle.std.proofs.lemmas.Iterator.Consumers.{YieldsList-turn, YieldsList-end
 use Rattle.std.proofs.lemmas.Iterator.Splits.{YieldsList-from_str_split}
 use Rattle.sweep_plan.specs.Asked.{parts_of}
 use Rattle.sweep_plan.specs.Keys.{key_name, MaySet}
-use Rattle.sweep_plan.specs.declared.keys.SettingKey.{SettingKey}
+use Rattle.sweep_plan.specs.declared.keys.SweptKey.{SweptKey}
 use Rattle.sweep_plan.proofs.Columns.{no_names}
 use Rattle.sweep_plan.proofs.axes.read_keys.Goals as goal
 
@@ -26,7 +26,7 @@ loop-name-preserved c =
     record {
       written = ap (map key_name) pushed ∙ map_push key_name keys key ∙ (λ i. c.loop-name.invariant.written i ++ told.named i ∷ [])
           ∙ sym (map_push (λ (name : Bor (List ℕ)). name.now) c.loop-name.yielded name);
-      known = subst (λ ks. (k : ℕ) → (d : SettingKey) → k < length ks → MaySet (get_or ks k d)) (sym pushed) (All-push MaySet keys key c.loop-name.invariant.known told.known);
+      known = subst (λ ks. (k : ℕ) → (d : SweptKey) → k < length ks → MaySet (get_or ks k d)) (sym pushed) (All-push MaySet keys key c.loop-name.invariant.known told.known);
     }
 
 pub returns-clause-read : goal.returns-clause-read

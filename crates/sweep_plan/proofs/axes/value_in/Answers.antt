@@ -4,7 +4,7 @@ use Rattle.std.proofs.lemmas.Iterator.Consumers.{count_from_yields_List}
 use Rattle.std.proofs.lemmas.Iterator.Splits.{YieldsList-from_str_split}
 use Rattle.sweep_plan.specs.Asked.{parts_of}
 use Rattle.sweep_plan.specs.Values.{IsValue}
-use Rattle.sweep_plan.specs.declared.values.SettingValue.{SettingValue}
+use Rattle.sweep_plan.specs.declared.values.SweptValue.{SweptValue}
 use Rattle.sweep_plan.proofs.axes.value_in.Goals as goal
 
 pub returns-then-parts-of-clause-none : goal.returns-then-parts-of-clause-none
@@ -13,7 +13,7 @@ returns-then-parts-of-clause-none c same even value is =
     (YieldsList-from_str_split {s = c.split.result} 43 c.args.item.now (lit< tt) c.split.ensures.text c.split.ensures.has_more c.split.ensures.pattern) in
     absurd (c.if-parts-of.true (count ∙ even))
 
-both : (r : Option SettingValue) (n m : ℕ) (word : List ℕ) → n ≡ m → IfSome r (IsValue word) → IfSome r (λ value. (n ≡ m) × IsValue word value)
+both : (r : Option SweptValue) (n m : ℕ) (word : List ℕ) → n ≡ m → IfSome r (IsValue word) → IfSome r (λ value. (n ≡ m) × IsValue word value)
 both None n m word same told = told
 both (Some value) n m word same told = (same, told)
 

@@ -3,5 +3,5 @@ use Rattle.toml.specs.View.{view}
 use Rattle.sweep_plan.specs.Missing.{missing_of}
 use Rattle.sweep_plan.proofs.missing.missing_item.Given as goal
 
-abbrev pub invariant-loop-setting : goal.invariant-loop-setting
-invariant-loop-setting l = missing_of (view l.document) l.settings ≡ missing_of (view l.document) (drop l.setting-index l.settings)
+abbrev pub invariant-loop-swept : goal.invariant-loop-swept
+invariant-loop-swept l = missing_of (view l.document) l.swept_keys ≡ missing_of (view l.document) (drop l.swept-index l.swept_keys)

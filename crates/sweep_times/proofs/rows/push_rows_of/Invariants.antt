@@ -4,4 +4,4 @@ use Rattle.sweep_times.specs.Times.{rows_at}
 use Rattle.sweep_times.proofs.rows.push_rows_of.Given as goal
 
 abbrev pub invariant-loop-place : goal.invariant-loop-place
-invariant-loop-place l = string_bytes l.text ≡ string_bytes l.fn.text ++ flat_map (rows_at l.cases) (take l.place-index l.places)
+invariant-loop-place l = string_bytes l.text ≡ string_bytes l.fn.text ++ flat_map (rows_at l.settings) (take l.place-index l.places)

@@ -1,0 +1,171 @@
+//! The figures of a setting: of runs that belong together.
+ghost use Rattle.std.specs.Prelude.{◌≡◌, ◌+◌, ◌<◌, ◌≤◌, ◌*◌, ◌/◌, ◌^◌, ◌==◌, ◌++◌, ◌∷◌, [], List, IfOk, if◌then◌else◌, length};
+ghost use Rattle.figures.specs.Notes.{Note};
+
+use crate::histogram::histogram_of;
+use crate::notes::RunMetadata;
+use crate::ranks::percentile;
+use crate::shares::{share_high, share_low};
+use crate::summary::SettingSummary;
+use crate::times::{push_confirmed, push_last, push_suspected};
+use base::Memory;
+use std::alloc::Global;
+
+/// The figures of a setting: of runs that belong together, such as those of one scenario with many
+/// seeds. There is room for 1,000,000 runs.
+#[derive(Drop)]
+pub struct SettingFigures {
+    /// How many runs there are.
+    runs: u64,
+    /// How many members crashed in them.
+    crashes: u128,
+    /// The time until a crash was first suspected, for each that was, in ticks since the crash.
+    suspected: Vec<u64>,
+    /// The time until it was first confirmed, likewise.
+    confirmed: Vec<u64>,
+    /// The time until it was last confirmed, likewise.
+    last: Vec<u64>,
+    /// How many suspicions were false positives.
+    false_suspect: u128,
+    /// How many members were thrown out.
+    thrown_out: u128,
+    /// How often members were taken for alive again.
+    revived: u128,
+    /// In how many runs members were thrown out.
+    runs_with: u64,
+    /// How many messages were sent.
+    sent: u128,
+    /// How long the members of each run last together, in ticks.
+    member_ticks: u128,
+    ghost crashes_fit: { crashes ≤ runs * 2 ^ 64 },
+    ghost false_suspect_fit: { false_suspect ≤ runs * 2 ^ 64 },
+    ghost thrown_out_fit: { thrown_out ≤ runs * 2 ^ 64 },
+    ghost revived_fit: { revived ≤ runs * 2 ^ 64 },
+    ghost sent_fit: { sent ≤ runs * 2 ^ 64 },
+    ghost member_ticks_fit: { member_ticks ≤ runs * 2 ^ 64 },
+    ghost runs_with_fit: { runs_with ≤ runs },
+    ghost few: { runs ≤ 1000000 },
+}
+
+impl SettingFigures {
+    ghost use Rattle.figures.specs.Settings.{IsSummaryOf};
+    ghost use Rattle.figures.specs.Kept.{runs_kept, AreFiguresOf};
+
+    /// The figures of no runs. It takes no memory.
+    pub fn new(alloc: Global) -> SettingFigures
+        ensures { AreFiguresOf result [] }
+    {
+        SettingFigures {
+            runs: 0,
+            crashes: 0,
+            suspected: Vec::new(alloc),
+            confirmed: Vec::new(alloc),
+            last: Vec::new(alloc),
+            false_suspect: 0,
+            thrown_out: 0,
+            revived: 0,
+            runs_with: 0,
+            sent: 0,
+            member_ticks: 0,
+        }
+    }
+
+    /// How many runs there are.
+    pub fn runs(&self) -> u64
+        ensures { result ≡ runs_kept self.now }
+    {
+        self.runs
+    }
+
+    /// The figures with one run more, of which this is kept. Where memory is refused nothing is left of them.
+    pub fn with(self, note: &RunMetadata) -> Result<SettingFigures, Memory>
+        requires { runs_kept self < 1000000 }
+        ensures { IfOk result (λ setting. (runs : List Note) → AreFiguresOf self runs → AreFiguresOf setting (runs ++ note.now ∷ [])) }
+    {
+        let mut setting = self;
+        let crashes = note.crashes();
+        push_suspected(&mut setting.suspected, crashes)?;
+        push_confirmed(&mut setting.confirmed, crashes)?;
+        push_last(&mut setting.last, crashes)?;
+        setting.count(note);
+        Ok(setting)
+    }
+
+    /// What is told of the runs. It brings the times into order, which takes memory for a while, and
+    /// fails where that is refused.
+    pub fn summary(self) -> Result<SettingSummary, Memory>
+        requires { 0 < runs_kept self }
+        ensures { IfOk result (λ summary. (runs : List Note) → AreFiguresOf self runs → IsSummaryOf summary runs) }
+    {
+        let mut setting = self;
+        let confirm_times = histogram_of(setting.confirmed.as_slice());
+        setting.suspected.sort()?;
+        setting.confirmed.sort()?;
+        setting.last.sort()?;
+        let suspected = setting.suspected.as_slice();
+        let confirmed = setting.confirmed.as_slice();
+        let last = setting.last.as_slice();
+        Ok(SettingSummary {
+            runs: setting.runs,
+            crashes: setting.crashes,
+            suspect_p5: percentile(suspected, setting.crashes, 5),
+            suspect_p50: percentile(suspected, setting.crashes, 50),
+            suspect_p95: percentile(suspected, setting.crashes, 95),
+            confirm_p5: percentile(confirmed, setting.crashes, 5),
+            confirm_p50: percentile(confirmed, setting.crashes, 50),
+            confirm_p95: percentile(confirmed, setting.crashes, 95),
+            confirm_p99: percentile(confirmed, setting.crashes, 99),
+            confirm_greatest: percentile(confirmed, setting.crashes, 100),
+            confirm_times,
+            last_p5: percentile(last, setting.crashes, 5),
+            last_p50: percentile(last, setting.crashes, 50),
+            last_p95: percentile(last, setting.crashes, 95),
+            last_greatest: percentile(last, setting.crashes, 100),
+            false_suspect: setting.false_suspect * 100 / u128::from(setting.runs),
+            thrown_out: setting.thrown_out,
+            revived: setting.revived,
+            runs_with: setting.runs_with,
+            share_low: share_low(setting.runs_with, setting.runs),
+            share_high: share_high(setting.runs_with, setting.runs),
+            messages: message_rate(setting.sent, setting.member_ticks),
+        })
+    }
+
+    /// Counts a run.
+    fn count(&mut self, note: &RunMetadata)
+        requires { self.old.runs < 1000000 }
+        ensures suspected { self.new.suspected.items ≡ self.old.suspected.items }
+        ensures confirmed { self.new.confirmed.items ≡ self.old.confirmed.items }
+        ensures last { self.new.last.items ≡ self.old.last.items }
+        ensures runs { self.new.runs ≡ self.old.runs + 1 }
+        ensures crashes { self.new.crashes ≡ self.old.crashes + length note.now.crashes }
+        ensures false_suspect { self.new.false_suspect ≡ self.old.false_suspect + note.now.false_suspect }
+        ensures thrown_out { self.new.thrown_out ≡ self.old.thrown_out + note.now.thrown_out }
+        ensures revived { self.new.revived ≡ self.old.revived + note.now.revived }
+        ensures runs_with { self.new.runs_with ≡ self.old.runs_with + (if note.now.thrown_out == 0 then 0 else 1) }
+        ensures sent { self.new.sent ≡ self.old.sent + note.now.sent }
+        ensures member_ticks { self.new.member_ticks ≡ self.old.member_ticks + note.now.member_ticks }
+    {
+        self.runs += 1;
+        self.crashes += note.crashes().len() as u128;
+        self.false_suspect += u128::from(note.false_suspect());
+        self.thrown_out += u128::from(note.thrown_out());
+        self.revived += u128::from(note.revived());
+        if note.thrown_out() != 0 {
+            self.runs_with += 1;
+        }
+        self.sent += u128::from(note.sent());
+        self.member_ticks += u128::from(note.member_ticks());
+    }
+}
+
+/// Messages a member and 1,000 ticks, in hundredths, where the runs last at all.
+fn message_rate(sent: u128, member_ticks: u128) -> Option<u128>
+    requires { sent ≤ 1000000 * 2 ^ 64 }
+    ensures { result ≡ (if member_ticks == 0 then None else Some (sent * 100000 / member_ticks)) }
+{
+    if member_ticks == 0 {
+        return None;
+    }
+    Some(sent * 100_000 / member_ticks)
+}

@@ -1,8 +1,0 @@
-use Rattle.resume.proofs.CutCases.{going_on, taken_for_one}
-use Rattle.resume.proofs.laws.a_cut_piece_of_cases_goes_on.Goals as goal
-
-pub returns-clause-goes_on : goal.returns-clause-goes_on
-returns-clause-goes_on c tree mark sweep width p made text kept cases new cut is writes = going_on tree mark sweep width p made text cut kept cases is new writes
-
-pub returns-clause-taken : goal.returns-clause-taken
-returns-clause-taken c tree mark sweep width p made text cut = taken_for_one tree mark sweep width p made text cut

@@ -1,6 +1,0 @@
-use Rattle.shard_merge.proofs.GenuineWhole.{whole_of}
-use Rattle.shard_merge.proofs.laws.all_pieces_are_the_whole.Goals as goal
-
-pub returns : goal.returns
-returns c texts old new read revived cases mark tree sweep of made joins marked asked none long told genuine =
-    whole_of texts old new read revived cases mark tree sweep joins marked asked of made none long told genuine

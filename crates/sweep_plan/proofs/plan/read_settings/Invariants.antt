@@ -1,6 +1,0 @@
-use Rattle.std.proofs.Common.{take, map, List, ℕ, Bor}
-use Rattle.sweep_plan.specs.Asked.{AreSettings}
-use Rattle.sweep_plan.proofs.plan.read_settings.Given as goal
-
-abbrev pub invariant-loop-word : goal.invariant-loop-word
-invariant-loop-word l = AreSettings (map (λ (word : Bor (List ℕ)). word.now) (take l.word-index l.words)) l.settings.items

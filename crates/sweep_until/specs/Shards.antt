@@ -1,0 +1,72 @@
+-- The table of a shard of a sweep whose settings have as many runs as their intervals need: a shard is one of whole settings.
+use Rattle.std.specs.Prelude.{◌≡◌, ℕ, ◌+◌, ◌-◌, List, Option, Some, drop}
+use Rattle.std.specs.Io.KnownBytes.{Appends}
+use Rattle.toml.specs.Data.{Data}
+use Rattle.trace.specs.Sinks.{AppendsBeginning}
+use Rattle.sweep_plan.specs.Sweep.{Sweep, setting_count}
+use Rattle.shards.specs.declared.shard.Shard.{Shard}
+use Rattle.shards.specs.Shards.{first_run, past_run}
+use Rattle.sweep.specs.Runs.{Made}
+use Rattle.sweep.specs.Sums.{sweep_key}
+use Rattle.sweep.specs.Table.{counts_revived}
+use Rattle.sweep.specs.Shards.{shard_header, shard_table}
+use Rattle.sweep.specs.Resumed.{rest_text}
+use Rattle.sweep_until.specs.Until.{AreMadeFrom, Stretch, all_of}
+
+-- the number of its first setting, and how many it has: settings are shared out as runs are
+abbrev pub first_setting : Sweep → Shard → ℕ
+first_setting sweep p = first_run p (setting_count sweep.swept_keys)
+
+abbrev pub settings_in : Sweep → Shard → ℕ
+settings_in sweep p = past_run p (setting_count sweep.swept_keys) - first_run p (setting_count sweep.swept_keys)
+
+-- these are the runs of the settings of the shard
+abbrev pub AreSettingsIn : Data → Sweep → ℕ → Shard → List (List Made) → Type 0
+AreSettingsIn tree sweep width p made = AreMadeFrom tree sweep width (first_setting sweep p) (settings_in sweep p) made
+
+-- the shard was appended
+pub record WritesShardUntil (tree : Data) (mark : List ℕ) (sweep : Sweep) (p : Shard) (old new : Option (List ℕ)) : Type 0 where
+  pub width : ℕ
+  pub wanted : sweep.until ≡ Some width
+  pub made : List (List Made)
+  pub are : AreSettingsIn tree sweep width p made
+  pub written : Appends old new (shard_table (counts_revived tree) mark sweep p (all_of made))
+
+-- a beginning of it was
+pub record BeginsShardUntil (tree : Data) (mark : List ℕ) (sweep : Sweep) (p : Shard) (old new : Option (List ℕ)) : Type 0 where
+  pub width : ℕ
+  pub wanted : sweep.until ≡ Some width
+  pub made : List (List Made)
+  pub are : AreSettingsIn tree sweep width p made
+  pub written : AppendsBeginning old new (shard_table (counts_revived tree) mark sweep p (all_of made))
+
+-- ---- a shard that goes on
+
+-- The settings of the shard but for so many, the first: they come behind so many bytes that were written before, and what these lack of its first line.
+abbrev pub rest_settings : Data → List ℕ → Sweep → Shard → ℕ → ℕ → Stretch
+rest_settings tree mark sweep p kept settings = record {
+  key = sweep_key mark sweep;
+  front = drop kept (shard_header (counts_revived tree) mark sweep p);
+  first = first_setting sweep p + settings;
+  settings = settings_in sweep p - settings;
+}
+
+-- these are their runs
+abbrev pub AreSettingsBehind : Data → Sweep → ℕ → Shard → ℕ → List (List Made) → Type 0
+AreSettingsBehind tree sweep width p settings made = AreMadeFrom tree sweep width (first_setting sweep p + settings) (settings_in sweep p - settings) made
+
+-- what the bytes lack of the first line, and the lines of the settings that were left, were appended
+pub record WritesRestUntil (tree : Data) (mark : List ℕ) (sweep : Sweep) (p : Shard) (kept settings : ℕ) (old new : Option (List ℕ)) : Type 0 where
+  pub width : ℕ
+  pub wanted : sweep.until ≡ Some width
+  pub made : List (List Made)
+  pub are : AreSettingsBehind tree sweep width p settings made
+  pub written : Appends old new (rest_text (counts_revived tree) mark sweep p kept (all_of made))
+
+-- a beginning of that was
+pub record BeginsRestUntil (tree : Data) (mark : List ℕ) (sweep : Sweep) (p : Shard) (kept settings : ℕ) (old new : Option (List ℕ)) : Type 0 where
+  pub width : ℕ
+  pub wanted : sweep.until ≡ Some width
+  pub made : List (List Made)
+  pub are : AreSettingsBehind tree sweep width p settings made
+  pub written : AppendsBeginning old new (rest_text (counts_revived tree) mark sweep p kept (all_of made))
