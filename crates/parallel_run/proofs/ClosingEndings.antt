@@ -1,5 +1,5 @@
 -- What is left of a run where closing its board comes to a fault.
-use Rattle.std.proofs.Common.{◌≡◌, ℕ, List, Option, Result, Ok, Err, IsOk}
+use Rattle.std.proofs.Common.{◌≡◌, ℕ, List, Option, Result, Ok, Err, IsOk, IfOk, OnOk, sym, subst}
 use Rattle.base.specs.declared.fault.Fault.{Fault}
 use Rattle.base.specs.declared.fault.Fault.TheVariants.{CounterOverflow, Write, ThreadLost}
 use Rattle.scenario.specs.Setup.{Setup}
@@ -29,3 +29,12 @@ module _ (s : Setup) (held_old held_new : Option (List ℕ)) (failed_old failed_
     unfailed = tt;
     relay = λ is. let same : fault ≡ ThreadLost = cc in at_ok (failed_new ≡ failed_old) result (done same) kept.unfailed;
   }
+
+-- what holds where all went well still does where it ended so
+pub on_same : {T : Type 0} (r so_far : Result T Fault) (P : Type 0) → OnOk r (r ≡ so_far) → OnOk so_far P → OnOk r P
+on_same (Ok x) so_far P same holds = subst (λ o. OnOk o P) (sym same) holds
+on_same (Err f) so_far P same holds = tt
+
+pub if_same : {T : Type 0} (r so_far : Result T Fault) (P : T → Type 0) → OnOk r (r ≡ so_far) → IfOk so_far P → IfOk r P
+if_same (Ok x) so_far P same holds = subst (λ o. IfOk o P) (sym same) holds
+if_same (Err f) so_far P same holds = tt

@@ -1,8 +1,13 @@
 -- What holds of each item of a list at its place.
-use Rattle.std.proofs.Common.{◌≡◌, ◌≢◌, ℕ, zero, suc, List, [], ◌∷◌, ◌++◌, map, slice_set, Some, refl, sym, subst, arith}
+use Rattle.std.proofs.Common.{◌≡◌, ◌≢◌, ◌≤◌, ℕ, zero, suc, List, [], ◌∷◌, ◌++◌, length, map, take, drop, slice_set, Some, refl, sym, subst, arith}
 use Rattle.std.specs.List.{AllByRecursion, slice_get}
 use Rattle.std.proofs.lemmas.Option.{none-some, same_Some}
+use Rattle.std.proofs.lemmas.List.{length-append, length-drop, length-take}
 use Rattle.base.proofs.Rising.{all_append, all_front, all_back}
+
+-- a list of which the first items are written anew is as long as before
+pub as_many : {X : Type 0} (n : ℕ) (new old : List X) → n ≡ length old → length new ≤ length old → length (take n (new ++ drop (length new) old)) ≡ length old
+as_many n new old all few = omega (arith, all, few, length-take n (new ++ drop (length new) old), length-append new (drop (length new) old), length-drop (length new) old)
 
 -- in a list in which one place is written
 pub written_each : {X : Type 0} (P : ℕ → X → Type 0) (xs : List X) (i : ℕ) (y : X) → P i y → ((j : ℕ) (x : X) → j ≢ i → slice_get xs j ≡ Some x → P j x)

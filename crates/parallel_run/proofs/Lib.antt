@@ -14,6 +14,8 @@ mod WorkerEndings
 mod WorkerRounds
 mod EndingsOfRuns
 mod SentWorkers
+mod SharesOfAll
 mod WritingTurns
 mod ClosingEndings
 mod GateBounds
+mod Relaying

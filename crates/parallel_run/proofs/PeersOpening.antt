@@ -16,6 +16,7 @@ use Rattle.lookahead_windows.specs.Messages.{BeginsRound}
 use Rattle.lookahead_windows.proofs.Worlds.{opening_before}
 use Rattle.lookahead_windows.proofs.WindowResult.{begins_opening}
 use Rattle.lookahead_windows.specs.Basis.{Basis, plan_of}
+use Rattle.parallel_run.specs.declared.of_run.OfRun.{Ghosts}
 use Rattle.parallel_run.specs.declared.connections.Connections.{Connections}
 use Rattle.parallel_run.specs.Peers.{AreLines, AreOthers, numbers_of}
 use Rattle.parallel_run.specs.Windows.{Begins}
@@ -25,9 +26,13 @@ item_behind : {X : Type 0} (before : List X) (x : X) (rest : List X) → slice_g
 item_behind [] x rest = refl
 item_behind (y ∷ before) x rest = item_behind before x rest
 
-module _ {K Q : Type 0} (set : Q → FinMap key_cmp Event) (basis : Basis) where
+-- two lists are as long as each other, the one without its last item and the other without its first too
+pub one_less : {X Y : Type 0} (all left : List X) (x : X) (others rest : List Y) (y : Y) → all ≡ left ++ x ∷ [] → others ≡ y ∷ rest → length all ≡ length others → length left ≡ length rest
+one_less all left x others rest y popped stepped same = omega (arith, ap length popped, length-append left (x ∷ []), ap length stepped, same)
+
+module _ {K Q : Type 0} {G : Ghosts K} (set : Q → FinMap key_cmp Event) (basis : Basis) where
   -- the next part, and its lines
-  pub begins_first : (parts before rest : List (Part Q)) (part : Part Q) (first : Option ℕ) (lines : Connections K) → StandFor set basis.deal parts (opening basis.setup) → IsFirstMoment (opening basis.setup) first
+  pub begins_first : (parts before rest : List (Part Q)) (part : Part Q) (first : Option ℕ) (lines : Connections K G) → StandFor set basis.deal parts (opening basis.setup) → IsFirstMoment (opening basis.setup) first
       → before ++ part ∷ rest ≡ parts → lines.number ≡ length before → AreOthers (length parts) (length before) (numbers_of lines.peers.items)
       → Begins set basis lines.number 0 first part × AreLines basis lines
   begins_first parts before rest part first lines stand pends all number are =

@@ -1,5 +1,5 @@
 -- What a worker takes with it into its thread, or from the board, may go there.
-use denote.Param.Send.{IsSend, IsSync, AllSend, sendable}
+use denote.Param.Send.{IsSend, IsSync, AllSend, struct_send, sendable}
 use denote.Struct.Declared.{shape}
 use denote.RattleType.{RattleType}
 use denote.Ref.{NamedLft}
@@ -17,12 +17,15 @@ use Rattle.board.specs.declared.rule.ItemRule as item_rule
 use Rattle.board.specs.declared.site.Site as site
 use Rattle.lookahead_windows.proofs.Sent.{declared_send, scenario_sync, links_sync, part_send, event_send, row_send, division_sync}
 use Rattle.lookahead_windows.specs.contracts.course.Rounds as rounds
+use Rattle.relay.proofs.Sent.{send_seat_send, relay_sync}
 use Rattle.parallel_run.specs.declared.of_run.OfRun as of_run
-use Rattle.parallel_run.specs.contracts.event_count.EventCount as bell
+use Rattle.parallel_run.specs.contracts.batch_sender.BatchSender as batch_sender
+use Rattle.parallel_run.specs.contracts.event_count.EventCount as event_count
 use Rattle.parallel_run.specs.contracts.window_message.WindowMessage as word
 use Rattle.parallel_run.specs.contracts.window_message.PeerMessage as told
 use Rattle.parallel_run.specs.contracts.row_batch.RowBatch as lot
 use Rattle.parallel_run.specs.contracts.row_batch.Delivery as delivery
+use Rattle.parallel_run.specs.contracts.row_relay.RunBasis as run_basis
 use Rattle.parallel_run.specs.contracts.ring.Sender as sender
 use Rattle.parallel_run.specs.contracts.ring.Taker as taker
 use Rattle.parallel_run.specs.contracts.peers.Peer as peer
@@ -32,8 +35,8 @@ use Rattle.parallel_run.specs.contracts.process.Process as process
 use Rattle.parallel_run.specs.contracts.board_item.BoardItem as board_item
 use Rattle.parallel_run.specs.contracts.crew.Crew as crew
 
-pub bell_sync : IsSync bell.the_row
-bell_sync = search (crosses, sendable) depth 60 fits 20000
+pub event_count_sync : IsSync event_count.the_row
+event_count_sync = search (crosses, sendable) depth 60 fits 20000
 
 pub rounds_sync : (α : NamedLft) → IsSync (rounds.the_row α)
 rounds_sync α = search (scenario_sync, links_sync, division_sync, crosses, sendable) depth 60 fits 20000
@@ -54,18 +57,23 @@ gathered_send : IsSend (gathered.the_field).row
 gathered_send = search (row_send, crosses, sendable) depth 60 fits 20000
 
 sender_send : (β : NamedLft) (T P : RattleType) (p : protocol.Ghosts P.Denot T.Denot) → IsSend T → IsSend (sender.the_field β T P p).row
-sender_send β T P p s = search (end_send, heap.the_send, bell_sync, crosses, sendable) depth 60 fits 20000
+sender_send β T P p s = search (end_send, heap.the_send, event_count_sync, crosses, sendable) depth 60 fits 20000
 
 taker_send : (β : NamedLft) (T P : RattleType) (p : protocol.Ghosts P.Denot T.Denot) → IsSend T → IsSend (taker.the_field β T P p).row
-taker_send β T P p s = search (end_send, heap.the_send, bell_sync, crosses, sendable) depth 60 fits 20000
+taker_send β T P p s = search (end_send, heap.the_send, event_count_sync, crosses, sendable) depth 60 fits 20000
 
 peer_send : (β : NamedLft) (K : RattleType) (k : of_run.Ghosts K.Denot) → IsSend (peer.the_row β K k)
 peer_send β K k =
     let all : AllSend (shape (peer.the_type β K k)).fields = (search sendable, (sender_send β told.the_row _ _ told_send, (taker_send β told.the_row _ _ told_send, (search (event_send, crosses, sendable) depth 60 fits 20000, tt)))) in
     declared_send (peer.the_type β K k) all
 
+batch_sender_send : (β : NamedLft) (K : RattleType) (k : of_run.Ghosts K.Denot) → IsSend (batch_sender.the_field β K k).row
+batch_sender_send β K k =
+    let all : AllSend (shape (batch_sender.the_type β K k)).fields = (search (relay_sync, delivery_send, sendable), (send_seat_send delivery.the_row delivery.the_row run_basis.the_row delivery_send, (search sendable, (search sendable, (search sendable, tt))))) in
+    struct_send (shape (batch_sender.the_type β K k)) all
+
 lines_send : (β : NamedLft) (K : RattleType) (k : of_run.Ghosts K.Denot) → IsSend (lines.the_field β K k).row
-lines_send β K k = search (peer_send, sender_send, delivery_send, crosses, sendable) depth 60 fits 20000
+lines_send β K k = search (peer_send, batch_sender_send, crosses, sendable) depth 60 fits 20000
 
 process_send : (β : NamedLft) (K Q : RattleType) (k : of_run.Ghosts K.Denot) → IsSend Q → IsSend (process.the_field β K Q k).row
 process_send β K Q k s = search (part_send, gathered_send, lines_send, crosses, sendable) depth 60 fits 20000
@@ -89,4 +97,4 @@ post_send β T V S P p g s =
     declared_send (post.the_type β T V S P p g) all
 
 pub crew_sync : IsSync crew.the_row
-crew_sync = search (bell_sync, crosses, sendable) depth 60 fits 20000
+crew_sync = search (event_count_sync, crosses, sendable) depth 60 fits 20000

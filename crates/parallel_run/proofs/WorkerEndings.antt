@@ -1,5 +1,5 @@
 -- By what a process may end, and what it may deliver.
-use Rattle.std.proofs.Common.{◌≡◌, ◌≢◌, ◌⊎◌, ℕ, ◌+◌, ◌<◌, ◌≤◌, max, Bool, true, List, ◌++◌, Option, Some, None, Result, Ok, Err, IfErr, OnOk, inl, inr, ◌∙◌, sym, subst, refl, arith}
+use Rattle.std.proofs.Common.{◌≡◌, ◌≢◌, ◌⊎◌, ℕ, ◌+◌, ◌<◌, ◌≤◌, max, Bool, true, ◌++◌, Option, Some, Result, Ok, Err, IfErr, OnOk, inl, inr, ◌∙◌, sym, subst, arith}
 use Rattle.std.specs.Bool.{OnTrue}
 use Rattle.std.specs.List.{AllByRecursion}
 use Rattle.std.specs.Result.{IsErrAnd}
@@ -14,9 +14,8 @@ use Rattle.lookahead_windows.specs.Lots.{IsLot, HasLasted}
 use Rattle.lookahead_windows.proofs.Lots.{lot_cut, lot_rises}
 use Rattle.lookahead_windows.specs.Basis.{Basis, IsBasis, division_of, plan_of}
 use Rattle.parallel_run.specs.declared.row_batch.RowBatch.{RowBatch}
-use Rattle.parallel_run.specs.declared.row_batch.Delivery.{Delivery}
 use Rattle.parallel_run.specs.declared.rows.Gathered.{Gathered}
-use Rattle.parallel_run.specs.Messages.{MayEndBy, IsLotOfRun, IsDelivered, AllowsDelivery}
+use Rattle.parallel_run.specs.Messages.{MayEndBy, IsLotOfRun}
 use Rattle.parallel_run.specs.Windows.{GathersUpTo}
 
 -- ---- of whatever run a ring is
@@ -24,11 +23,6 @@ use Rattle.parallel_run.specs.Windows.{GathersUpTo}
 -- what holds of the run that there is
 pub of_the_run : (P : Basis → Type 0) (run : Option Basis) (one : Basis) → run ≡ Some one → P one → (basis : Basis) → run ≡ Some basis → P basis
 of_the_run P run one is holds basis same = subst P (same_Some one basis (sym is ∙ same)) holds
-
--- a delivery of the run that there is may be sent
-pub may_deliver : (run : Option Basis) (before : List Delivery) (delivery : Delivery) → ((basis : Basis) → run ≡ Some basis → IsDelivered basis delivery) → AllowsDelivery run before delivery
-may_deliver None before delivery is = tt
-may_deliver (Some basis) before delivery is = is basis refl
 
 -- ---- faults
 

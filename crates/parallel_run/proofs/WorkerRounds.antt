@@ -27,6 +27,7 @@ use Rattle.lookahead_windows.specs.Bounds.{IsOwnBound}
 use Rattle.lookahead_windows.specs.Windows.{HasRan}
 use Rattle.lookahead_windows.proofs.OwnBounds.{own_bound}
 use Rattle.turns.proofs.After.{of_events}
+use Rattle.parallel_run.specs.declared.of_run.OfRun.{Ghosts}
 use Rattle.parallel_run.specs.declared.rows.Gathered.{Gathered}
 use Rattle.parallel_run.specs.declared.peers.Peer.{Peer}
 use Rattle.parallel_run.specs.declared.connections.Connections.{Connections}
@@ -126,7 +127,7 @@ module _ {Q : Type 0} (set : Q → FinMap key_cmp Event) (basis : Basis) (is : I
 
 -- ---- rings that stay as they are
 
-pub same_lines : {K : Type 0} (basis : Basis) (before after : Connections K) → after.number ≡ before.number → after.peers ≡ before.peers → AreLines basis before → AreLines basis after
+pub same_lines : {K : Type 0} {G : Ghosts K} (basis : Basis) (before after : Connections K G) → after.number ≡ before.number → after.peers ≡ before.peers → AreLines basis before → AreLines basis after
 same_lines {K} basis before after number peers are = record {
   own = subst (λ n. n < basis.deal.parts) (sym number) are.own;
   peers =

@@ -1,8 +1,11 @@
 pub mod Messages
+pub mod Relaying
+pub mod Relays
 pub mod Peers
 pub mod Windows
 pub mod Writing
 pub mod Starting
 pub mod Processes
+pub mod Shares
 pub mod Holding
 pub mod Closing

@@ -1,4 +1,4 @@
--- What may go over the rings of a run. All that is said of it is a function of what the run goes by.
+-- What may go over the rings and relays of a run. All that is said of it is a function of what the run goes by.
 use Rattle.std.specs.Prelude.{◌≡◌, ◌≢◌, ◌+◌, true, List, map, Option, Some, None}
 use Rattle.base.specs.declared.fault.Fault.{Fault}
 use Rattle.base.specs.declared.fault.Fault.TheVariants as fault
@@ -40,7 +40,3 @@ IsDelivered basis (Delivery.Ended f) = MayEndBy basis f
 abbrev pub AllowsTold : Option Basis → List PeerMessage → PeerMessage → Type 0
 AllowsTold None before told = Unit {0}
 AllowsTold (Some basis) before told = IsTold basis told
-
-abbrev pub AllowsDelivery : Option Basis → List Delivery → Delivery → Type 0
-AllowsDelivery None before delivery = Unit {0}
-AllowsDelivery (Some basis) before delivery = IsDelivered basis delivery

@@ -3,6 +3,7 @@ use Rattle.std.specs.Prelude.{◌≡◌, ◌≢◌, ◌⊎◌, ℕ, ◌<◌, Lis
 use Rattle.std.specs.List.{AllByRecursion, slice_get}
 use Rattle.base.specs.Rising.{IsRising}
 use Rattle.lookahead_windows.specs.Messages.{IsOneOf}
+use Rattle.parallel_run.specs.declared.of_run.OfRun.{Ghosts}
 use Rattle.parallel_run.specs.declared.peers.Peer.{Peer}
 use Rattle.parallel_run.specs.declared.connections.Connections.{Connections}
 use Rattle.lookahead_windows.specs.Basis.{Basis}
@@ -18,7 +19,7 @@ pub record AreOthers (count own : ℕ) (numbers : List ℕ) : Type 0 where
   pub complete : (n : ℕ) → n < count → (own ≡ n) ⊎ IsOneOf (λ m. m) numbers n
 
 -- a process's rings are to all others of the run
-pub record AreLines {K : Type 0} (basis : Basis) (lines : Connections K) : Type 0 where
+pub record AreLines {K : Type 0} {G : Ghosts K} (basis : Basis) (lines : Connections K G) : Type 0 where
   pub own : lines.number < basis.deal.parts
   pub peers : AreOthers basis.deal.parts lines.number (numbers_of lines.peers.items)
 

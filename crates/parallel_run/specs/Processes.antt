@@ -6,22 +6,23 @@ use Rattle.base.specs.Order.{key_cmp}
 use Rattle.member.specs.declared.event.Event.{Event}
 use Rattle.lookahead_windows.specs.Starts.{HasRunTo}
 use Rattle.lookahead_windows.specs.Basis.{Basis, plan_of}
+use Rattle.parallel_run.specs.declared.of_run.OfRun.{Ghosts}
 use Rattle.parallel_run.specs.declared.process.Process.{Process}
 use Rattle.parallel_run.specs.declared.process.Waiting.{Waiting}
 use Rattle.parallel_run.specs.declared.board_item.BoardItem.{BoardItem}
 use Rattle.parallel_run.specs.Peers.{AreLines}
 use Rattle.parallel_run.specs.Windows.{AfterWindow, Begins, GathersUpTo, GathersSoFar}
 
-module _ {K Q : Type 0} (set : Q → FinMap key_cmp Event) (basis : Basis) where
+module _ {K Q : Type 0} {G : Ghosts K} (set : Q → FinMap key_cmp Event) (basis : Basis) where
   -- The process begins its round: its part and what is known with it are the run's there, its rows wait up to where the part has run,
   -- and its lines are to all others. All this is a function of the basis and the round.
-  pub record IsReady (process : Process K Q) : Type 0 where
+  pub record IsReady (process : Process K Q G) : Type 0 where
     pub begins : Begins set basis process.lines.number process.round process.first process.part
     pub gathered : GathersSoFar basis process.lines.number process.round process.gathered
     pub lines : AreLines basis process.lines
 
   -- The process has run its window of a round and told the others of it.
-  pub record IsWaiting (process : Waiting K Q) : Type 0 where
+  pub record IsWaiting (process : Waiting K Q G) : Type 0 where
     pub from : process.told.from ≡ process.lines.number
     pub next : process.next ≡ process.told.round + 1
     pub window : AfterWindow set basis process.lines.number process.told.round process.told.least process.part
@@ -32,11 +33,11 @@ module _ {K Q : Type 0} (set : Q → FinMap key_cmp Event) (basis : Basis) where
     pub lines : AreLines basis process.lines
 
 -- an item stands for the number of its part
-abbrev pub number_of : {K Q : Type 0} → BoardItem K Q → ℕ
+abbrev pub number_of : {K Q : Type 0} {G : Ghosts K} → BoardItem K Q G → ℕ
 number_of (BoardItem.Process process) = process.lines.number
 number_of (BoardItem.Ended lines) = lines.number
 
 -- a process belongs to the board of a run where it is the run's as its round begins
-abbrev pub Belongs : {K Q : Type 0} (set : Q → FinMap key_cmp Event) (given : Option Basis) → BoardItem K Q → Type 0
+abbrev pub Belongs : {K Q : Type 0} {G : Ghosts K} (set : Q → FinMap key_cmp Event) (given : Option Basis) → BoardItem K Q G → Type 0
 Belongs set given (BoardItem.Process process) = (basis : Basis) → given ≡ Some basis → IsReady set basis process
 Belongs set given (BoardItem.Ended lines) = Unit {0}

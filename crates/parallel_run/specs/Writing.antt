@@ -1,14 +1,14 @@
 -- What who writes knows.
-use Rattle.std.specs.Prelude.{◌≡◌, ℕ, ◌++◌, List, [], length, Result, Ok, Err}
+use Rattle.std.specs.Prelude.{◌≡◌, ℕ, ◌++◌, List, [], Result, Ok, Err}
 use Rattle.std.specs.Bool.{OnTrue}
 use Rattle.base.specs.declared.fault.Fault.{Fault}
+use Rattle.scenario.specs.Setup.{Setup}
 use Rattle.trace.specs.declared.row.Row.{Row}
 use Rattle.member_laws.specs.Runs.{IsRunOf, CounterOverflows}
 use Rattle.lookahead_windows.specs.Before.{AreRowsBefore}
 use Rattle.lookahead_windows.specs.Faults.{first_fault}
 use Rattle.parallel_run.specs.declared.row_batch.RowBatch.{RowBatch}
 use Rattle.parallel_run.specs.declared.batches.MergedBatch.{MergedBatch}
-use Rattle.parallel_run.specs.declared.writer.Writer.{Writer}
 use Rattle.lookahead_windows.specs.Basis.{Basis, IsBasis}
 
 -- these rows are those of the run before the moment
@@ -25,12 +25,12 @@ pub record IsNextTurn (basis : Basis) (since : ℕ) (turn : MergedBatch) : Type 
   pub whole : OnTrue turn.last ((before : List Row) → HasComeTo basis since before → IsRunOf basis.setup (before ++ turn.rows.items))
   pub lasts : OnTrue turn.last (¬ (CounterOverflows basis.setup))
 
--- The writer is of that run: it has the rings of all workers, and nothing is tallied yet.
-pub record MayWrite {K : Type 0} (basis : Basis) (writer : Writer K) : Type 0 where
+-- The scenario is that of the run, there is an end of a relay for each of its parts, and nothing is tallied yet.
+pub record MayTake (basis : Basis) (setup : Setup) (count : ℕ) (tallied : List Row) : Type 0 where
   pub basis_is : IsBasis basis
-  pub one : writer.scenario.now ≡ basis.setup
-  pub takers : length writer.takers.items ≡ basis.deal.parts
-  pub none_tallied : writer.tallies ≡ []
+  pub one : setup ≡ basis.setup
+  pub takers : count ≡ basis.deal.parts
+  pub none_tallied : tallied ≡ []
 
 -- of the writer's own fault, where there is one, and another the first
 abbrev pub fault_beside : Result (Unit {0}) Fault → Fault → Fault

@@ -1,30 +1,19 @@
-//! The lots of all workers, as who writes takes them.
+//! The lots of all parts, as who writes takes them.
 ghost use Rattle.std.specs.Prelude.{◌≡◌, ◌≢◌, ◌++◌, length, Some, IfOk, IfErr, OnOk};
 ghost use Rattle.std.specs.Bool.{OnTrue};
 ghost use Rattle.std.specs.List.Sorted.{IsPermutation, IsSorted};
 ghost use Rattle.lookahead_windows.specs.Basis.{Basis, IsBasis};
-ghost use Rattle.parallel_run.specs.Messages.{MayEndBy, IsLotOfRun};
+ghost use Rattle.parallel_run.specs.Messages.{MayEndBy};
 ghost use Rattle.parallel_run.specs.Writing.{IsNextTurn, GoesAsFar};
 
+use crate::batch_receiver::BatchReceiver;
 use crate::of_run::OfRun;
-use crate::protocols::RowBatches;
-use crate::ring::Taker;
-use crate::row_batch::{Delivery, RowBatch};
-use crate::spin_policy::SpinPolicy;
+use crate::row_batch::RowBatch;
 use base::{Fault, Memory, Moment};
-use lookahead_windows::first_fault;
 use std::alloc::Global;
 use std::sync::Wait;
 use trace::Row;
 use turns::join;
-
-/// From where the lots of a worker come.
-#[derive(Drop)]
-pub(crate) struct BatchReceiver<'b, K: OfRun> {
-    taker: Taker<'b, Delivery, RowBatches<K>>,
-    // whether something is still to come
-    is_open: bool,
-}
 
 /// The rows of all parts from one moment up to another, in row order.
 #[derive(Drop)]
@@ -38,61 +27,14 @@ pub(crate) struct MergedBatch {
     pub(crate) last: bool,
 }
 
-impl<'b, K: OfRun> BatchReceiver<'b, K> {
-    /// The lots that come from there.
-    pub(crate) fn new(taker: Taker<'b, Delivery, RowBatches<K>>) -> Self {
-        BatchReceiver {
-            taker,
-            is_open: true,
-        }
-    }
-
-    /// The next lot. Faults: that by which the worker ended, `ThreadLost` where nothing comes.
-    fn take(&mut self, rt: &impl Wait, patience: &mut SpinPolicy) -> Result<RowBatch, Fault>
-        ensures lot { IfOk result (λ lot. (basis : Basis) → K.basis ≡ Some basis → IsLotOfRun basis lot) }
-        ensures fault { IfErr result (λ fault. (basis : Basis) → K.basis ≡ Some basis → MayEndBy basis fault) }
-    {
-        match self.taker.take_and_tell(rt, patience) {
-            Some(Delivery::RowBatch(lot)) => {
-                self.is_open = !lot.last;
-                Ok(lot)
-            }
-            Some(Delivery::Ended(fault)) => {
-                self.is_open = false;
-                Err(fault)
-            }
-            None => {
-                self.is_open = false;
-                Err(Fault::ThreadLost)
-            }
-        }
-    }
-
-    /// Takes what comes next, where something is still to come, and drops it: the fault by which the
-    /// worker ended, or this one where that is first.
-    fn skip(&mut self, rt: &impl Wait, patience: &mut SpinPolicy, so_far: Fault) -> Fault
-        requires { (basis : Basis) → K.basis ≡ Some basis → MayEndBy basis so_far }
-        ensures { (basis : Basis) → K.basis ≡ Some basis → MayEndBy basis result }
-    {
-        if !self.is_open {
-            return so_far;
-        }
-        if let Err(fault) = self.take(rt, patience) {
-            return first_fault(fault, so_far);
-        }
-        so_far
-    }
-}
-
 /// The next rows of all parts, from that moment on, in row order.
 ///
-/// Faults: `Memory`, those by which workers ended, `ThreadLost` where the lots do not go as far, or were
+/// Faults: `Memory`, those by which parts ended, `ThreadLost` where the lots do not go as far, or were
 /// not sent before the same round.
 pub(crate) fn next_turn<'b, K: OfRun>(
     rt: &impl Wait,
     alloc: Global,
     takers: &mut Vec<BatchReceiver<'b, K>>,
-    patience: &mut SpinPolicy,
     since: Moment,
 ) -> Result<MergedBatch, Fault>
     requires all { (basis : Basis) → K.basis ≡ Some basis → IsBasis basis × (length takers.old.items ≡ basis.deal.parts) }
@@ -107,7 +49,7 @@ pub(crate) fn next_turn<'b, K: OfRun>(
         last: false,
     };
     for (number, taker) in takers.iter_mut().enumerate() {
-        let lot = taker.take(rt, patience)?;
+        let lot = taker.take(rt)?;
         if !fits(&lot, number, since, &all) {
             return Err(Fault::ThreadLost);
         }
@@ -166,13 +108,12 @@ fn sort(rows: &mut Vec<Row>) -> Result<(), Memory>
     Ok(())
 }
 
-/// Takes all that is still to come, up to the end of each worker: of the faults by which they ended
-/// and this one the first. It takes from all parts in turn, so that none waits for room while another
-/// one is waited for.
+/// Takes all that is still to come, up to the end of each part: of the faults by which they ended and
+/// this one the first. It takes from all in turn, so that no part waits for room in its relay while
+/// another is waited for.
 pub(crate) fn drained<'b, K: OfRun>(
     rt: &impl Wait,
     takers: &mut Vec<BatchReceiver<'b, K>>,
-    patience: &mut SpinPolicy,
     fault: Fault,
 ) -> Fault
     requires { (basis : Basis) → K.basis ≡ Some basis → MayEndBy basis fault }
@@ -183,7 +124,7 @@ pub(crate) fn drained<'b, K: OfRun>(
         if !are_any_open(takers) {
             return first;
         }
-        first = skip_each(rt, takers, patience, first);
+        first = skip_each(rt, takers, first);
     }
     unreachable!()
 }
@@ -191,7 +132,7 @@ pub(crate) fn drained<'b, K: OfRun>(
 /// Whether something is still to come from any part.
 fn are_any_open<'b, K: OfRun>(takers: &[BatchReceiver<'b, K>]) -> bool {
     for taker in takers {
-        if taker.is_open {
+        if taker.is_open() {
             return true;
         }
     }
@@ -199,11 +140,10 @@ fn are_any_open<'b, K: OfRun>(takers: &[BatchReceiver<'b, K>]) -> bool {
 }
 
 /// Takes what comes next from each part from which something is still to come: of the faults by which
-/// workers ended and this one the first.
+/// they ended and this one the first.
 fn skip_each<'b, K: OfRun>(
     rt: &impl Wait,
     takers: &mut Vec<BatchReceiver<'b, K>>,
-    patience: &mut SpinPolicy,
     fault: Fault,
 ) -> Fault
     requires { (basis : Basis) → K.basis ≡ Some basis → MayEndBy basis fault }
@@ -211,7 +151,7 @@ fn skip_each<'b, K: OfRun>(
 {
     let mut first = fault;
     for taker in takers.iter_mut() {
-        first = taker.skip(rt, patience, first);
+        first = taker.skip(rt, first);
     }
     first
 }

@@ -6,7 +6,9 @@ ghost use Rattle.board.specs.Seats.{AreAllSeats, dealt, taken};
 ghost use Rattle.board.specs.Sites.{AreSingleSeats};
 ghost use Rattle.parallel_run.specs.Closing.{IsUnsettled, TakesAll, StillKeeps};
 
-use crate::board_item::{RunBoard, RunPost, RunSeat};
+use crate::batch_sender::BatchSender;
+use crate::board_item::{BoardItem, RunBoard, RunPost, RunSeat};
+use crate::connections::Connections;
 use crate::of_run::OfRun;
 use base::limits::MOST_WORKERS;
 use base::{Fault, Memory};
@@ -21,14 +23,22 @@ use worker_queue::EventQueue;
 /// How many seats the board of a run has: as many as a board may have, one more than there may be workers.
 pub(crate) const SEATS: usize = MOST_WORKERS + 1;
 
-/// Takes from the board of a run what its workers have dealt back.
+/// Takes from the board of a run what its workers have dealt back: the ends by which parts have sent
+/// their rows.
 pub(crate) fn take_back<'p, 'b, K: OfRun, Q: EventQueue<Event> + Drop, J: Site>(
     rt: &impl Wait,
+    alloc: Global,
     post: &mut RunPost<'p, 'b, K, Q, J>,
-) {
+) -> Result<Vec<BatchSender<'b, K>>, Memory> {
+    let mut senders = Vec::new(alloc);
     for _ in rt.forever() {
-        if post.take(rt).is_none() {
-            return;
+        match post.take(rt) {
+            Some(BoardItem::Ended(lines)) => {
+                let Connections { lots, .. } = lines;
+                senders.push(lots)?;
+            }
+            Some(BoardItem::Process(_process)) => {}
+            None => return Ok(senders),
         }
     }
     unreachable!()

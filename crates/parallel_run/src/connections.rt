@@ -7,11 +7,10 @@ ghost use Rattle.parallel_run.specs.Peers.{AreLines};
 ghost use Rattle.parallel_run.specs.Messages.{MayEndBy};
 ghost use Rattle.parallel_run.specs.Windows.{AfterWindow, GathersUpTo, GathersSoFar, HasRanRound};
 
+use crate::batch_sender::BatchSender;
 use crate::exchange::tell_all;
 use crate::of_run::OfRun;
 use crate::peers::{Peer, WindowSummary};
-use crate::protocols::RowBatches;
-use crate::ring::Sender;
 use crate::row_batch::Delivery;
 use crate::rows::Gathered;
 use base::{Fault, Moment};
@@ -22,13 +21,13 @@ use std::sync::Wait;
 use windows::Part;
 use worker_queue::EventQueue;
 
-/// A process's rings to the others and to who writes.
+/// A process's rings to the others, and its end of the relay to who writes.
 #[derive(Drop)]
 pub struct Connections<'b, K: OfRun> {
     /// The number of its part.
     pub(crate) number: usize,
     pub(crate) peers: Vec<Peer<'b, K>>,
-    pub(crate) lots: Sender<'b, Delivery, RowBatches<K>>,
+    pub(crate) lots: BatchSender<'b, K>,
 }
 
 impl<'b, K: OfRun> Connections<'b, K> {
@@ -100,13 +99,20 @@ impl<'b, K: OfRun> Connections<'b, K> {
         Err(Fault::ThreadLost)
     }
 
-    /// Tells all that this process has ended by the fault.
-    pub(crate) fn tell_end(&mut self, rt: &impl Wait, fault: Fault)
+    /// Tells the other processes that this one has ended by the fault.
+    pub(crate) fn tell_others(&mut self, fault: Fault)
         requires { (basis : Basis) → K.basis ≡ Some basis → MayEndBy basis fault }
     {
         for peer in self.peers.iter_mut() {
             peer.tell_end(fault);
         }
+    }
+
+    /// Tells all that this process has ended by the fault, who writes too.
+    pub(crate) fn tell_end(&mut self, rt: &impl Wait, fault: Fault)
+        requires { (basis : Basis) → K.basis ≡ Some basis → MayEndBy basis fault }
+    {
+        self.tell_others(fault);
         let _ = self.lots.send(rt, Delivery::Ended(fault));
     }
 }

@@ -1,7 +1,7 @@
 //! How the workers of a run call each other.
 
 use crate::event_count::EventCount;
-use crate::opening::bells_of;
+use crate::opening::event_counts_of;
 use base::Memory;
 use std::alloc::Global;
 use std::sync::Wait;
@@ -11,7 +11,7 @@ use std::sync::atomic::{AtomicBool, AtomicU64, Ordering};
 #[derive(Drop)]
 pub(crate) struct Crew {
     // one of each worker
-    bells: Vec<EventCount>,
+    event_counts: Vec<EventCount>,
     // how often the processes were dealt out again
     dealings: AtomicU64,
     over: AtomicBool,
@@ -22,7 +22,7 @@ impl Crew {
     /// So many workers, which have not begun yet.
     pub(crate) fn new(alloc: Global, workers: usize) -> Result<Crew, Memory> {
         Ok(Crew {
-            bells: bells_of(alloc, workers)?,
+            event_counts: event_counts_of(alloc, workers)?,
             dealings: AtomicU64::new(0),
             over: AtomicBool::new(false),
             failed: AtomicBool::new(false),
@@ -32,20 +32,20 @@ impl Crew {
     /// The processes lie on the board again for all workers.
     pub(crate) fn deal(&self) {
         self.dealings.fetch_add(1, Ordering::SeqCst);
-        self.ring_all();
+        self.notify_all();
     }
 
     /// Something lies on the board for that worker.
     pub(crate) fn call(&self, worker: usize) {
-        if let Some(bell) = self.bells.get(worker) {
-            bell.ring();
+        if let Some(event_count) = self.event_counts.get(worker) {
+            event_count.notify();
         }
     }
 
     /// The run has come to its end.
     pub(crate) fn end(&self) {
         self.over.store(true, Ordering::SeqCst);
-        self.ring_all();
+        self.notify_all();
     }
 
     /// A worker has ended by a fault.
@@ -66,16 +66,16 @@ impl Crew {
 
     /// How often that worker was called.
     pub(crate) fn calls(&self, worker: usize) -> u64 {
-        match self.bells.get(worker) {
-            Some(bell) => bell.heard(),
+        match self.event_counts.get(worker) {
+            Some(event_count) => event_count.count(),
             None => 0,
         }
     }
 
     /// Sleeps until that worker is called again after so many times. It may also wake for no reason.
     pub(crate) fn sleep(&self, rt: &impl Wait, worker: usize, calls: u64) {
-        if let Some(bell) = self.bells.get(worker) {
-            bell.sleep(rt, calls);
+        if let Some(event_count) = self.event_counts.get(worker) {
+            event_count.sleep(rt, calls);
         }
     }
 
@@ -101,9 +101,9 @@ impl Crew {
         unreachable!()
     }
 
-    fn ring_all(&self) {
-        for bell in self.bells.iter() {
-            bell.ring();
+    fn notify_all(&self) {
+        for event_count in self.event_counts.iter() {
+            event_count.notify();
         }
     }
 }

@@ -217,7 +217,7 @@ fn run_process<'p, 'b, K: OfRun, Q: EventQueue<Event> + Drop, J: Site, G: Gate>(
     Ok(Some(waiting))
 }
 
-/// Deals an item onto the board. `ThreadLost` where it comes back.
+/// Deals an item onto the board. `ThreadLost` where it comes back; a process then has ended.
 pub(crate) fn deal<'p, 'b, K: OfRun, Q: EventQueue<Event> + Drop, J: Site>(
     rt: &impl Wait,
     post: &mut RunPost<'p, 'b, K, Q, J>,
@@ -228,7 +228,21 @@ pub(crate) fn deal<'p, 'b, K: OfRun, Q: EventQueue<Event> + Drop, J: Site>(
 {
     match post.deal(rt, item) {
         Ok(()) => Ok(()),
-        Err(_) => Err(Fault::ThreadLost),
+        Err(item) => {
+            tell_lost(rt, item);
+            Err(Fault::ThreadLost)
+        }
+    }
+}
+
+/// Tells all that a process which could not be dealt has ended.
+fn tell_lost<'b, K: OfRun, Q: EventQueue<Event> + Drop>(rt: &impl Wait, item: BoardItem<'b, K, Q>) {
+    match item {
+        BoardItem::Process(process) => {
+            let mut process = process;
+            process.lines.tell_end(rt, Fault::ThreadLost);
+        }
+        BoardItem::Ended(_lines) => {}
     }
 }
 

@@ -1,10 +1,14 @@
 //! Runs of a scenario by several threads. Each part of the cluster is a logical process, which once a round tells each
 //! other what went out of its window and the first moment that is left; so each knows how far its next window goes, with
-//! no driver. The processes lie on a board, from which the workers take them. The calling thread writes.
+//! no driver. The processes lie on a board, from which the workers take them. Their rows go over a relay each to the
+//! calling thread, which writes.
 #![tactic(auto)]
 
+mod batch_receiver;
+mod batch_sender;
 mod batches;
 mod board_item;
+mod closed_relay;
 mod closing;
 mod connections;
 mod crew;
@@ -17,8 +21,10 @@ mod pace;
 mod peers;
 mod process;
 mod protocols;
+mod relay_ends;
 mod ring;
 mod row_batch;
+mod row_relay;
 mod rows;
 mod run;
 mod spin_policy;

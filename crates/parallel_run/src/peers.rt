@@ -44,17 +44,17 @@ pub(crate) struct WindowSummary {
     pub(crate) slept: u64,
 }
 
-/// Rings between any two of so many processes, at the bells of each: for each process those to the
+/// Rings between any two of so many processes, with the event count of each: for each process those to the
 /// others, in the order of the processes.
 pub(crate) fn peers_of<'b, K: OfRun>(
     alloc: Global,
-    bells: &'b [EventCount],
+    event_counts: &'b [EventCount],
 ) -> Result<Vec<Vec<Peer<'b, K>>>, Memory>
-    ensures { IfOk result (λ all. AreJoined (length bells.now) (map (λ peers. peers.items) all.items)) }
+    ensures { IfOk result (λ all. AreJoined (length event_counts.now) (map (λ peers. peers.items) all.items)) }
 {
     let mut all = Vec::new(alloc);
-    for bell in bells {
-        let peers = joined(alloc, &mut all, bell, bells)?;
+    for event_count in event_counts {
+        let peers = joined(alloc, &mut all, event_count, event_counts)?;
         all.push(peers)?;
     }
     Ok(all)
@@ -65,9 +65,9 @@ fn joined<'b, K: OfRun>(
     alloc: Global,
     before: &mut Vec<Vec<Peer<'b, K>>>,
     own: &'b EventCount,
-    bells: &'b [EventCount],
+    event_counts: &'b [EventCount],
 ) -> Result<Vec<Peer<'b, K>>, Memory>
-    requires more { length before.old.items < length bells.now }
+    requires more { length before.old.items < length event_counts.now }
     requires joined { AreJoined (length before.old.items) (map (λ peers. peers.items) before.old.items) }
     ensures count { IfOk result (λ _. length before.new.items ≡ length before.old.items) }
     ensures before { IfOk result (λ _. (i : ℕ) (peers : _) → slice_get before.new.items i ≡ Some peers → AreOthers (length before.old.items + 1) i (numbers_of peers.items)) }
@@ -76,9 +76,9 @@ fn joined<'b, K: OfRun>(
     let number = before.len();
     let mut peers = Vec::new(alloc);
     for (other, others) in before.iter_mut().enumerate() {
-        let theirs = &bells[other];
-        let (to, there) = ring_between(alloc, ROOM, own, theirs)?;
-        let (back, from) = ring_between(alloc, ROOM, theirs, own)?;
+        let theirs = &event_counts[other];
+        let (to, there) = ring_between(alloc, ROOM, theirs)?;
+        let (back, from) = ring_between(alloc, ROOM, own)?;
         peers.push(Peer {
             number: other,
             to,
@@ -125,6 +125,7 @@ impl<'b, K: OfRun> Peer<'b, K> {
     /// Keeps what the other process sent until the next word to it.
     pub(crate) fn keep(&mut self, spent: Vec<Event>)
         ensures number { self.new.number ≡ self.old.number }
+        ensures kept { self.new.spent.items ≡ spent.items }
     {
         self.spent = spent;
     }

@@ -14,8 +14,6 @@ pub(crate) struct Sender<'b, T: Drop, P: Protocol<T>> {
     end: Producer<T, Global, P>,
     // of whoever takes
     theirs: &'b EventCount,
-    // of whoever sends
-    own: &'b EventCount,
 }
 
 /// The end of a ring by which a thread takes what another sends.
@@ -23,14 +21,12 @@ pub(crate) struct Sender<'b, T: Drop, P: Protocol<T>> {
 pub(crate) struct Taker<'b, T: Drop, P: Protocol<T>> {
     end: Consumer<T, Global, P>,
     own: &'b EventCount,
-    theirs: &'b EventCount,
 }
 
-/// A ring with room for so much, from the thread of the first bell to that of the second.
+/// A ring with room for so much, to the thread of that event count.
 pub(crate) fn ring_between<'b, T: Drop, P: Protocol<T>>(
     alloc: Global,
     room: usize,
-    sender: &'b EventCount,
     taker: &'b EventCount,
 ) -> Result<(Sender<'b, T, P>, Taker<'b, T, P>), Memory> {
     let (producer, consumer) = match RingBuffer::with_protocol::<Global, P>(alloc, room) {
@@ -40,12 +36,10 @@ pub(crate) fn ring_between<'b, T: Drop, P: Protocol<T>>(
     let sends = Sender {
         end: producer,
         theirs: taker,
-        own: sender,
     };
     let takes = Taker {
         end: consumer,
         own: taker,
-        theirs: sender,
     };
     Ok((sends, takes))
 }
@@ -57,36 +51,11 @@ impl<'b, T: Drop, P: Protocol<T>> Sender<'b, T, P> {
     {
         match self.end.push(item) {
             Ok(()) => {
-                self.theirs.ring();
+                self.theirs.notify();
                 true
             }
             Err(_) => false,
         }
-    }
-
-    /// Sends once there is room. False where nobody takes any more: then it is lost.
-    pub(crate) fn send(&mut self, rt: &impl Wait, item: T) -> bool
-        requires allowed { (before : List T) → P.allows before item }
-    {
-        if !self.has_room(rt) {
-            return false;
-        }
-        self.send_at_once(item)
-    }
-
-    /// Waits until there is room. False where nobody takes any more.
-    fn has_room(&mut self, rt: &impl Wait) -> bool {
-        for _ in rt.forever() {
-            let heard = self.own.heard();
-            if !self.end.is_full() {
-                return true;
-            }
-            if self.end.is_abandoned() {
-                return false;
-            }
-            self.own.sleep(rt, heard);
-        }
-        unreachable!()
     }
 }
 
@@ -105,15 +74,6 @@ impl<'b, T: Drop, P: Protocol<T>> Taker<'b, T, P> {
                 self.await_next(rt, patience)
             }
         }
-    }
-
-    /// Takes what there is, and lets who sends know that there is room.
-    pub(crate) fn take_and_tell(&mut self, rt: &impl Wait, patience: &mut SpinPolicy) -> Option<T>
-        ensures allowed { IfSome result (λ item. (before : List T) × P.allows before item) }
-    {
-        let item = self.take(rt, patience)?;
-        self.theirs.ring();
-        Some(item)
     }
 
     /// What is left in the ring.
@@ -144,7 +104,7 @@ impl<'b, T: Drop, P: Protocol<T>> Taker<'b, T, P> {
         ensures allowed { IfSome result (λ item. (before : List T) × P.allows before item) }
     {
         for _ in rt.forever() {
-            let heard = self.own.heard();
+            let seen = self.own.count();
             match self.end.pop() {
                 Ok(item) => return Some(item),
                 Err(_) => {}
@@ -153,7 +113,7 @@ impl<'b, T: Drop, P: Protocol<T>> Taker<'b, T, P> {
                 return self.last();
             }
             patience.sleeps();
-            self.own.sleep(rt, heard);
+            self.own.sleep(rt, seen);
         }
         unreachable!()
     }

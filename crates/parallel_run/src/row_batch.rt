@@ -1,4 +1,7 @@
 //! Rows of a part that a worker sends to the thread that writes the trace, with the moments and the round they cover.
+ghost use Rattle.std.specs.Prelude.{◌≡◌};
+ghost use Rattle.parallel_run.specs.Relaying.{is_end};
+
 use base::{Fault, Moment};
 use trace::Row;
 
@@ -25,4 +28,16 @@ pub enum Delivery {
     RowBatch(RowBatch),
     /// The worker has ended, since it found this fault or was told of it.
     Ended(Fault),
+}
+
+impl Delivery {
+    /// Whether nothing goes after it.
+    pub(crate) fn is_end(&self) -> bool
+        ensures { result ≡ is_end self.now }
+    {
+        match self {
+            Delivery::RowBatch(lot) => lot.last,
+            Delivery::Ended(_) => true,
+        }
+    }
 }

@@ -16,17 +16,20 @@ ghost use Rattle.run_output.specs.Traced.{IsEarly, KeepsTrace};
 ghost use Rattle.lookahead_windows.specs.Basis.{basis_of, GoBy};
 ghost use Rattle.lookahead_windows.specs.Bounds.{AwaitsRounds, AwaitsRun};
 ghost use Rattle.parallel_run.specs.Closing.{TakesAll};
+ghost use Rattle.parallel_run.specs.Relays.{AreNewSeats, AreRelayed};
 ghost use Rattle.parallel_run.specs.Processes.{IsReady};
 ghost use Rattle.parallel_run.specs.Starting.{MayStart};
 
 use crate::board_item::{BoardItem, RunBoard, RunPost, RunSeat};
+use crate::closed_relay::ClosedRelay;
 use crate::closing::{SEATS, closed, no_seats};
 use crate::crew::Crew;
-use crate::event_count::EventCount;
 use crate::hold::deal;
 use crate::of_run::OfRun;
-use crate::opening::{bells_of, processes_of};
+use crate::opening::{event_counts_of, processes_of};
 use crate::process::Process;
+use crate::relay_ends::{ends_of, relays_closed};
+use crate::row_relay::{RelaySeats, RowRelay, RunBasis, relays_of};
 use crate::threads::{Hands, run_threads};
 use crate::writer::Writer;
 use base::{Fault, Memory, Moment};
@@ -162,10 +165,22 @@ fn run_into<T: RowSink<P>, P, G: Gate, R: Threads + Wait + Sync>(
     let ways = ways_into(alloc, scenario, &walks)?;
     let rounds = &rounds_of(cluster, division, &ways);
     let hands = workers.count().min(division.parts());
-    by_workers::<T, P, WheelQueue<Event>, G, Brand, R>(rt, alloc, parts, rounds, hands, gate, place)
+    let run = RunBasis::of(scenario, division, &ways);
+    let (relays, relay_seats) = relays_of(alloc, &run, parts.len())?;
+    by_workers::<T, P, WheelQueue<Event>, G, Brand, R>(
+        rt,
+        alloc,
+        parts,
+        rounds,
+        &relays,
+        relay_seats,
+        hands,
+        gate,
+        place,
+    )
 }
 
-/// Runs these parts by so many workers, and takes the rows.
+/// Runs these parts by so many workers, and takes the rows, which go over these relays.
 fn by_workers<
     'a,
     T: RowSink<P>,
@@ -179,12 +194,17 @@ fn by_workers<
     alloc: Global,
     parts: Vec<Part<Q>>,
     rounds: &Rounds<'a>,
+    relays: &[RowRelay],
+    relay_seats: Vec<RelaySeats>,
     workers: usize,
     gate: &G,
     place: &mut P,
 ) -> Result<Tallies, Fault>
     requires rounds { GoBy rounds.now }
     requires run { K.basis ≡ Some (basis_of rounds.now) }
+    requires relays { K.relays ≡ relays.now }
+    requires relay_seats { AllByRecursion (AreNewSeats relays.now (basis_of rounds.now)) relay_seats.items }
+    requires seats_each { length relay_seats.items ≡ length parts.items }
     requires opened { StandFor Q.set rounds.now.division.now parts.items (opening rounds.now.cluster.scenario.now) }
     requires known { KnowsAll G.knows workers }
     requires windows { AwaitsRounds G.awaits (basis_of rounds.now) }
@@ -193,10 +213,10 @@ fn by_workers<
     ensures trace { KeepsTrace rounds.now.cluster.scenario.now (T.held place.old) (T.held place.new) (T.failed place.old) (T.failed place.new) result }
     ensures gathered { IfOk result (T.gathered place.new rounds.now.cluster.scenario.now) }
 {
-    let bells = bells_of(alloc, parts.len())?;
-    let writers = EventCount::new();
+    let event_counts = event_counts_of(alloc, parts.len())?;
+    let ends = ends_of::<K>(alloc, relays, relay_seats)?;
     let first = first_pending(&parts);
-    let (processes, takers) = processes_of::<K, Q>(alloc, parts, first, &bells, &writers)?;
+    let (processes, takers) = processes_of::<K, Q>(alloc, parts, first, &event_counts, ends)?;
     let writer = Writer {
         scenario: rounds.cluster.scenario,
         takers,
@@ -208,14 +228,16 @@ fn by_workers<
         rounds.division.parts(),
         SEATS,
     )?;
-    let (outcome, _settled) = over_board::<T, P, Q, G, K, R>(
-        rt, alloc, board, seats, processes, workers, crew, rounds, gate, writer, place,
+    let (outcome, _settled, _relayed) = over_board::<T, P, Q, G, K, R>(
+        rt, alloc, board, seats, relays, processes, workers, crew, rounds, gate, writer, place,
     );
     outcome
 }
 
-/// Runs these processes over this board, and closes it: what came, and the board's seats as they were
-/// at the end. Where all went well every process that was dealt was taken, as often, and no other.
+/// Runs these processes over this board, and closes it and the relays over which their rows go: what
+/// came, the board's seats as they were at the end, and those of the relays. Where all went well every
+/// process that was dealt was taken, as often, and no other; and what was sent over each relay was
+/// received, the last batch of its part too.
 fn over_board<
     'r,
     'b,
@@ -231,6 +253,7 @@ fn over_board<
     alloc: Global,
     board: RunBoard<'b, K, Q>,
     seats: Vec<RunSeat<'b, K, Q>>,
+    relays: &[RowRelay],
     processes: Vec<Process<'b, K, Q>>,
     workers: usize,
     crew: &Crew,
@@ -238,29 +261,37 @@ fn over_board<
     gate: &G,
     writer: Writer<'r, 'b, K>,
     place: &mut P,
-) -> (Result<Tallies, Fault>, Snapshot<Vec<RunSeat<'b, K, Q>>>)
+) -> (
+    Result<Tallies, Fault>,
+    Snapshot<Vec<RunSeat<'b, K, Q>>>,
+    Vec<ClosedRelay>,
+)
+    requires relays { K.relays ≡ relays.now }
     requires all { AreAllSeats board seats.items }
     requires count { length seats.items ≡ whole }
     requires ready { AllByRecursion (IsReady Q.set (basis_of rounds.now)) processes.items }
-    requires start { MayStart K.basis G.knows G.awaits rounds.now workers writer }
+    requires start { MayStart K.basis G.knows G.awaits rounds.now workers writer.scenario.now (length writer.takers.items) writer.tallies }
     requires countable { T.failed place.old < 2 ^ 63 }
     requires none_gathered { T.gathered place.old writer.scenario.now [] }
     ensures trace { KeepsTrace rounds.now.cluster.scenario.now (T.held place.old) (T.held place.new) (T.failed place.old) (T.failed place.new) result.0 }
     ensures gathered { IfOk result.0 (T.gathered place.new rounds.now.cluster.scenario.now) }
     ensures settled { OnOk result.0 (TakesAll board.entry result.1.value.items) }
+    ensures relayed { OnOk result.0 (AreRelayed relays.now result.2.items) }
 {
-    // a pair is answered, so no `?`
-    let (so_far, seats) = match at_board::<T, P, Q, G, Brand, K, R>(
-        rt, alloc, &board, seats, processes, workers, crew, rounds, gate, writer, place,
+    // three are answered, so no `?`
+    let (so_far, seats, relayed) = match at_board::<T, P, Q, G, Brand, K, R>(
+        rt, alloc, &board, seats, relays, processes, workers, crew, rounds, gate, writer, place,
     ) {
-        Ok(pair) => pair,
-        Err(fault) => return (Err(fault), no_seats(alloc)),
+        Ok(ended) => ended,
+        Err(fault) => return (Err(fault), no_seats(alloc), Vec::new(alloc)),
     };
-    closed(rt, alloc, board, seats, so_far)
+    let (outcome, settled) = closed(rt, alloc, board, seats, so_far);
+    (outcome, settled, relayed)
 }
 
-/// The same over this board, with a post at each of its seats: what came of the rows, and the seats, or
-/// `Memory` where there was none for these. A fault where nothing was begun.
+/// The same over this board, with a post at each of its seats: what came of the rows, the seats, or
+/// `Memory` where there was none for these, and the seats of the relays, which it closes. A fault where
+/// nothing was begun.
 fn at_board<
     'r,
     'b,
@@ -277,6 +308,7 @@ fn at_board<
     alloc: Global,
     board: &RunBoard<'b, K, Q>,
     seats: Vec<RunSeat<'b, K, Q>>,
+    relays: &[RowRelay],
     processes: Vec<Process<'b, K, Q>>,
     workers: usize,
     crew: &Crew,
@@ -288,19 +320,22 @@ fn at_board<
     (
         Result<Tallies, Fault>,
         Result<Vec<RunSeat<'b, K, Q>>, Memory>,
+        Vec<ClosedRelay>,
     ),
     Fault,
 >
+    requires relays { K.relays ≡ relays.now }
     requires here { table_of board.now ≡ J.table }
     requires all { AreAllSeats board.now seats.items }
     requires count { length seats.items ≡ whole }
     requires ready { AllByRecursion (IsReady Q.set (basis_of rounds.now)) processes.items }
-    requires start { MayStart K.basis G.knows G.awaits rounds.now workers writer }
+    requires start { MayStart K.basis G.knows G.awaits rounds.now workers writer.scenario.now (length writer.takers.items) writer.tallies }
     requires countable { T.failed place.old < 2 ^ 63 }
     requires none_gathered { T.gathered place.old writer.scenario.now [] }
     ensures seats { IfOk result (λ r. IfOk r.1 (λ seats. AreSingleSeats board.now seats.items)) }
     ensures trace { IfOk result (λ r. KeepsTrace rounds.now.cluster.scenario.now (T.held place.old) (T.held place.new) (T.failed place.old) (T.failed place.new) r.0) }
     ensures gathered { IfOk result (λ r. IfOk r.0 (T.gathered place.new rounds.now.cluster.scenario.now)) }
+    ensures relayed { IfOk result (λ r. OnOk r.0 (AreRelayed relays.now r.2.items)) }
     ensures unwritten { OnErr result (place.new ≡ place.old) }
     ensures fault { IfErr result IsEarly }
 {
@@ -311,10 +346,11 @@ fn at_board<
     let all = processes.len();
     deal_all(rt, &mut own, processes, rounds)?;
     let hands = Hands { workers, all };
-    let (ended, own, others) = run_threads::<T, P, Q, G, J, K, R>(
+    let (ended, own, others, ends) = run_threads::<T, P, Q, G, J, K, R>(
         rt, alloc, own, posts, hands, crew, rounds, gate, writer, place,
     );
-    Ok((ended, seats_back(alloc, board, own, others)))
+    let (ended, relayed) = relays_closed(alloc, relays, ends, ended);
+    Ok((ended, seats_back(alloc, board, own, others), relayed))
 }
 
 /// Deals the processes onto the board. `ThreadLost` where one comes back.

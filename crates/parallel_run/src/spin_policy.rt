@@ -22,29 +22,16 @@ pub(crate) struct SpinPolicy {
     cautious: usize,
     // for how many after the next looks in vain
     caution: usize,
-    // the most that it looks
-    most: usize,
     // how often it slept since that was asked last
     slept: u64,
 }
 
 impl SpinPolicy {
-    /// The patience of a thread whose waits are short.
-    pub(crate) fn long() -> Self {
+    /// That of a thread which has not looked yet.
+    pub(crate) fn new() -> Self {
         SpinPolicy {
             cautious: 0,
             caution: FIRST_CAUTION,
-            most: MANY_LOOKS,
-            slept: 0,
-        }
-    }
-
-    /// The patience of a thread whose waits are long.
-    pub(crate) fn short() -> Self {
-        SpinPolicy {
-            cautious: 0,
-            caution: FIRST_CAUTION,
-            most: FEW_LOOKS,
             slept: 0,
         }
     }
@@ -54,7 +41,7 @@ impl SpinPolicy {
         if self.cautious > 0 {
             FEW_LOOKS
         } else {
-            self.most
+            MANY_LOOKS
         }
     }
 

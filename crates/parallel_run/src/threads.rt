@@ -1,17 +1,23 @@
 //! The threads of a run, from their start to their end.
-ghost use Rattle.std.specs.Prelude.{◌≡◌, ◌<◌, ◌^◌, [], Some, IfOk, IfErr};
+ghost use Rattle.std.specs.Prelude.{◌≡◌, ℕ, ◌+◌, ◌<◌, ◌≤◌, ◌^◌, [], map, Some, IfOk, IfErr, length};
+ghost use Rattle.std.specs.List.{range_with_len, sum};
 ghost use Rattle.std.specs.Thread.{IsSync, IsSend};
 ghost use Rattle.lookahead_windows.specs.Gates.{KnowsAll};
 ghost use Rattle.run_output.specs.Traced.{IsEarly, KeepsTrace};
 ghost use Rattle.lookahead_windows.specs.Basis.{basis_of, GoBy};
 ghost use Rattle.lookahead_windows.specs.Bounds.{AwaitsRounds};
+ghost use Rattle.parallel_run.specs.Shares.{share_of};
 ghost use Rattle.parallel_run.specs.Starting.{MayStart};
+ghost use Rattle.parallel_run.specs.Messages.{MayEndBy};
 
-use crate::board_item::RunPost;
+use crate::batch_receiver::BatchReceiver;
+use crate::batches::drained;
+use crate::board_item::{BoardItem, RunPost};
 use crate::closing::take_back;
 use crate::crew::Crew;
 use crate::of_run::OfRun;
-use crate::worker::{Place, clear, work};
+use crate::relay_ends::ReturnedEnds;
+use crate::worker::{Place, work};
 use crate::writer::{Writer, write_all};
 use base::{Fault, Memory};
 use board::Site;
@@ -34,8 +40,8 @@ pub(crate) struct Hands {
 }
 
 /// Starts a thread for each worker, at one of the posts each, takes on the calling thread the rows that
-/// they send, and returns once all have ended: what came, the calling thread's own post, and the others,
-/// or `Memory` where there was none for these.
+/// they send, and returns once all have ended: what came, the calling thread's own post, the others, or
+/// `Memory` where there was none for these, and the ends of the relays that came back.
 ///
 /// Faults: as of `write_all`, and before anything is written `ThreadLost` where a thread could not be
 /// started, `Memory` where its handle could not be kept.
@@ -66,46 +72,110 @@ pub(crate) fn run_threads<
     Result<Tallies, Fault>,
     RunPost<'p, 'b, K, Q, J>,
     Result<Vec<RunPost<'p, 'b, K, Q, J>>, Memory>,
+    ReturnedEnds<'b, 'b, K>,
 )
-    requires start { MayStart K.basis G.knows G.awaits rounds.now hands.workers writer }
+    requires start { MayStart K.basis G.knows G.awaits rounds.now hands.workers writer.scenario.now (length writer.takers.items) writer.tallies }
     requires countable { T.failed place.old < 2 ^ 63 }
     requires none_gathered { T.gathered place.old writer.scenario.now [] }
     ensures trace { KeepsTrace rounds.now.cluster.scenario.now (T.held place.old) (T.held place.new) (T.failed place.old) (T.failed place.new) result.0 }
     ensures gathered { IfOk result.0 (T.gathered place.new rounds.now.cluster.scenario.now) }
 {
-    let (ended, own, posts, _place) = thread::scope(
+    let (ended, own, posts, ends, _place) = thread::scope(
         thread::scope_env(),
         rt,
         move |scope| -> (
             Result<Tallies, Fault>,
             RunPost<K, Q, J>,
             Result<Vec<RunPost<K, Q, J>>, Memory>,
+            ReturnedEnds<K>,
             &mut P,
         )
             requires { IsSync R.row × IsSync G.row × IsSend Q.row
-                × MayStart K.basis G.knows G.awaits rounds.now hands.workers writer
+                × MayStart K.basis G.knows G.awaits rounds.now hands.workers writer.scenario.now (length writer.takers.items) writer.tallies
                 × (T.failed place.now < 2 ^ 63) × T.gathered place.now writer.scenario.now [] }
-            ensures same { result.3.ghost_name ≡ place.entry.ghost_name }
-            ensures trace { KeepsTrace writer.entry.scenario.now (T.held place.entry.now) (T.held result.3.now) (T.failed place.entry.now) (T.failed result.3.now) result.0 }
-            ensures gathered { IfOk result.0 (T.gathered result.3.now writer.entry.scenario.now) }
+            ensures same { result.4.ghost_name ≡ place.entry.ghost_name }
+            ensures trace { KeepsTrace writer.entry.scenario.now (T.held place.entry.now) (T.held result.4.now) (T.failed place.entry.now) (T.failed result.4.now) result.0 }
+            ensures gathered { IfOk result.0 (T.gathered result.4.now writer.entry.scenario.now) }
         {
+            let Writer {
+                scenario,
+                mut takers,
+                tallies,
+            } = writer;
             let threads = match start_workers(
                 scope, rt, alloc, &mut posts, hands, crew, rounds, gate,
             ) {
                 Ok(threads) => threads,
                 Err(fault) => {
                     crew.fail();
-                    clear(rt, &mut own, fault, rounds);
-                    return (Err(fault), own, Ok(posts), place);
+                    call_off(rt, &mut own, &mut takers, fault, rounds);
+                    let senders = Ok(Vec::new(alloc));
+                    return (
+                        Err(fault),
+                        own,
+                        Ok(posts),
+                        ReturnedEnds { takers, senders },
+                        place,
+                    );
                 }
             };
-            let written = write_all::<T, P, K, R>(rt, alloc, writer, place);
+            let written = write_all::<T, P, K, R>(rt, alloc, scenario, &mut takers, tallies, place);
             let posts = joined(rt, threads, posts);
-            take_back(rt, &mut own);
-            (written, own, posts, place)
+            let senders = take_back(rt, alloc, &mut own);
+            (written, own, posts, ReturnedEnds { takers, senders }, place)
         },
     );
-    (ended, own, posts)
+    (ended, own, posts, ends)
+}
+
+/// Ends a run by the fault where not all of its threads could be started: takes what lies on the
+/// board, and what comes from the threads that were, so that none of them waits for room in a relay.
+fn call_off<'p, 'b, 'c, K: OfRun, Q: EventQueue<Event> + Drop, J: Site>(
+    rt: &impl Wait,
+    own: &mut RunPost<'p, 'b, K, Q, J>,
+    takers: &mut Vec<BatchReceiver<'c, K>>,
+    fault: Fault,
+    rounds: &Rounds,
+)
+    requires run { K.basis ≡ Some (basis_of rounds.now) }
+    requires fault { MayEndBy (basis_of rounds.now) fault }
+{
+    clear_own(rt, own, takers, fault, rounds);
+    let _ = drained(rt, takers, fault);
+}
+
+/// Takes what lies on the board: the others are told that it has ended by the fault, and nothing more
+/// comes from it. Its relay may be full, so nothing is sent over that.
+fn clear_own<'p, 'b, 'c, K: OfRun, Q: EventQueue<Event> + Drop, J: Site>(
+    rt: &impl Wait,
+    own: &mut RunPost<'p, 'b, K, Q, J>,
+    takers: &mut Vec<BatchReceiver<'c, K>>,
+    fault: Fault,
+    rounds: &Rounds,
+)
+    requires run { K.basis ≡ Some (basis_of rounds.now) }
+    requires fault { MayEndBy (basis_of rounds.now) fault }
+{
+    let _ = rounds;
+    for _ in rt.forever() {
+        match own.take(rt) {
+            Some(BoardItem::Process(process)) => {
+                let mut process = process;
+                process.lines.tell_others(fault);
+                give_up(takers, process.lines.number);
+            }
+            Some(BoardItem::Ended(_lines)) => {}
+            None => return,
+        }
+    }
+    unreachable!()
+}
+
+/// Nothing more comes from the part of that number.
+fn give_up<'b, K: OfRun>(takers: &mut Vec<BatchReceiver<'b, K>>, number: usize) {
+    if let Some(taker) = takers.get_mut(number) {
+        taker.give_up();
+    }
 }
 
 /// Starts a thread for each of so many workers, each at one of the posts.
@@ -165,13 +235,24 @@ fn start_workers<
     Ok(threads)
 }
 
-/// How many processes that worker holds while all work: all are dealt out, and no worker has two more
-/// than another.
+/// How many processes that worker holds while all work.
 fn share_of(hands: Hands, number: usize) -> usize
     requires { number < hands.workers }
+    ensures { result ≡ share_of hands.all hands.workers number }
 {
-    (hands.workers - 1 - number).saturating_add(hands.all) / hands.workers
+    let even = hands.all / hands.workers;
+    if number < hands.all % hands.workers {
+        even + 1
+    } else {
+        even
+    }
 }
+
+/// The shares of all workers together are all processes, and none is larger than another by more than one.
+fn shares_are_even()
+    ensures all { (all workers : ℕ) → 1 ≤ workers → sum (map (share_of all workers) (range_with_len 0 workers)) ≡ all }
+    ensures near { (all workers one other : ℕ) → share_of all workers one ≤ share_of all workers other + 1 }
+{}
 
 /// These posts, and those of the threads once they have ended.
 fn joined<'p, 'b, K: OfRun, Q: EventQueue<Event> + Drop, J: Site>(

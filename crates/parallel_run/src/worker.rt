@@ -61,7 +61,7 @@ pub(crate) fn work<'p, 'b, K: OfRun, Q: EventQueue<Event> + Drop, J: Site, G: Ga
 }
 
 /// Takes what lies on the board of a run that has failed, and tells all that it has ended by the fault.
-pub(crate) fn clear<'p, 'b, K: OfRun, Q: EventQueue<Event> + Drop, J: Site>(
+fn clear<'p, 'b, K: OfRun, Q: EventQueue<Event> + Drop, J: Site>(
     rt: &impl Wait,
     post: &mut RunPost<'p, 'b, K, Q, J>,
     fault: Fault,
@@ -196,7 +196,7 @@ fn run_together<'p, 'b, K: OfRun, Q: EventQueue<Event> + Drop, J: Site, G: Gate>
     ensures holds { Holds Q.set (basis_of rounds.now) hold.new }
     ensures fault { IfErr result (MayEndBy (basis_of rounds.now)) }
 {
-    let mut patience = SpinPolicy::long();
+    let mut patience = SpinPolicy::new();
     let mut pace = Pace::new();
     for _ in rt.forever() {
         let counts = hold.run_round(rt, alloc, worker, &mut patience, post, rounds, gate)?;
@@ -230,7 +230,7 @@ fn run_alone<'p, 'b, K: OfRun, Q: EventQueue<Event> + Drop, J: Site, G: Gate>(
     ensures fault { IfErr result (MayEndBy (basis_of rounds.now)) }
 {
     gather(rt, hold, post, place.number, place.all, crew, rounds)?;
-    let mut patience = SpinPolicy::long();
+    let mut patience = SpinPolicy::new();
     for _ in 0..lasts {
         hold.run_round(rt, alloc, place.number, &mut patience, post, rounds, gate)?;
         if hold.is_empty() {

@@ -1,12 +1,12 @@
 //! Who writes the rows of a run by rings, on the thread that calls.
-ghost use Rattle.std.specs.Prelude.{◌≡◌, ◌<◌, ◌^◌, [], Ok, Err, Some, IfOk, IfErr};
+ghost use Rattle.std.specs.Prelude.{◌≡◌, ◌<◌, ◌^◌, [], length, Ok, Err, Some, IfOk, IfErr};
 ghost use Rattle.run_output.specs.Traced.{KeepsTrace};
 ghost use Rattle.lookahead_windows.specs.Basis.{Basis};
-ghost use Rattle.parallel_run.specs.Writing.{MayWrite, fault_beside};
+ghost use Rattle.parallel_run.specs.Writing.{MayTake, fault_beside};
 
-use crate::batches::{BatchReceiver, drained, next_turn};
+use crate::batch_receiver::BatchReceiver;
+use crate::batches::{drained, next_turn};
 use crate::of_run::OfRun;
-use crate::spin_policy::SpinPolicy;
 use base::{Fault, Moment};
 use lookahead_windows::first_fault;
 use reports::Tallies;
@@ -24,38 +24,34 @@ pub(crate) struct Writer<'r, 'b, K: OfRun> {
     pub(crate) tallies: Tallies,
 }
 
-/// Takes the rows of the run as they come. After a fault it goes on receiving, so that no worker
-/// waits for it, but takes nothing more.
+/// Takes the rows of the run as they come from the relays of its parts. After a fault it goes on
+/// receiving, so that no worker waits for it, but takes nothing more.
 ///
 /// Faults: `Memory`; `CounterOverflow` where a counter of the run or a count of the report would pass 2^63;
 /// `Write` where the place failed; `ThreadLost` where the rows did not come as they should. Of several
 /// the first in this order.
-pub(crate) fn write_all<'r, 'b, T: RowSink<P>, P, K: OfRun, R: Wait>(
+pub(crate) fn write_all<'b, T: RowSink<P>, P, K: OfRun, R: Wait>(
     rt: &R,
     alloc: Global,
-    writer: Writer<'r, 'b, K>,
+    scenario: &Scenario,
+    takers: &mut Vec<BatchReceiver<'b, K>>,
+    mut tallies: Tallies,
     place: &mut P,
 ) -> Result<Tallies, Fault>
-    requires writes { (basis : Basis) → K.basis ≡ Some basis → MayWrite basis writer }
+    requires writes { (basis : Basis) → K.basis ≡ Some basis → MayTake basis scenario.now (length takers.old.items) tallies }
     requires run { (basis : Basis) × (K.basis ≡ Some basis) }
     requires countable { T.failed place.old < 2 ^ 63 }
-    requires none_gathered { T.gathered place.old writer.scenario.now [] }
-    ensures trace { KeepsTrace writer.entry.scenario.now (T.held place.old) (T.held place.new) (T.failed place.old) (T.failed place.new) result }
-    ensures gathered { IfOk result (T.gathered place.new writer.entry.scenario.now) }
+    requires none_gathered { T.gathered place.old scenario.now [] }
+    ensures trace { KeepsTrace scenario.now (T.held place.old) (T.held place.new) (T.failed place.old) (T.failed place.new) result }
+    ensures gathered { IfOk result (T.gathered place.new scenario.now) }
 {
-    let Writer {
-        scenario,
-        mut takers,
-        mut tallies,
-    } = writer;
-    let mut patience = SpinPolicy::short();
     let mut so_far = T::begin(place);
     let mut since = Moment(0);
     for _ in rt.forever() {
-        let turn = match next_turn(rt, alloc, &mut takers, &mut patience, since) {
+        let turn = match next_turn(rt, alloc, takers, since) {
             Ok(turn) => turn,
             Err(fault) => {
-                let fault = drained(rt, &mut takers, &mut patience, fault);
+                let fault = drained(rt, takers, fault);
                 return Err(fault_beside(so_far, fault));
             }
         };

@@ -1,66 +1,68 @@
-//! The relay's protocol for the proofs: batches come out in the order in which they went in, and each send and each
+//! The relay's protocol for the proofs: items come out in the order in which they went in, and each send and each
 //! take says what it adds to the log of its side. These types are for the proofs alone.
-ghost use Rattle.std.specs.Prelude.{◌≡◌, ◌++◌, [], ◌∷◌, ⊤, IfSome, map};
-
-use crate::batch::{Batch, Lot};
+use crate::item::ItemRule;
 use crossbeam_channel::protocol::{Lesson, Outcome, Protocol};
-use scenario::Scenario;
 use std::collections::LinkedList;
+use std::marker::PhantomData;
 
-/// What a pass may do, the scenario that it knows, and what it has sent and taken.
-pub struct Log {
+/// What a pass may do, the value that it knows, and what it has sent and taken.
+pub struct Log<L, G> {
     pub sends: bool,
     pub takes: bool,
-    pub scenario: Option<Scenario>,
-    pub sent: LinkedList<Lot>,
-    pub taken: LinkedList<Lot>,
+    pub given: Option<G>,
+    pub sent: LinkedList<L>,
+    pub taken: LinkedList<L>,
 }
 
 /// What was sent is what was taken and then what lies in the channel.
-pub struct InOrder;
+pub struct InOrder<S>(PhantomData<S>);
 
-impl Protocol<Batch, Log> for InOrder {
+impl<T, L, G, S: ItemRule<T, L, G>> Protocol<T, Log<L, G>> for InOrder<S> {
     ghost use Rattle.std.specs.Prelude.{true, [], None};
     ghost use Rattle.relay.specs.Rule.{log, Relayed};
 
-    ghost holds = { λ items views. Relayed items views };
+    ghost holds = { Relayed S.stands_for S.is_last S.belongs };
 
     ghost first = { log true true None [] [] };
 }
 
-/// A batch was sent.
-pub struct Sent;
+/// An item was sent.
+pub struct Sent<S>(PhantomData<S>);
 
-impl Outcome<Batch, Log> for Sent {
-    ghost use Rattle.relay.specs.Lots.{lot_of};
+impl<T, L, G, S: ItemRule<T, L, G>> Outcome<T, Log<L, G>> for Sent<S> {
+    ghost use Rattle.std.specs.Prelude.{◌≡◌, ◌++◌, [], ◌∷◌};
     ghost use Rattle.relay.specs.Rule.{log};
 
-    ghost then = { λ v x w. w ≡ log v.sends v.takes v.scenario (v.sent ++ lot_of x ∷ []) v.taken };
+    ghost then = { λ v x w. w ≡ log v.sends v.takes v.given (v.sent ++ S.stands_for x ∷ []) v.taken };
 }
 
-impl Lesson<Batch, Log> for Sent {
+impl<T, L, G, S: ItemRule<T, L, G>> Lesson<T, Log<L, G>> for Sent<S> {
+    ghost use Rattle.std.specs.Prelude.{⊤};
+
     ghost fact = { λ v items. ⊤ };
 }
 
-/// A batch was taken.
-pub struct Taken;
+/// An item was taken.
+pub struct Taken<S>(PhantomData<S>);
 
-impl Outcome<Batch, Log> for Taken {
-    ghost use Rattle.relay.specs.Lots.{lot_of, BelongsTo};
+impl<T, L, G, S: ItemRule<T, L, G>> Outcome<T, Log<L, G>> for Taken<S> {
+    ghost use Rattle.std.specs.Prelude.{◌≡◌, ◌++◌, [], ◌∷◌, IfSome};
     ghost use Rattle.relay.specs.Rule.{log};
 
-    ghost then = { λ v x w. (w ≡ log v.sends v.takes v.scenario v.sent (v.taken ++ lot_of x ∷ [])) × IfSome v.scenario (λ s. BelongsTo s x) };
+    ghost then = { λ v x w. (w ≡ log v.sends v.takes v.given v.sent (v.taken ++ S.stands_for x ∷ [])) × IfSome v.given (λ g. S.belongs g x) };
 }
 
-impl Lesson<Batch, Log> for Taken {
+impl<T, L, G, S: ItemRule<T, L, G>> Lesson<T, Log<L, G>> for Taken<S> {
+    ghost use Rattle.std.specs.Prelude.{⊤};
+
     ghost fact = { λ v items. ⊤ };
 }
 
-/// What lies in the channel was sent and not taken, and a last batch has none after it.
-pub struct Left;
+/// What lies in the channel was sent and not taken, and the last item has none after it.
+pub struct Left<S>(PhantomData<S>);
 
-impl Lesson<Batch, Log> for Left {
-    ghost use Rattle.relay.specs.Lots.{lot_of, NoneAfterLast};
+impl<T, L, G, S: ItemRule<T, L, G>> Lesson<T, Log<L, G>> for Left<S> {
+    ghost use Rattle.relay.specs.Rule.{Remains};
 
-    ghost fact = { λ v items. (v.sent ≡ v.taken ++ map lot_of items) × NoneAfterLast v.sent };
+    ghost fact = { Remains S.stands_for S.is_last };
 }

@@ -2,6 +2,7 @@ use Rattle.std.proofs.Common.{◌≡◌, subst, arith}
 use Rattle.trace.specs.contracts.row.RowOrd.TheImpl.{ghosts}
 use Rattle.trace.specs.contracts.row.RowOrd.TheImpl.Laws.{total-law}
 use Rattle.windows.proofs.Order.{by_place}
+use Rattle.parallel_run.proofs.JoiningPlaces.{as_many}
 use Rattle.parallel_run.proofs.LotsJoined.{AreLotsBelow, no_lots, one_more_in_turn}
 use Rattle.parallel_run.proofs.LotsNext.{turn_of_all}
 use Rattle.parallel_run.proofs.batches.next_turn.Goals as goal
@@ -21,3 +22,9 @@ returns-clause-next g c = λ basis is.
     turn_of_all basis c.args.since _ c.loop-number.all.rows.items ghosts.cmp known.0
     (subst (λ n. AreLotsBelow basis c.args.since n c.loop-number.all.until c.loop-number.all.round c.loop-number.all.last c.loop-number.all.rows.items) all (c.loop-number.invariant basis is))
     (record { total = total-law; agrees = λ a b before. by_place a b _ before }) c.sort.ensures.same c.in_ok-sort.ensures.sorted
+
+pub returns-in_err-sort-clause-count : goal.returns-in_err-sort-clause-count
+returns-in_err-sort-clause-count g c = as_many c.args.takers.now.len c.loop-number.taker-items c.args.takers.now.items (omega arith) (omega arith)
+
+pub returns-clause-count : goal.returns-clause-count
+returns-clause-count g c = as_many c.args.takers.now.len c.loop-number.taker-items c.args.takers.now.items (omega arith) (omega arith)

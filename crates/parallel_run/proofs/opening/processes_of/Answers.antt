@@ -12,7 +12,7 @@ use Rattle.parallel_run.specs.Peers.{AreJoined, AreOthers, numbers_of}
 use Rattle.parallel_run.specs.Processes.{IsReady}
 use Rattle.parallel_run.proofs.Joining.{rings_of, joined_there}
 use Rattle.parallel_run.proofs.JoiningPlaces.{all_with_one}
-use Rattle.parallel_run.proofs.PeersOpening.{begins_first}
+use Rattle.parallel_run.proofs.PeersOpening.{begins_first, one_less}
 use Rattle.parallel_run.proofs.WorkerRounds.{gathers_none}
 use Rattle.parallel_run.proofs.opening.processes_of.Goals as goal
 
@@ -20,11 +20,12 @@ pub loop-part-init : goal.loop-part-init
 loop-part-init g c =
     let parts = c.args.parts.items in
     let peers = c.in_ok-peers.peers.items in
-    let are = subst (λ n. AreJoined n (map rings_of peers)) c.requires.bells c.in_ok-peers.ensures in
+    let are = subst (λ n. AreJoined n (map rings_of peers)) c.requires.event_counts c.in_ok-peers.ensures in
     record {
       left = c.into_iter-part-iterator.ensures.into_iter_gives.0;
       count = ap length c.new-processes.ensures.items;
       takers = ap length c.new-takers.ensures.items;
+      ends = c.requires.ends ∙ ap length (sym c.into_iter-part-iterator.ensures.into_iter_gives.0);
       rings = sym (length-map peers rings_of) ∙ are.counted;
       others = λ i own low here. joined_there (length parts) i peers own are here;
       processes = λ basis is. subst (AllByRecursion (IsReady g.Q.EventQueue.set basis)) (sym c.new-processes.ensures.items) tt;
@@ -49,12 +50,13 @@ loop-part-preserved g c =
     let others =
     subst (λ n. AreOthers (length c.args.parts.items) n (numbers_of own.items)) is_next
     (subst (λ (v : Vec (Peer g.row.K.Denot) Global). AreOthers (length c.args.parts.items) number (numbers_of v.items)) (sym c.replace-own.ensures.value) (so_far.others number c.index_mut.result.now (omega arith) there)) in
-    let lines : Connections g.row.K.Denot = record { number = number; peers = own; lots = c.in_ok-lots.lots } in
-    let process : Process g.row.K.Denot g.row.Q.Denot = record { part = part; round = 0; first = c.same_moment.result; gathered = c.new-gathered.result; lines = lines } in
+    let lines : Connections g.row.K.Denot g.K.OfRun = record { number = number; peers = own; lots = c.in-Some-pop.field-0.sender } in
+    let process : Process g.row.K.Denot g.row.Q.Denot g.K.OfRun = record { part = part; round = 0; first = c.same_moment.result; gathered = c.new-gathered.result; lines = lines } in
     record {
       left = append_assoc yielded (part ∷ []) rest ∙ all;
       count = omega (arith, c.in_ok-push.ensures.len, more, so_far.count);
       takers = omega (arith, c.in_ok-push-2.ensures.len, more, so_far.takers);
+      ends = one_less _ _ _ _ _ _ c.in-Some-pop.ensures.items c.in-Some.ensures.steps.0 so_far.ends;
       rings = same_count peers number c.replace-own.new.dest ∙ so_far.rings;
       others = λ i peers low here. so_far.others i peers (omega (arith, more)) (sym (elsewhere c.loop-part.peers.items number i c.replace-own.new.dest (λ same. omega (arith, more))) ∙ here);
       processes = λ basis is.

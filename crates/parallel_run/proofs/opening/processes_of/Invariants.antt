@@ -11,6 +11,7 @@ invariant-loop-part g l = record {
   left : l.yielded ++ l.part-iterator.rest.items ≡ l.fn.parts.items;
   count : length l.processes.items ≡ length l.yielded;
   takers : length l.takers.items ≡ length l.yielded;
+  ends : length l.ends.items ≡ length l.part-iterator.rest.items;
   rings : length l.peers.items ≡ length l.fn.parts.items;
   others : (i : ℕ) (peers : Vec (Peer g.row.K.Denot) Global) → length l.yielded ≤ i → slice_get l.peers.items i ≡ Some peers → AreOthers (length l.fn.parts.items) i (numbers_of peers.items);
   processes : (basis : Basis) → g.K.OfRun.basis ≡ Some basis → AllByRecursion (IsReady g.Q.EventQueue.set basis) l.processes.items;

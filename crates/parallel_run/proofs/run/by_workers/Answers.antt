@@ -24,8 +24,14 @@ first_of_parts set basis parts slice first is stand same least t =
       λ up. none_of_world set basis.deal parts (opening s) stand t (λ q there. is.plan.below q.to (receiver_low s (opening s) q (get (opening s).pending q) (opening_whole s is.plan.sound).sound refl there)) (here.1 up),
     )
 
-pub returns-in_err-bells-clause-trace : goal.returns-in_err-bells-clause-trace
-returns-in_err-bells-clause-trace g c = no_memory c.args.rounds.now.cluster.scenario.now (g.T.RowSink.held c.args.place.now) (g.T.RowSink.failed c.args.place.now) c.from_residual.result c.requires.rounds.basis.plan.sound c.from_residual.ensures.1
+pub returns-in_err-event_counts-clause-trace : goal.returns-in_err-event_counts-clause-trace
+returns-in_err-event_counts-clause-trace g c = no_memory c.args.rounds.now.cluster.scenario.now (g.T.RowSink.held c.args.place.now) (g.T.RowSink.failed c.args.place.now) c.from_residual.result c.requires.rounds.basis.plan.sound c.from_residual.ensures.1
+
+pub ends_of-requires-clause-run : goal.ends_of-requires-clause-run
+ends_of-requires-clause-run g c = (basis_of c.args.rounds.now, c.requires.run, c.requires.relay_seats)
+
+pub returns-in_err-ends-clause-trace : goal.returns-in_err-ends-clause-trace
+returns-in_err-ends-clause-trace g c = no_memory c.args.rounds.now.cluster.scenario.now (g.T.RowSink.held c.args.place.now) (g.T.RowSink.failed c.args.place.now) c.from_residual-in_err-ends.result c.requires.rounds.basis.plan.sound c.from_residual-in_err-ends.ensures.1
 
 pub returns-in_err-processes-clause-trace : goal.returns-in_err-processes-clause-trace
 returns-in_err-processes-clause-trace g c = no_memory c.args.rounds.now.cluster.scenario.now (g.T.RowSink.held c.args.place.now) (g.T.RowSink.failed c.args.place.now) c.from_residual-in_err-processes.result c.requires.rounds.basis.plan.sound c.from_residual-in_err-processes.ensures.1

@@ -1,6 +1,7 @@
 use Rattle.std.proofs.Common.{Err, refl, sym, subst}
 use Rattle.run_output.specs.Traced.{KeepsTrace}
 use Rattle.run_output.proofs.Early.{unwritten}
+use Rattle.parallel_run.proofs.ClosingEndings.{on_same, if_same}
 use Rattle.parallel_run.proofs.run.over_board.Goals as goal
 
 pub returns-in-Err-clause-trace : goal.returns-in-Err-clause-trace
@@ -13,4 +14,10 @@ returns-in-Err-clause-trace g c =
     (unwritten s (held old) (failed old) (Err c.in-Err.fault) c.in-Err.fault c.requires.start.going.basis.plan.sound refl c.in-Err.ensures.fault)
 
 pub returns-clause-trace : goal.returns-clause-trace
-returns-clause-trace g c = c.closed.ensures.keeps _ _ _ _ _ c.in-Ok.ensures.trace
+returns-clause-trace g c = c.closed-outcome.ensures.keeps _ _ _ _ _ c.in-Ok.ensures.trace
+
+pub returns-clause-gathered : goal.returns-clause-gathered
+returns-clause-gathered g c = if_same c.closed-outcome.result.0 c.in-Ok.ended.0 _ c.closed-outcome.ensures.same c.in-Ok.ensures.gathered
+
+pub returns-clause-relayed : goal.returns-clause-relayed
+returns-clause-relayed g c = on_same c.closed-outcome.result.0 c.in-Ok.ended.0 _ c.closed-outcome.ensures.same c.in-Ok.ensures.relayed

@@ -1,10 +1,15 @@
-use Rattle.std.proofs.Common.{length, ap, ◌∙◌, sym, subst}
+use Rattle.std.proofs.Common.{◌≡◌, ℕ, List, length, ap, ◌∙◌, sym, subst, arith}
+use Rattle.std.specs.List.{AllByRecursion}
+use Rattle.scenario.specs.Setup.{Setup}
+use Rattle.scenario.specs.Division.{Deal}
 use Rattle.lookahead.specs.Between.{part_number}
 use Rattle.lookahead_windows.specs.Plan.{AreWaysInto}
 use Rattle.lookahead_windows.specs.Basis.{way_at}
 use Rattle.run_output.proofs.Early.{no_memory}
 use Rattle.lookahead_windows.specs.Basis.{basis_of}
 use Rattle.lookahead_windows.specs.Walks.{AreRoundWays}
+use Rattle.parallel_run.specs.Relaying.{RowRelay, basis_by, basis_in}
+use Rattle.parallel_run.specs.Relays.{AreNewSeats}
 use Rattle.parallel_run.proofs.GateBounds.{awaits_rounds, ways_of}
 use Rattle.parallel_run.proofs.run.run_into.Goals as goal
 
@@ -19,6 +24,9 @@ returns-in_err-walks-clause-trace g c = no_memory c.args.scenario.now (g.T.RowSi
 
 pub returns-in_err-ways-clause-trace : goal.returns-in_err-ways-clause-trace
 returns-in_err-ways-clause-trace g c = no_memory c.args.scenario.now (g.T.RowSink.held c.args.place.now) (g.T.RowSink.failed c.args.place.now) c.from_residual-in_err-ways.result c.end-end.ensures.sound c.from_residual-in_err-ways.ensures.1
+
+pub returns-in_err-relays-clause-trace : goal.returns-in_err-relays-clause-trace
+returns-in_err-relays-clause-trace g c = no_memory c.args.scenario.now (g.T.RowSink.held c.args.place.now) (g.T.RowSink.failed c.args.place.now) c.from_residual-in_err-relays.result c.end-end.ensures.sound c.from_residual-in_err-relays.ensures.1
 
 -- ---- the ways into the parts
 
@@ -42,3 +50,19 @@ by_workers-requires-clause-windows g c _ _ =
     let by = ways_of s deal _ (record { parts = c.in_ok-walks.ensures.parts; between = made.0; least = made.1; walks = made.2 })
     (ap length ways ∙ c.in_ok-ways.ensures.count ∙ c.in_ok-walks.ensures.parts) (subst (AreRoundWays s _) (sym ways) c.in_ok-ways.ensures.ticks) in
     awaits_rounds g.G.Gate.awaits (basis_of c.rounds_of.result) s deal (ap (λ cluster. cluster.scenario.now) c.rounds_of.ensures.cluster) c.rounds_of.ensures.division by c.requires.windows
+
+-- ---- the relays over which rows go
+
+by_same : (s t : Setup) (d e : Deal) (v w : List ℕ) → s ≡ t → d ≡ e → v ≡ w → basis_by s d v ≡ basis_by t e w
+by_same s t d e v w setup deal ways = λ i. basis_by (setup i) (deal i) (ways i)
+
+pub by_workers-requires-clause-relay_seats : goal.by_workers-requires-clause-relay_seats
+by_workers-requires-clause-relay_seats g c _ _ =
+    let made = c.rounds_of.ensures in
+    let same : basis_in c.of-run.result ≡ basis_of c.rounds_of.result =
+    c.of-run.ensures ∙ by_same _ _ _ _ _ _ (sym (ap (λ cluster. cluster.scenario.now) made.cluster)) (sym made.division) (sym (made.ways ∙ c.deref.ensures.value)) in
+    subst (λ (relays : List RowRelay). AllByRecursion (AreNewSeats relays (basis_of c.rounds_of.result)) c.in_ok-relays.relay_seats.items) (sym c.deref-2.ensures.value)
+    (subst (λ basis. AllByRecursion (AreNewSeats c.in_ok-relays.relays.items basis) c.in_ok-relays.relay_seats.items) same c.in_ok-relays.ensures.seats)
+
+pub by_workers-requires-clause-seats_each : goal.by_workers-requires-clause-seats_each
+by_workers-requires-clause-seats_each g c _ _ = omega (arith, c.in_ok-relays.ensures.count.1)

@@ -7,14 +7,14 @@ use Rattle.parallel_run.proofs.writer.write_all.Goals as goal
 
 pub loop-init : goal.loop-init
 loop-init g c =
-    let s = c.args.writer.scenario.now in
+    let s = c.args.scenario.now in
     let basis = c.requires.run.0 in
     let may = c.requires.writes basis c.requires.run.1 in
     record {
       goes_on = (tt, tt);
       writing =
-          begins g.K.OfRun.basis s (length c.args.writer.takers.items) (g.T.RowSink.held c.args.place.now) (g.T.RowSink.held c.begin-so_far.new.place) (g.T.RowSink.failed c.args.place.now) (g.T.RowSink.failed c.begin-so_far.new.place)
-          c.args.writer.tallies c.begin-so_far.result basis c.requires.run.1 may.basis_is may.one may.takers may.none_tallied (c.begin-so_far.ensures.written s) c.begin-so_far.ensures.failures;
+          begins g.K.OfRun.basis s (length c.args.takers.now.items) (g.T.RowSink.held c.args.place.now) (g.T.RowSink.held c.begin-so_far.new.place) (g.T.RowSink.failed c.args.place.now) (g.T.RowSink.failed c.begin-so_far.new.place)
+          c.args.tallies c.begin-so_far.result basis c.requires.run.1 may.basis_is may.one may.takers may.none_tallied (c.begin-so_far.ensures.written s) c.begin-so_far.ensures.failures;
       gathered = on_any c.begin-so_far.result (subst (g.T.RowSink.gathered c.begin-so_far.new.place s) (sym may.none_tallied) (c.begin-so_far.ensures.gathered s [] c.requires.none_gathered));
     }
 
@@ -24,7 +24,7 @@ next_turn-requires g c = record { all = takes _ _ _ _ _ _ _ _ _ _ c.loop.invaria
 pub returns-in-Err-clause-trace : goal.returns-in-Err-clause-trace
 returns-in-Err-clause-trace g c =
     let failed = g.T.RowSink.failed in
-    subst (λ fault. KeepsTrace c.args.writer.scenario.now (g.T.RowSink.held c.args.place.now) (g.T.RowSink.held c.loop.place) (failed c.args.place.now) (failed c.loop.place) (Err fault)) (sym c.fault_beside.ensures)
+    subst (λ fault. KeepsTrace c.args.scenario.now (g.T.RowSink.held c.args.place.now) (g.T.RowSink.held c.loop.place) (failed c.args.place.now) (failed c.loop.place) (Err fault)) (sym c.fault_beside.ensures)
     (ends_by _ _ _ _ _ _ _ _ _ _ c.loop.invariant.writing c.drained-fault.result c.drained-fault.ensures)
 
 pub take_on-so_far-requires-clause-named : goal.take_on-so_far-requires-clause-named

@@ -1,4 +1,4 @@
-use Rattle.parallel_run.proofs.WorkerEndings.{may_deliver, on_true, lot_of_run, later_gathered, gathered_rise}
+use Rattle.parallel_run.proofs.WorkerEndings.{on_true, lot_of_run, later_gathered, gathered_rise}
 use Rattle.parallel_run.proofs.connections.Connections.send_lot.Goals as goal
 
 pub lot-requires : goal.lot-requires
@@ -10,13 +10,11 @@ lot-requires g c =
 
 pub send-requires : goal.send-requires
 send-requires g c = record {
-  allowed = λ before.
-      may_deliver g.K.OfRun.basis before _
-      (λ basis known.
+  delivered = λ basis known.
       let there = c.requires.gathered basis known in
       let lot = c.in_ok-lot.ensures in
       lot_of_run basis (c.requires.basis basis known) c.args.self.now.number c.args.until there.0 c.args.gathered.now c.lot.new.self c.in_ok-lot.lot there.1 there.2 lot.moments lot.rows lot.before lot.later
-      c.args.round c.args.last (λ ends. on_true c.args.last c.requires.lasted ends basis known) lot.from lot.round lot.last);
+      c.args.round c.args.last (λ ends. on_true c.args.last c.requires.lasted ends basis known) lot.from lot.round lot.last;
 }
 
 pub returns-then-send-clause-gathered : goal.returns-then-send-clause-gathered

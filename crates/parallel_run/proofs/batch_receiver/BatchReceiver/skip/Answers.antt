@@ -1,7 +1,7 @@
 use Rattle.std.proofs.Common.{sym, subst}
 use Rattle.parallel_run.specs.Messages.{MayEndBy}
 use Rattle.parallel_run.proofs.LotsFaults.{first_may}
-use Rattle.parallel_run.proofs.batches.BatchReceiver.skip.Goals as goal
+use Rattle.parallel_run.proofs.batch_receiver.BatchReceiver.skip.Goals as goal
 
 pub returns-in-Err : goal.returns-in-Err
 returns-in-Err g c = λ basis is.

@@ -1,0 +1,28 @@
+use Rattle.std.proofs.Common.{List, arith, length, sym, subst, ap, ◌∙◌}
+use Rattle.std.specs.List.{slice_get}
+use Rattle.std.proofs.lemmas.Option.{none-some}
+use Rattle.parallel_run.specs.Relaying.{RowRelay}
+use Rattle.parallel_run.specs.Relays.{IsClosed}
+use Rattle.parallel_run.proofs.Relaying.{closed_more}
+use Rattle.parallel_run.proofs.relay_ends.close_all.Goals as goal
+
+pub loop-number-init : goal.loop-number-init
+loop-number-init g c = record {
+  count = ap length c.new-closed.ensures.items;
+  each = λ i one here. absurd (none-some one (ap (λ l. slice_get l i) (sym c.new-closed.ensures.items) ∙ here));
+}
+
+pub loop-number-preserved : goal.loop-number-preserved
+loop-number-preserved g c =
+    let so_far = c.loop-number.invariant in
+    let one = c.in_ok-relay.relay in
+    record {
+      count = omega (arith, c.in-Ok.ensures.len, so_far.count);
+      each =
+          closed_more c.args.relays.now c.loop-number.closed.items c.push.new.self.items one so_far.each
+          (subst (λ number. IsClosed c.args.relays.now number one) (sym so_far.count) (subst (λ (relays : List RowRelay). IsClosed relays c.loop-number.number one) c.requires c.in_ok-relay.ensures.closed))
+          c.in-Ok.ensures.items;
+    }
+
+pub returns-clause-relayed : goal.returns-clause-relayed
+returns-clause-relayed g c = record { count = omega (arith, c.loop-number.invariant.count); each = c.loop-number.invariant.each }

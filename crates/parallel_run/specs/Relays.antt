@@ -1,0 +1,32 @@
+-- The seats of the relays of a run, as it begins and as it ends.
+use Rattle.std.specs.Prelude.{◌≡◌, ℕ, true, List, [], Some, length}
+use Rattle.std.specs.List.{slice_get}
+use Rattle.relay.specs.Seats.{given_of, sent_by, taken_by, IsSender, IsTaker}
+use Rattle.lookahead_windows.specs.Basis.{Basis}
+use Rattle.parallel_run.specs.declared.row_relay.RelaySeats.{RelaySeats}
+use Rattle.parallel_run.specs.declared.closed_relay.ClosedRelay.{ClosedRelay}
+use Rattle.parallel_run.specs.Relaying.{RowRelay, basis_in, has_last_batch}
+
+-- these are the seats of the relay of that number, which goes by what the run goes by, and nothing was sent over it
+pub record AreNewSeats (relays : List RowRelay) (basis : Basis) (seats : RelaySeats) : Type 0 where
+  pub here : slice_get relays seats.number ≡ Some seats.relay.value
+  pub given : basis_in (given_of seats.relay.value) ≡ basis
+  pub sends : IsSender seats.relay.value seats.sender
+  pub takes : IsTaker seats.relay.value seats.taker
+  pub none_sent : sent_by seats.sender ≡ []
+
+-- what was sent over the relay is what was received, and the last batch of its part was
+pub record IsRelayed (relay : RowRelay) (one : ClosedRelay) : Type 0 where
+  pub sends : IsSender relay one.sent.value
+  pub takes : IsTaker relay one.taken.value
+  pub all : taken_by one.taken.value ≡ sent_by one.sent.value
+  pub last : has_last_batch (taken_by one.taken.value) ≡ true
+
+-- so it is of the relay of that number
+abbrev pub IsClosed : List RowRelay → ℕ → ClosedRelay → Type 0
+IsClosed relays number one = (relay : RowRelay) × (slice_get relays number ≡ Some relay) × IsRelayed relay one
+
+-- so it is of each of these relays
+pub record AreRelayed (relays : List RowRelay) (closed : List ClosedRelay) : Type 0 where
+  pub count : length closed ≡ length relays
+  pub each : (number : ℕ) (one : ClosedRelay) → slice_get closed number ≡ Some one → IsClosed relays number one
