@@ -4,9 +4,11 @@
 mod by_settings;
 mod fault;
 mod lines;
+mod open_rows;
 mod settings_of;
 
 pub use by_settings::{read_setting, read_settings};
 pub use fault::LineFault;
 pub use lines::{read_line, read_lines};
+pub use open_rows::open_rows;
 pub use settings_of::{StandingSettings, are_settings_of, settings_of_runs};
