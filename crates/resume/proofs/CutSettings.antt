@@ -184,8 +184,7 @@ module _ (tree : Data) (mark : List ℕ) (sweep : Sweep) (width : ℕ) (p : Shar
           let size : length b.lines ≡ length before = sym (length-map b.lines (λ (l : Line). l.note)) ∙ ap length b.noted in
           let lines : b.lines ≡ setting_from revived key (take (length before) one) =
           sym (ap (take (length before)) tail.1 ∙ take_at b.lines tail.0 (length before) size) ∙ take-map (line_from revived key) (length before) one in
-          let long : length one ≡ length b.lines + length tail.0 = sym (length-map one (line_from revived key)) ∙ ap length tail.1 ∙ length-append b.lines tail.0 in
-          (
+          let long : length one ≡ length b.lines + length tail.0 = sym (length-map one (line_from revived key)) ∙ ap length tail.1 ∙ length-append b.lines tail.0 in (
             omega (arith, long, size),
             sym (setting_noted revived key (take (length before) one)) ∙ ap notes_of (sym lines) ∙ b.noted,
             ap shard_setting lines ∙ setting_in_shard revived key (take (length before) one),
@@ -294,7 +293,7 @@ module _ (tree : Data) (mark : List ℕ) (sweep : Sweep) (width : ℕ) (p : Shar
             let short = it.0 in
             let none : [] ≡ flat_map (noted_line revived key) (all_of (take settings made)) = ap (λ n. flat_map (noted_line revived key) (all_of (take n made))) (sym short.no_run) in
             settings_again [] none it.1 (short_again header text kept short.rest short.written short.all ∙ sym (append-nil header))
-        by (inr it) = on it.open
+        by (inr it) = on it.started
           where
             on : AreLinesBehind key sweep width (first_setting sweep p) (settings_in sweep p) settings it.left it.after before → WritesShardUntil tree mark sweep p (Some []) new
             on (inl none) = whole_behind it none.2 none.1

@@ -45,7 +45,7 @@ left_within key sweep width first count front left begins =
 -- nor is what is left behind the lines of a setting that needs more
 pub after_within : (key : List ℕ) (sweep : Sweep) (width first most settings : ℕ) (left after : List ℕ) (before : List Note) → AreLinesBehind key sweep width first most settings left after before
     → length after ≤ length left
-after_within key sweep width first most settings left after before open = by open
+after_within key sweep width first most settings left after before started = by started
   where
     by : AreLinesBehind key sweep width first most settings left after before → length after ≤ length left
     by (inl it) = omega (arith, ap length it.2)
@@ -56,7 +56,7 @@ pub lines_behind : (key : List ℕ) (sweep : Sweep) (width first most settings n
     → settings ≤ most → (settings ≡ most) ⊎ ¬ (HasSettingOf key sweep width (first + settings) left) → (past ≤ number → (before ≡ []) × (after ≡ left))
     → (number < past → (w : ℕ) → ¬ (HasSettingOf key sweep w number left) → BeginsWithOpen key sweep w number left after before)
     → AreLinesBehind key sweep width first most settings left after before
-lines_behind key sweep width first most settings number past left after before at end few no_more none open = by no_more
+lines_behind key sweep width first most settings number past left after before at end few no_more none started = by no_more
   where
     by : (settings ≡ most) ⊎ ¬ (HasSettingOf key sweep width (first + settings) left) → AreLinesBehind key sweep width first most settings left after before
     by (inl all) = (let it = none (omega (arith, all, at, end)) in inl (all, it.0, it.1))
@@ -65,10 +65,9 @@ lines_behind key sweep width first most settings number past left after before a
         on : (less : Bool) → ltb number past ≡ less → AreLinesBehind key sweep width first most settings left after before
         on true is =
             let low = ltb-true number past is in
-            inr
-            (
+            inr (
               omega (arith, low, at, end),
-              subst (λ n. BeginsWithOpen key sweep width n left after before) at (open (omega (arith, low)) width (subst (λ n. ¬ (HasSettingOf key sweep width n left)) (sym at) not)),
+              subst (λ n. BeginsWithOpen key sweep width n left after before) at (started (omega (arith, low)) width (subst (λ n. ¬ (HasSettingOf key sweep width n left)) (sym at) not)),
             )
         on false is =
             let high = ltb-false number past is in
@@ -94,7 +93,7 @@ module _ (revived : Bool) (mark : List ℕ) (sweep : Sweep) (width : ℕ) (p : S
       → text ≡ header ++ rest → (unread : List ℕ) × IsRead rest front unread → BeginsWithSettings key sweep width first front left settings
       → kept + (length rest - length front) + length after ≡ length text → settings ≤ most → AreLinesBehind key sweep width first most settings left after before
       → IsBegunSettings revived mark sweep width p text kept settings before
-  long_stands key first most its_key at all rest front left after kept settings before behind read begins stay few open =
+  long_stands key first most its_key at all rest front left after kept settings before behind read begins stay few started =
       let unread = read.0 in
       let long : length rest ≡ length front + length unread = ap length read.1.written ∙ length-append front unread in
       let more : length (after ++ unread) ≡ length after + length unread = length-append after unread in
@@ -108,9 +107,9 @@ module _ (revived : Bool) (mark : List ℕ) (sweep : Sweep) (width : ℕ) (p : S
           left = left;
           begins = subst (λ k. BeginsWithSettings k sweep width (first_setting sweep p) front left settings) its_key (subst (λ n. BeginsWithSettings key sweep width n front left settings) at begins);
           after = after;
-          open = subst (λ n. AreLinesBehind (sweep_key mark sweep) sweep width (first_setting sweep p) n settings left after before) all
+          started = subst (λ n. AreLinesBehind (sweep_key mark sweep) sweep width (first_setting sweep p) n settings left after before) all
               (subst (λ k. AreLinesBehind k sweep width (first_setting sweep p) most settings left after before) its_key
-              (subst (λ n. AreLinesBehind key sweep width n most settings left after before) at open));
+              (subst (λ n. AreLinesBehind key sweep width n most settings left after before) at started));
           stay = omega (arith, stay, long, more);
         });
         few = subst (λ n. settings ≤ n) all few;
@@ -131,7 +130,7 @@ module _ (revived : Bool) (mark : List ℕ) (sweep : Sweep) (width : ℕ) (p : S
         by : (IsShort header text kept settings × (before ≡ []))
             ⊎ AreSettingsBehind (sweep_key mark sweep) sweep width (first_setting sweep p) (settings_in sweep p) header text kept settings before → CanGoOn sweep p header kept settings before
         by (inl short) = none_stands short.1
-        by (inr it) = on it.open
+        by (inr it) = on it.started
           where
             on : AreLinesBehind (sweep_key mark sweep) sweep width (first_setting sweep p) (settings_in sweep p) settings it.left it.after before → CanGoOn sweep p header kept settings before
             on (inl none) = none_stands none.1

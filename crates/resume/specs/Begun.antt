@@ -33,7 +33,7 @@ pub record AreSettingsBehind (key : List ℕ) (sweep : Sweep) (width first most 
   pub left : List ℕ
   pub begins : BeginsWithSettings key sweep width first front left settings
   pub after : List ℕ
-  pub open : AreLinesBehind key sweep width first most settings left after before
+  pub started : AreLinesBehind key sweep width first most settings left after before
   pub stay : kept + length (after ++ unread) ≡ length text
 
 -- So much of the table of a shard stands in the text: so many bytes stay, with the lines of so many whole settings, and of the next one those with this metadata.

@@ -28,7 +28,7 @@ pub struct BegunSettings {
     /// How many settings have the lines of all their runs there.
     pub settings: usize,
     /// The metadata of the other lines there: those of the next setting, which needs more runs.
-    pub open: Vec<RunMetadata>,
+    pub started: Vec<RunMetadata>,
 }
 
 /// What stands of a shard's table in a text, where a setting has as many runs as make its interval so many hundredths wide at
@@ -49,14 +49,14 @@ pub fn begun_settings_of(
     requires asked { IsAskedFor plan.now }
     requires shard { IsShard shard }
     requires wanted { plan.now.until ≡ Some width }
-    ensures begun { IfOk result (λ begun. IsBegunSettings (counts_revived (view document.now)) mark.now plan.now width shard text.now begun.kept begun.settings begun.open.items) }
+    ensures begun { IfOk result (λ begun. IsBegunSettings (counts_revived (view document.now)) mark.now plan.now width shard text.now begun.kept begun.settings begun.started.items) }
     ensures refused { IfErr result (RefusesBegunSettings (counts_revived (view document.now)) mark.now plan.now shard text.now) }
 {
     let Some(lines) = lines_behind(alloc, plan, shard, mark, document, text)? else {
         return Ok(BegunSettings {
             kept: text.len(),
             settings: 0,
-            open: Vec::new(alloc),
+            started: Vec::new(alloc),
         });
     };
     let key = sweep_key(alloc, plan, mark)?;
@@ -66,14 +66,22 @@ pub fn begun_settings_of(
     let words = read_front(lines);
     let stood = settings_of_runs(alloc, plan, &key, width, first, most, words)?;
     let settings = stood.count;
-    let mut open = Vec::new(alloc);
+    let mut started = Vec::new(alloc);
     let number = first + settings;
-    let left = behind_open(alloc, plan, &key, number, first + most, stood.left, &mut open)?;
+    let left = behind_open(
+        alloc,
+        plan,
+        &key,
+        number,
+        first + most,
+        stood.left,
+        &mut started,
+    )?;
     let kept = kept_of(text, lines, words, left);
     Ok(BegunSettings {
         kept,
         settings,
-        open,
+        started,
     })
 }
 
@@ -86,17 +94,17 @@ fn behind_open<'a>(
     number: usize,
     past: usize,
     text: &'a str,
-    open: &mut Vec<RunMetadata>,
+    started: &mut Vec<RunMetadata>,
 ) -> Result<&'a str, Memory>
     requires asked { IsAskedFor plan.now }
     requires within { past ≤ setting_count plan.now.swept_keys }
-    requires none { open.old.items ≡ [] }
-    ensures past { IfOk result (λ left. past ≤ number → (open.new.items ≡ []) × (left.now ≡ text.entry.now)) }
-    ensures open { IfOk result (λ left. number < past → (width : ℕ) → ¬ (HasSettingOf key.now plan.now width number text.entry.now)
-        → BeginsWithOpen key.now plan.now width number text.entry.now left.now open.new.items) }
+    requires none { started.old.items ≡ [] }
+    ensures past { IfOk result (λ left. past ≤ number → (started.new.items ≡ []) × (left.now ≡ text.entry.now)) }
+    ensures open_lines { IfOk result (λ left. number < past → (width : ℕ) → ¬ (HasSettingOf key.now plan.now width number text.entry.now)
+        → BeginsWithOpen key.now plan.now width number text.entry.now left.now started.new.items) }
 {
     if number < past {
-        return open_rows(alloc, plan, key, number, text, open);
+        return open_rows(alloc, plan, key, number, text, started);
     }
     Ok(text)
 }

@@ -98,7 +98,7 @@ pub(crate) fn make_rest<S: Sink, P: Progress>(
     mark: &str,
     kept: usize,
     count: usize,
-    open: &[RunMetadata],
+    started: &[RunMetadata],
     document: &Value,
     workers: Workers,
     progress: &mut P,
@@ -107,16 +107,16 @@ pub(crate) fn make_rest<S: Sink, P: Progress>(
     requires asked { IsAskedFor plan.now }
     requires shard { IsShard shard }
     requires judged { AreAccepted (view document.now) plan.now }
-    requires few { FitShard plan.now.until plan.now shard (shard_header (counts_revived (view document.now)) mark.now plan.now shard) kept (standing count open.now) }
+    requires few { FitShard plan.now.until plan.now shard (shard_header (counts_revived (view document.now)) mark.now plan.now shard) kept (standing count started.now) }
     requires countable { S.failed table.old < 2 ^ 63 }
-    ensures whole { OnOk result (WritesRunsBehind plan.now.until (view document.now) mark.now plan.now shard kept (standing count open.now) (S.held table.old) (S.held table.new)) }
-    ensures part { OnErr result (BeginsRunsBehind plan.now.until (view document.now) mark.now plan.now shard kept (standing count open.now) (S.held table.old) (S.held table.new)) }
+    ensures whole { OnOk result (WritesRunsBehind plan.now.until (view document.now) mark.now plan.now shard kept (standing count started.now) (S.held table.old) (S.held table.new)) }
+    ensures part { OnErr result (BeginsRunsBehind plan.now.until (view document.now) mark.now plan.now shard kept (standing count started.now) (S.held table.old) (S.held table.new)) }
     ensures causes { IfErr result (HasCause (view document.now) plan.now) }
     ensures failures { S.failed table.new ≡ S.failed table.old + sink_failures result }
 {
     match plan.until() {
         Some(_) => write_rest_until(
-            rt, alloc, plan, shard, mark, kept, count, open, document, workers, progress, table,
+            rt, alloc, plan, shard, mark, kept, count, started, document, workers, progress, table,
         ),
         None => {
             let begun = Begun { kept, runs: count };

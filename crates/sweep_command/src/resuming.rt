@@ -29,7 +29,7 @@ pub(crate) struct Stays {
     /// Of how many runs they have the lines, or of how many whole settings where these have as many runs as are enough.
     pub(crate) count: usize,
     /// The metadata of their lines of the next such setting.
-    pub(crate) open: Vec<RunMetadata>,
+    pub(crate) started: Vec<RunMetadata>,
 }
 
 /// What stays of the table that the words name, where they ask for a shard that goes on.
@@ -44,7 +44,7 @@ pub(crate) fn find_standing<'a, F: Files>(
 ) -> Result<Stays, Failure<'a>>
     requires asked { IsAskedFor words.now.plan }
     requires shard { ForSome words.now.shard IsShard }
-    ensures stood { IfOk result (λ s. GoesOn (view marked.now.document) (string_bytes marked.now.mark) words.now (F.known files.old words.now.table.now) s.kept (standing s.count s.open.items)) }
+    ensures stood { IfOk result (λ s. GoesOn (view marked.now.document) (string_bytes marked.now.mark) words.now (F.known files.old words.now.table.now) s.kept (standing s.count s.started.items)) }
     ensures failed { IfErr result (CannotGoOn (view marked.now.document) (string_bytes marked.now.mark) words.now (F.known files.old words.now.table.now)) }
     ensures same { F.known files.new ≡ F.known files.old }
     ensures making { F.making files.new ≡ F.making files.old }
@@ -58,7 +58,7 @@ pub(crate) fn find_standing<'a, F: Files>(
         None => Ok(Stays {
             kept: 0,
             count: 0,
-            open: Vec::new(alloc),
+            started: Vec::new(alloc),
         }),
     }
 }
@@ -101,7 +101,7 @@ fn stays_in<'a>(
     requires asked { IsAskedFor words.now.plan }
     requires shard { IsShard shard }
     ensures begun { IfOk result (λ s. AreBegun words.now.plan.until (counts_revived (view marked.now.document)) (string_bytes marked.now.mark) words.now.plan shard text.now
-        s.kept (standing s.count s.open.items)) }
+        s.kept (standing s.count s.started.items)) }
     ensures refused { IfErr result (RefusesSoFar (view marked.now.document) (string_bytes marked.now.mark) words.now shard text.now) }
 {
     match begun_in(alloc, &words.plan, shard, marked, text) {
@@ -122,7 +122,7 @@ fn begun_in(
 ) -> Result<Stays, BegunFault>
     requires asked { IsAskedFor plan.now }
     requires shard { IsShard shard }
-    ensures begun { IfOk result (λ s. AreBegun plan.now.until (counts_revived (view marked.now.document)) (string_bytes marked.now.mark) plan.now shard text.now s.kept (standing s.count s.open.items)) }
+    ensures begun { IfOk result (λ s. AreBegun plan.now.until (counts_revived (view marked.now.document)) (string_bytes marked.now.mark) plan.now shard text.now s.kept (standing s.count s.started.items)) }
     ensures refused { IfErr result (RefusesTable plan.now.until (counts_revived (view marked.now.document)) (string_bytes marked.now.mark) plan.now shard text.now) }
 {
     match plan.until() {
@@ -149,7 +149,7 @@ fn runs_begun(
         Ok(begun) => Ok(Stays {
             kept: begun.kept,
             count: begun.runs,
-            open: Vec::new(alloc),
+            started: Vec::new(alloc),
         }),
         Err(fault) => Err(fault),
     }
@@ -168,7 +168,7 @@ fn settings_begun(
     requires shard { IsShard shard }
     requires wanted { plan.now.until ≡ Some width }
     ensures begun { IfOk result
-        (λ s. IsBegunSettings (counts_revived (view marked.now.document)) (string_bytes marked.now.mark) plan.now width shard text.now s.kept s.count s.open.items) }
+        (λ s. IsBegunSettings (counts_revived (view marked.now.document)) (string_bytes marked.now.mark) plan.now width shard text.now s.kept s.count s.started.items) }
     ensures refused { IfErr result (RefusesBegunSettings (counts_revived (view marked.now.document)) (string_bytes marked.now.mark) plan.now shard text.now) }
 {
     let mark = marked.mark.as_str();
@@ -176,7 +176,7 @@ fn settings_begun(
         Ok(begun) => Ok(Stays {
             kept: begun.kept,
             count: begun.settings,
-            open: begun.open,
+            started: begun.started,
         }),
         Err(fault) => Err(fault),
     }

@@ -79,7 +79,7 @@ pub fn write_shard_until<S: Sink, P: Progress>(
 
 /// Makes the runs of a shard that aren't made yet, and writes its table behind the bytes that stay of it: what these lack of the
 /// first line, and the lines of the runs that are left; at the end the table is flushed. So many settings are made, and the runs of
-/// the next one whose metadata is in `open`: that one goes on behind these, up to where it ends in a shard that is made at once. All
+/// the next one whose metadata is in `started`: that one goes on behind these, up to where it ends in a shard that is made at once. All
 /// else is as in `write_shard_until`.
 pub fn write_rest_until<S: Sink, P: Progress>(
     rt: &(impl Threads + Sync),
@@ -89,7 +89,7 @@ pub fn write_rest_until<S: Sink, P: Progress>(
     mark: &str,
     kept: usize,
     made: usize,
-    open: &[RunMetadata],
+    started: &[RunMetadata],
     document: &Value,
     workers: Workers,
     progress: &mut P,
@@ -99,17 +99,17 @@ pub fn write_rest_until<S: Sink, P: Progress>(
     requires judged { AreAccepted (view document.now) plan.now }
     requires shard { IsShard shard }
     requires wanted { is_some plan.now.until ≡ true }
-    requires begun { CanGoOn plan.now shard (shard_header (counts_revived (view document.now)) mark.now plan.now shard) kept made open.now }
+    requires begun { CanGoOn plan.now shard (shard_header (counts_revived (view document.now)) mark.now plan.now shard) kept made started.now }
     requires countable { S.failed table.old < 2 ^ 63 }
-    ensures whole { OnOk result (WritesRestUntil (view document.now) mark.now plan.now shard kept made open.now
+    ensures whole { OnOk result (WritesRestUntil (view document.now) mark.now plan.now shard kept made started.now
         (S.held table.old) (S.held table.new)) }
-    ensures part { OnErr result (BeginsRestUntil (view document.now) mark.now plan.now shard kept made open.now
+    ensures part { OnErr result (BeginsRestUntil (view document.now) mark.now plan.now shard kept made started.now
         (S.held table.old) (S.held table.new)) }
     ensures causes { IfErr result (HasCause (view document.now) plan.now) }
     ensures failures { S.failed table.new ≡ S.failed table.old + sink_failures result }
 {
     let width = width_of(plan);
-    if open.is_empty() {
+    if started.is_empty() {
         let mut settings = Vec::new(alloc);
         return write_settings(
             rt,
@@ -128,7 +128,8 @@ pub fn write_rest_until<S: Sink, P: Progress>(
         );
     }
     write_open(
-        rt, alloc, plan, shard, mark, width, kept, made, open, document, workers, progress, table,
+        rt, alloc, plan, shard, mark, width, kept, made, started, document, workers, progress,
+        table,
     )
 }
 
@@ -142,7 +143,7 @@ fn write_open<S: Sink, P: Progress>(
     width: u64,
     kept: usize,
     made: usize,
-    open: &[RunMetadata],
+    started: &[RunMetadata],
     document: &Value,
     workers: Workers,
     progress: &mut P,
@@ -152,12 +153,12 @@ fn write_open<S: Sink, P: Progress>(
     requires judged { AreAccepted (view document.now) plan.now }
     requires shard { IsShard shard }
     requires wanted { plan.now.until ≡ Some width }
-    requires begun { CanGoOn plan.now shard (shard_header (counts_revived (view document.now)) mark.now plan.now shard) kept made open.now }
-    requires some { open.now ≢ [] }
+    requires begun { CanGoOn plan.now shard (shard_header (counts_revived (view document.now)) mark.now plan.now shard) kept made started.now }
+    requires some { started.now ≢ [] }
     requires countable { S.failed table.old < 2 ^ 63 }
-    ensures whole { OnOk result (WritesRestUntil (view document.now) mark.now plan.now shard kept made open.now
+    ensures whole { OnOk result (WritesRestUntil (view document.now) mark.now plan.now shard kept made started.now
         (S.held table.old) (S.held table.new)) }
-    ensures part { OnErr result (BeginsRestUntil (view document.now) mark.now plan.now shard kept made open.now
+    ensures part { OnErr result (BeginsRestUntil (view document.now) mark.now plan.now shard kept made started.now
         (S.held table.old) (S.held table.new)) }
     ensures causes { IfErr result (HasCause (view document.now) plan.now) }
     ensures failures { S.failed table.new ≡ S.failed table.old + sink_failures result }
@@ -166,7 +167,7 @@ fn write_open<S: Sink, P: Progress>(
     the_run_is_one();
     let mut settings = Vec::new(alloc);
     finish_setting(
-        rt, alloc, plan, shard, mark, width, made, open, document, workers, progress, table,
+        rt, alloc, plan, shard, mark, width, made, started, document, workers, progress, table,
     )?;
     write_settings(
         rt,
@@ -194,7 +195,7 @@ fn finish_setting<S: Sink, P: Progress>(
     mark: &str,
     width: u64,
     made: usize,
-    open: &[RunMetadata],
+    started: &[RunMetadata],
     document: &Value,
     workers: Workers,
     progress: &mut P,
@@ -205,12 +206,12 @@ fn finish_setting<S: Sink, P: Progress>(
     requires shard { IsShard shard }
     requires most { width ≤ 100 }
     requires some { made < settings_in plan.now shard }
-    requires open_yet { AreTooFew width (seed_count plan.now.seeds) open.now }
+    requires open_yet { AreTooFew width (seed_count plan.now.seeds) started.now }
     requires countable { S.failed table.old < 2 ^ 63 }
-    ensures whole { OnOk result (FinishesSetting (view document.now) plan.now (sweep_key mark.now plan.now) width (first_setting plan.now shard + made) open.now
+    ensures whole { OnOk result (FinishesSetting (view document.now) plan.now (sweep_key mark.now plan.now) width (first_setting plan.now shard + made) started.now
         (S.held table.old) (S.held table.new)) }
-    ensures part { OnErr result (BeginsWide (view document.now) plan.now width open.now
-        (setting_course plan.now (sweep_key mark.now plan.now) (first_setting plan.now shard + made) open.now (S.held table.old)) (S.held table.new)) }
+    ensures part { OnErr result (BeginsWide (view document.now) plan.now width started.now
+        (setting_course plan.now (sweep_key mark.now plan.now) (first_setting plan.now shard + made) started.now (S.held table.old)) (S.held table.new)) }
     ensures causes { IfErr result (HasCause (view document.now) plan.now) }
     ensures failures { S.failed table.new ≡ S.failed table.old + sink_failures result }
 {
@@ -224,7 +225,7 @@ fn finish_setting<S: Sink, P: Progress>(
         all: (shard.past(count) - first).saturating_mul(plan.runs_of_setting()),
     };
     make_setting(
-        rt, alloc, plan, &key, width, document, workers, number, open, &mut part, table,
+        rt, alloc, plan, &key, width, document, workers, number, started, &mut part, table,
     )?;
     Ok(())
 }

@@ -141,7 +141,10 @@ pub(crate) fn make_settings<S: Sink, P: Progress>(
 }
 
 /// Adds what is told of a setting.
-pub(crate) fn push_setting(settings: &mut Vec<SettingSummary>, setting: SettingSummary) -> Result<(), Memory>
+pub(crate) fn push_setting(
+    settings: &mut Vec<SettingSummary>,
+    setting: SettingSummary,
+) -> Result<(), Memory>
     ensures { OnOk result (settings.new.items ≡ settings.old.items ++ setting ∷ []) }
 {
     settings.push(setting)?;

@@ -8,3 +8,4 @@ pub mod Read
 pub mod SettingsOf
 pub mod OpenRows
 pub mod MadeLines
+mod Written

@@ -59,8 +59,7 @@ module _ (key : List ℕ) (sweep : Sweep) where
     -- they aren't enough, since the text doesn't begin with the whole setting
     not_enough : (count : ℕ) (left : List ℕ) (notes : List Note) → RowsSo key sweep first text left notes count → AreEnough width each notes → ⊥
     not_enough count left notes so enough =
-        not
-        (
+        not (
           left,
           record {
             one = so.lines;

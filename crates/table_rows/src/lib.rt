@@ -3,6 +3,7 @@
 
 mod by_settings;
 mod fault;
+pub mod laws;
 mod lines;
 mod open_rows;
 mod settings_of;

@@ -16,25 +16,25 @@ use sweep_plan::Plan;
 
 /// The lines with which a text begins of the first runs of the setting of this number, where the text doesn't begin with that whole
 /// setting: each has its checksum with this key, and the values and the seed that the plan asks for at its place. Gives what is left
-/// of the text; `open` was empty, and gets their metadata.
+/// of the text; `started` was empty, and gets their metadata.
 pub fn open_rows<'a>(
     alloc: Global,
     plan: &Plan,
     key: &[u8],
     number: usize,
     text: &'a str,
-    open: &mut Vec<RunMetadata>,
+    started: &mut Vec<RunMetadata>,
 ) -> Result<&'a str, Memory>
     requires asked { IsAskedFor plan.now }
     requires within { number < setting_count plan.now.swept_keys }
-    requires none { open.old.items ≡ [] }
+    requires none { started.old.items ≡ [] }
     ensures { IfOk result (λ left. (width : ℕ) → ¬ (HasSettingOf key.now plan.now width number text.entry.now)
-        → BeginsWithOpen key.now plan.now width number text.entry.now left.now open.new.items) }
+        → BeginsWithOpen key.now plan.now width number text.entry.now left.now started.new.items) }
 {
     let first = first_run(plan, number);
     let mut left = text;
     for run in first..first + plan.runs_of_setting() {
-        let Some(rest) = behind_row(alloc, plan, key, run, left, open)? else {
+        let Some(rest) = behind_row(alloc, plan, key, run, left, started)? else {
             return Ok(left);
         };
         left = rest;
@@ -49,13 +49,13 @@ fn behind_row<'a>(
     key: &[u8],
     number: usize,
     text: &'a str,
-    open: &mut Vec<RunMetadata>,
+    started: &mut Vec<RunMetadata>,
 ) -> Result<Option<&'a str>, Memory>
     requires asked { IsAskedFor plan.now }
     requires within { number < run_count plan.now }
-    ensures some { IfOk result (λ found. IfSome found (λ left. ReadsRow key.now plan.now number text.entry.now left.now open.old.items open.new.items)) }
+    ensures some { IfOk result (λ found. IfSome found (λ left. ReadsRow key.now plan.now number text.entry.now left.now started.old.items started.new.items)) }
     ensures none { IfOk result (λ found. IsNone found → ¬ (HasRowOf key.now plan.now number text.entry.now)) }
-    ensures same { IfOk result (λ found. IsNone found → open.new.items ≡ open.old.items) }
+    ensures same { IfOk result (λ found. IsNone found → started.new.items ≡ started.old.items) }
 {
     let (note, left) = match read_note(alloc, text) {
         Ok(read) => read,
@@ -66,6 +66,6 @@ fn behind_row<'a>(
     if !are_lines_of(alloc, plan, key, number, 1, line)? {
         return Ok(None);
     }
-    open.push(note)?;
+    started.push(note)?;
     Ok(Some(left))
 }

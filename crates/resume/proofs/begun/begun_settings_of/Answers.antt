@@ -52,10 +52,13 @@ pub kept_of-kept-requires-clause-left : goal.kept_of-kept-requires-clause-left
 kept_of-kept-requires-clause-left c =
     let plan = c.args.plan.now in
     let stood = c.in_ok-stood in
-    let open = lines_behind c.in_ok-key.key.now plan c.args.width c.first-first.result (c.past.result - c.first-first.result) stood.stood.count _ _ stood.stood.left.now c.in_ok-left.left.now c.behind_open.new.open.items
-    refl refl stood.ensures.few stood.ensures.no_more c.in_ok-left.ensures.past c.in_ok-left.ensures.open in
-    omega (arith, left_within c.in_ok-key.key.now plan c.args.width c.first-first.result stood.stood.count c.read_front-words.result.now stood.stood.left.now stood.ensures.begins,
-    after_within c.in_ok-key.key.now plan c.args.width c.first-first.result (c.past.result - c.first-first.result) stood.stood.count stood.stood.left.now c.in_ok-left.left.now c.behind_open.new.open.items open)
+    let started = lines_behind c.in_ok-key.key.now plan c.args.width c.first-first.result (c.past.result - c.first-first.result) stood.stood.count _ _ stood.stood.left.now c.in_ok-left.left.now c.behind_open.new.started.items
+    refl refl stood.ensures.few stood.ensures.no_more c.in_ok-left.ensures.past c.in_ok-left.ensures.open_lines in
+    omega (
+      arith,
+      left_within c.in_ok-key.key.now plan c.args.width c.first-first.result stood.stood.count c.read_front-words.result.now stood.stood.left.now stood.ensures.begins,
+      after_within c.in_ok-key.key.now plan c.args.width c.first-first.result (c.past.result - c.first-first.result) stood.stood.count stood.stood.left.now c.in_ok-left.left.now c.behind_open.new.started.items started,
+    )
 
 pub kept_of-kept-requires-clause-words : goal.kept_of-kept-requires-clause-words
 kept_of-kept-requires-clause-words c = front_within _ _ c.read_front-words.ensures.0 c.read_front-words.ensures.1
@@ -70,8 +73,8 @@ returns-clause-begun c =
     let first = c.first-first.ensures.first ∙ ap (first_run c.args.shard) c.settings-count.ensures in
     let past = c.past.ensures.past ∙ ap (past_run c.args.shard) c.settings-count.ensures in
     let stood = c.in_ok-stood in
-    let open = lines_behind c.in_ok-key.key.now c.args.plan.now c.args.width c.first-first.result (c.past.result - c.first-first.result) stood.stood.count _ _ stood.stood.left.now c.in_ok-left.left.now
-    c.behind_open.new.open.items refl refl stood.ensures.few stood.ensures.no_more c.in_ok-left.ensures.past c.in_ok-left.ensures.open in
+    let started = lines_behind c.in_ok-key.key.now c.args.plan.now c.args.width c.first-first.result (c.past.result - c.first-first.result) stood.stood.count _ _ stood.stood.left.now c.in_ok-left.left.now
+    c.behind_open.new.started.items refl refl stood.ensures.few stood.ensures.no_more c.in_ok-left.ensures.past c.in_ok-left.ensures.open_lines in
     long_stands (counts_revived (view c.args.document.now)) c.args.mark.now c.args.plan.now c.args.width c.args.shard c.args.text.now _ _ _ c.in_ok-key.ensures first (λ i. past i - first i)
-    c.in-Some.lines.now c.read_front-words.result.now stood.stood.left.now c.in_ok-left.left.now c.kept_of-kept.result stood.stood.count c.behind_open.new.open.items
-    (rw c.in-Some.is at c.in_ok-lines.ensures.some) c.read_front-words.ensures stood.ensures.begins c.kept_of-kept.ensures stood.ensures.few open
+    c.in-Some.lines.now c.read_front-words.result.now stood.stood.left.now c.in_ok-left.left.now c.kept_of-kept.result stood.stood.count c.behind_open.new.started.items
+    (rw c.in-Some.is at c.in_ok-lines.ensures.some) c.read_front-words.ensures stood.ensures.begins c.kept_of-kept.ensures stood.ensures.few started

@@ -13,18 +13,18 @@ write_rest_until-requires-clause-wanted g c _ _ = ap is_some (sym c.until.ensure
 pub write_rest_until-requires-clause-begun : goal.write_rest_until-requires-clause-begun
 write_rest_until-requires-clause-begun g c _ _ =
     let header = shard_header (counts_revived (view c.args.document.now)) c.args.mark.now c.args.plan.now c.args.shard in
-    subst (λ until. FitShard until c.args.plan.now c.args.shard header c.args.kept (standing c.args.count c.args.open.now)) (sym c.until.ensures.same ∙ c.in-Some.is) c.requires.few
+    subst (λ until. FitShard until c.args.plan.now c.args.shard header c.args.kept (standing c.args.count c.args.started.now)) (sym c.until.ensures.same ∙ c.in-Some.is) c.requires.few
 
 pub write_rest-requires-clause-few : goal.write_rest-requires-clause-few
 write_rest-requires-clause-few g c _ _ =
     let header = shard_header (counts_revived (view c.args.document.now)) c.args.mark.now c.args.plan.now c.args.shard in
-    subst (λ until. FitShard until c.args.plan.now c.args.shard header c.args.kept (standing c.args.count c.args.open.now)) (sym c.until.ensures.same ∙ c.in-None.is) c.requires.few
+    subst (λ until. FitShard until c.args.plan.now c.args.shard header c.args.kept (standing c.args.count c.args.started.now)) (sym c.until.ensures.same ∙ c.in-None.is) c.requires.few
 
 pub returns-in-Some-clause-whole : goal.returns-in-Some-clause-whole
 returns-in-Some-clause-whole g c =
     let held = g.S.Sink.held in
     let is = sym c.until.ensures.same ∙ c.in-Some.is in
-    done_by (λ until. WritesRunsBehind until (view c.args.document.now) c.args.mark.now c.args.plan.now c.args.shard c.args.kept (standing c.args.count c.args.open.now)
+    done_by (λ until. WritesRunsBehind until (view c.args.document.now) c.args.mark.now c.args.plan.now c.args.shard c.args.kept (standing c.args.count c.args.started.now)
     (held c.args.table.now) (held c.write_rest_until.new.table))
     _ _ c.write_rest_until.result is c.write_rest_until.ensures.whole (few_rest_made _ _ _ _ _ _ _ _ _ is)
 
@@ -32,20 +32,20 @@ pub returns-in-Some-clause-part : goal.returns-in-Some-clause-part
 returns-in-Some-clause-part g c =
     let held = g.S.Sink.held in
     let is = sym c.until.ensures.same ∙ c.in-Some.is in
-    err_by (λ until. BeginsRunsBehind until (view c.args.document.now) c.args.mark.now c.args.plan.now c.args.shard c.args.kept (standing c.args.count c.args.open.now)
+    err_by (λ until. BeginsRunsBehind until (view c.args.document.now) c.args.mark.now c.args.plan.now c.args.shard c.args.kept (standing c.args.count c.args.started.now)
     (held c.args.table.now) (held c.write_rest_until.new.table))
     _ _ c.write_rest_until.result is c.write_rest_until.ensures.part (few_rest_begun _ _ _ _ _ _ _ _ _ is)
 
 pub returns-in-None-clause-whole : goal.returns-in-None-clause-whole
 returns-in-None-clause-whole g c =
     let held = g.S.Sink.held in
-    done_by (λ until. WritesRunsBehind until (view c.args.document.now) c.args.mark.now c.args.plan.now c.args.shard c.args.kept (standing c.args.count c.args.open.now)
+    done_by (λ until. WritesRunsBehind until (view c.args.document.now) c.args.mark.now c.args.plan.now c.args.shard c.args.kept (standing c.args.count c.args.started.now)
     (held c.args.table.now) (held c.write_rest.new.table))
     _ _ c.write_rest.result (sym c.until.ensures.same ∙ c.in-None.is) c.write_rest.ensures.whole (rest_made _ _ _ _ _ _ _ _)
 
 pub returns-in-None-clause-part : goal.returns-in-None-clause-part
 returns-in-None-clause-part g c =
     let held = g.S.Sink.held in
-    err_by (λ until. BeginsRunsBehind until (view c.args.document.now) c.args.mark.now c.args.plan.now c.args.shard c.args.kept (standing c.args.count c.args.open.now)
+    err_by (λ until. BeginsRunsBehind until (view c.args.document.now) c.args.mark.now c.args.plan.now c.args.shard c.args.kept (standing c.args.count c.args.started.now)
     (held c.args.table.now) (held c.write_rest.new.table))
     _ _ c.write_rest.result (sym c.until.ensures.same ∙ c.in-None.is) c.write_rest.ensures.part (rest_begun _ _ _ _ _ _ _ _)

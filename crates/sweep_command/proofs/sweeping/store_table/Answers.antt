@@ -12,7 +12,7 @@ pub fill_table-made-requires-clause-few : goal.fill_table-made-requires-clause-f
 fill_table-made-requires-clause-few g c _ _ =
     let words = c.args.words.now in
     let marked = c.args.prepared.now.marked in
-    stood_few (view marked.document) (string_bytes marked.mark) words (g.F.Files.known c.args.files.now words.table.now) c.args.stood.now.kept (standing c.args.stood.now.count c.args.stood.now.open.items)
+    stood_few (view marked.document) (string_bytes marked.mark) words (g.F.Files.known c.args.files.now words.table.now) c.args.stood.now.kept (standing c.args.stood.now.count c.args.stood.now.started.items)
     c.requires.asked c.requires.stood
 
 pub returns-clause-done : goal.returns-clause-done

@@ -7,10 +7,10 @@ use Rattle.sweep_command.proofs.Tables.{shard_begun, shard_told, whole_begun, wh
 use Rattle.sweep_command.proofs.sweeping.tell_asked.Goals as goal
 
 pub tell_shard-requires-clause-few : goal.tell_shard-requires-clause-few
-tell_shard-requires-clause-few g c _ _ = 
+tell_shard-requires-clause-few g c _ _ =
     let marked = c.args.prepared.now.marked in
     let stood = c.args.stood.now in
-    subst (λ p. FitResumed (view marked.document) (string_bytes marked.mark) c.args.words.now p stood.kept (standing stood.count stood.open.items)) c.in-Some.is c.requires.few
+    subst (λ p. FitResumed (view marked.document) (string_bytes marked.mark) c.args.words.now p stood.kept (standing stood.count stood.started.items)) c.in-Some.is c.requires.few
 
 pub returns-in-Some-clause-whole : goal.returns-in-Some-clause-whole
 returns-in-Some-clause-whole g c =

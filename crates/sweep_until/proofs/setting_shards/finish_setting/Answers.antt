@@ -29,14 +29,14 @@ pub returns-in_err-key-clause-part : goal.returns-in_err-key-clause-part
 returns-in_err-key-clause-part g c =
     let plan = c.args.plan.now in
     on_err c.from_residual.result
-    (setting_waits (view c.args.document.now) plan (sweep_key c.args.mark.now plan) c.args.width c.args.open.now (first_setting plan c.args.shard + c.args.made)
+    (setting_waits (view c.args.document.now) plan (sweep_key c.args.mark.now plan) c.args.width c.args.started.now (first_setting plan c.args.shard + c.args.made)
     (g.S.Sink.held c.args.table.now) c.requires.open_yet)
 
 pub returns-in_err-make_setting-clause-part : goal.returns-in_err-make_setting-clause-part
 returns-in_err-make_setting-clause-part g c =
     let tree = view c.args.document.now in
     let plan = c.args.plan.now in
-    let before = c.args.open.now in
+    let before = c.args.started.now in
     let old = g.S.Sink.held c.args.table.now in
     let new = g.S.Sink.held c.make_setting.new.table in
     let number : c.first-first.result + c.args.made ≡ first_setting plan c.args.shard + c.args.made =
@@ -49,13 +49,12 @@ pub returns-clause-whole : goal.returns-clause-whole
 returns-clause-whole g c =
     let tree = view c.args.document.now in
     let plan = c.args.plan.now in
-    let before = c.args.open.now in
+    let before = c.args.started.now in
     let old = g.S.Sink.held c.args.table.now in
     let new = g.S.Sink.held c.make_setting.new.table in
-    let setting = c.in_ok-make_setting.x in
+    let setting = c.in_ok-make_setting.field-0 in
     let number : c.first-first.result + c.args.made ≡ first_setting plan c.args.shard + c.args.made =
-    ap (λ n. n + c.args.made) (c.first-first.ensures.first ∙ ap (first_run c.args.shard) c.settings-count.ensures) in
-    (
+    ap (λ n. n + c.args.made) (c.first-first.ensures.first ∙ ap (first_run c.args.shard) c.settings-count.ensures) in (
       setting,
       subst (λ n. MakesSetting tree plan (sweep_key c.args.mark.now plan) c.args.width n before old new setting) number
           (subst (λ k. MakesSetting tree plan k c.args.width (c.first-first.result + c.args.made) before old new setting) c.in_ok-key.ensures c.in_ok-make_setting.ensures.whole),

@@ -21,7 +21,7 @@ returns-then-is_empty-clause-whole g c =
     let plan = c.args.plan.now in
     let old = g.S.Sink.held c.args.table.now in
     let new = g.S.Sink.held c.write_settings.new.table in
-    let none : c.args.open.now ≡ [] = nothing_left c.args.open.now (search rules) in
+    let none : c.args.started.now ≡ [] = nothing_left c.args.started.now (search rules) in
     on_ok_then _ _ c.write_settings.result c.write_settings.ensures.whole
     (λ has. subst (λ before. WritesRestUntil tree c.args.mark.now plan c.args.shard c.args.kept c.args.made before old new) (sym none)
     (rest_whole tree plan c.args.mark.now c.args.shard c.args.kept c.args.made c.width_of-width.result c.width_of-width.ensures old new c.write_settings.new.settings.items has))
@@ -32,7 +32,7 @@ returns-then-is_empty-clause-part g c =
     let plan = c.args.plan.now in
     let old = g.S.Sink.held c.args.table.now in
     let new = g.S.Sink.held c.write_settings.new.table in
-    let none : c.args.open.now ≡ [] = nothing_left c.args.open.now (search rules) in
+    let none : c.args.started.now ≡ [] = nothing_left c.args.started.now (search rules) in
     on_err_then _ _ c.write_settings.result c.write_settings.ensures.part
     (λ begins. subst (λ before. BeginsRestUntil tree c.args.mark.now plan c.args.shard c.args.kept c.args.made before old new) (sym none)
     (rest_begun tree plan c.args.mark.now c.args.shard c.args.kept c.args.made c.width_of-width.result c.width_of-width.ensures old new begins))

@@ -5,7 +5,7 @@ use Rattle.sweep_until.proofs.ShardSettings.{none_yet, rest_begins_shard, rest_i
 use Rattle.sweep_until.proofs.setting_shards.write_shard_until.Goals as goal
 
 pub write_rest_until-requires-clause-begun : goal.write_rest_until-requires-clause-begun
-write_rest_until-requires-clause-begun g c = record {
+write_rest_until-requires-clause-begun g c _ _ = record {
   few = omega arith;
   there = inl refl;
   open_yet = λ width wanted. none_yet c.args.plan.now width c.requires.asked;

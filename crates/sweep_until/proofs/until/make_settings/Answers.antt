@@ -29,7 +29,7 @@ loop-number-preserved g c = record {
 }
 
 pub make_setting-requires-clause-open_yet : goal.make_setting-requires-clause-open_yet
-make_setting-requires-clause-open_yet g c = none_yet c.args.plan.now c.args.width c.requires.asked
+make_setting-requires-clause-open_yet g c _ _ = none_yet c.args.plan.now c.args.width c.requires.asked
 
 pub make_setting-requires-clause-within : goal.make_setting-requires-clause-within
 make_setting-requires-clause-within g c = omega (arith, c.loop-number-test.true, c.loop-number.auto.number-end, c.requires.within)

@@ -16,4 +16,4 @@ returns-then-are_lines_of-clause-none c = λ _.
 pub returns-clause-some : goal.returns-clause-some
 returns-clause-some c =
     row_read c.args.key.now c.args.plan.now c.args.number c.args.text.now _ _ c.in-Ok.ensures.read c.before-line.result.now c.before-line.ensures
-    (c.in_ok-are_lines_of.ensures.are c.if-are_lines_of.false) c.args.open.now.items _ refl
+    (c.in_ok-are_lines_of.ensures.are c.if-are_lines_of.false) c.args.started.now.items _ refl

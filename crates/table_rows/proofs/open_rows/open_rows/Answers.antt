@@ -13,8 +13,8 @@ loop-run-init c =
     record {
       utf8 = search rules;
       low = omega arith;
-      so = subst (RowsSo c.args.key.now plan c.first_run-first.result c.args.text.now c.args.text.now c.args.open.now.items) (sym zero)
-          (no_row c.args.key.now plan c.first_run-first.result c.args.text.now c.args.open.now.items c.requires.none);
+      so = subst (RowsSo c.args.key.now plan c.first_run-first.result c.args.text.now c.args.text.now c.args.started.now.items) (sym zero)
+          (no_row c.args.key.now plan c.first_run-first.result c.args.text.now c.args.started.now.items c.requires.none);
       few = λ width not. subst (AreTooFew width (seed_count plan.seeds)) (sym c.requires.none) (none_yet plan width c.requires.asked);
     }
 
@@ -27,12 +27,12 @@ loop-run-preserved c =
     let place : first + (number - first) ≡ number = omega (arith, c.loop-run.invariant.low) in
     let next : number - first + 1 ≡ number + 1 - first = omega (arith, c.loop-run.invariant.low) in
     let row = rw c.in-Some.is at c.in_ok-rest.ensures.some in
-    let so = one_row key plan first (number - first) number c.args.text.now c.loop-run.left.now c.in-Some.rest.now c.loop-run.open.items c.behind_row.new.open.items place c.loop-run.invariant.so row in
+    let so = one_row key plan first (number - first) number c.args.text.now c.loop-run.left.now c.in-Some.rest.now c.loop-run.started.items c.behind_row.new.started.items place c.loop-run.invariant.so row in
     record {
       utf8 = search rules;
       low = omega (arith, c.loop-run.invariant.low);
-      so = subst (RowsSo key plan first c.args.text.now c.in-Some.rest.now c.behind_row.new.open.items) next so;
-      few = λ width not. too_few key plan width c.args.number first c.first_run-first.ensures.first c.args.text.now not (number - first + 1) c.in-Some.rest.now c.loop-run.open.items c.behind_row.new.open.items
+      so = subst (RowsSo key plan first c.args.text.now c.in-Some.rest.now c.behind_row.new.started.items) next so;
+      few = λ width not. too_few key plan width c.args.number first c.first_run-first.ensures.first c.args.text.now not (number - first + 1) c.in-Some.rest.now c.loop-run.started.items c.behind_row.new.started.items
           row.begins.one.note row.added (c.loop-run.invariant.few width not) so;
     }
 
@@ -44,7 +44,7 @@ returns-in_default c = λ width not.
     let number = c.loop-run.run in
     let same = (rw c.in_default.is at c.in_ok-rest.ensures.same) refl in
     let place : first + (number - first) ≡ number = omega (arith, c.loop-run.invariant.low) in
-    open_there key plan width c.args.number first c.first_run-first.ensures.first c.args.text.now not (number - first) c.loop-run.left.now c.behind_row.new.open.items
+    open_there key plan width c.args.number first c.first_run-first.ensures.first c.args.text.now not (number - first) c.loop-run.left.now c.behind_row.new.started.items
     (subst (λ notes. RowsSo key plan first c.args.text.now c.loop-run.left.now notes (number - first)) (sym same) c.loop-run.invariant.so)
     (subst (AreTooFew width (seed_count plan.seeds)) (sym same) (c.loop-run.invariant.few width not))
     (subst (λ n. ¬ (HasRowOf key plan n c.loop-run.left.now)) (sym place) ((rw c.in_default.is at c.in_ok-rest.ensures.none) refl))
@@ -56,5 +56,5 @@ returns c = λ width not.
     let number = c.loop-run.run in
     let all : seed_count plan.seeds ≤ number - first = omega (arith, c.loop-run-test.false, c.loop-run.auto.run-end, c.runs_of_setting.ensures, c.loop-run.invariant.low) in
     absurd
-    (not_all c.args.key.now plan width c.args.number first c.first_run-first.ensures.first c.args.text.now not (number - first) c.loop-run.left.now c.loop-run.open.items c.loop-run.invariant.so
+    (not_all c.args.key.now plan width c.args.number first c.first_run-first.ensures.first c.args.text.now not (number - first) c.loop-run.left.now c.loop-run.started.items c.loop-run.invariant.so
     (c.loop-run.invariant.few width not) all)

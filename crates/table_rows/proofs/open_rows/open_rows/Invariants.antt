@@ -12,6 +12,6 @@ abbrev pub invariant-loop-run : goal.invariant-loop-run
 invariant-loop-run l = record {
   utf8 : shadow (Utf8 l.left);
   low : l.first ≤ l.run;
-  so : RowsSo l.key l.plan l.first l.text l.left l.open.items (l.run - l.first);
-  few : (width : ℕ) → ¬ (HasSettingOf l.key l.plan width l.number l.text) → AreTooFew width (seed_count l.plan.seeds) l.open.items;
+  so : RowsSo l.key l.plan l.first l.text l.left l.started.items (l.run - l.first);
+  few : (width : ℕ) → ¬ (HasSettingOf l.key l.plan width l.number l.text) → AreTooFew width (seed_count l.plan.seeds) l.started.items;
 }
