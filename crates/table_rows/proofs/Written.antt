@@ -71,7 +71,7 @@ seed_of tree setting seed m ms is accepted =
 -- ---- fields that are written as they are
 
 plain_byte : (b : ℕ) → (b == 44) ≡ false → (b == 34) ≡ false → (b == 13) ≡ false → (b == 10) ≡ false → needs_byte default_writer b ≡ false
-plain_byte b comma quote return feed = grind (comma, quote, return, feed)
+plain_byte b comma quote return feed = grind (arith, comma, quote, return, feed)
 
 needs_none : (xs : List ℕ) → Lacks 44 xs → Lacks 34 xs → Lacks 13 xs → Lacks 10 xs → needs_quotes default_writer xs ≡ false
 needs_none [] comma quote return feed = refl
@@ -194,7 +194,7 @@ module _ (key : List ℕ) (members : Members) (sweep : Sweep) (number : ℕ) (p 
       sound = record {
         sound = line_sound revived key m told;
         placed = subst (λ l. AreLinesOf key sweep number l 1) (sym (line_in_shard revived key m))
-            (record { lines = noted_line revived key m ∷ []; are = (line_written, tt); written = refl });
+            (record { lines = noted_line revived key m ∷ []; are = (line_written, tt); written = sym (append-nil (noted_line revived key m)) ∙ sym (append-nil (noted_line revived key m ++ [])) });
       };
       written = ap (λ l. l ++ behind) (sym (line_in_shard revived key m));
     },

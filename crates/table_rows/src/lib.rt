@@ -5,11 +5,11 @@ mod by_settings;
 mod fault;
 pub mod laws;
 mod lines;
-mod open_rows;
+mod opened;
 mod settings_of;
 
 pub use by_settings::{read_setting, read_settings};
 pub use fault::LineFault;
 pub use lines::{read_line, read_lines};
-pub use open_rows::open_rows;
+pub use opened::open_rows;
 pub use settings_of::{StandingSettings, are_settings_of, settings_of_runs};

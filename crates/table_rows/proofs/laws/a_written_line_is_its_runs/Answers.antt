@@ -6,4 +6,4 @@ pub returns-clause-genuine : goal.returns-clause-genuine
 returns-clause-genuine c key members sweep number p m revived there is told = line_written key members sweep number p m revived there is told
 
 pub returns-clause-read : goal.returns-clause-read
-returns-clause-read c key members sweep number p m revived behind there is told = row_written key members sweep number p m revived behind there is told
+returns-clause-read c key members sweep number p m revived behind there is told = row_written key members sweep number p m revived there is told behind

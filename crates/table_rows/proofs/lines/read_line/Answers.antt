@@ -1,7 +1,5 @@
-use Rattle.std.proofs.Common.{sym, subst}
-use Rattle.figures.specs.Notes.{Note}
 use Rattle.table_rows.proofs.OneLine.{gathered_so}
 use Rattle.table_rows.proofs.lines.read_line.Goals as goal
 
-pub returns-in-Ok-clause-read : goal.returns-in-Ok-clause-read
-returns-in-Ok-clause-read g c = gathered_so _ _ _ c.in-Ok.ensures.read _ c.in-Ok-add.ensures
+pub returns-in-Ok-add-clause-read : goal.returns-in-Ok-add-clause-read
+returns-in-Ok-add-clause-read g c = gathered_so _ _ _ c.in-Ok.ensures.read _ c.in-Ok-add.ensures

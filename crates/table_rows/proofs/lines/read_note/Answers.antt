@@ -19,8 +19,8 @@ returns-in-Err-Word-clause-refused c = λ line.
     let comma = rw c.in-Some-split_once.is at (comma_there c.args.text.now line c.in-Some.noted.now c.in-Some.ensures.some c.split_once.result c.split_once.ensures.cases) in
     (rw c.in-Err-Word.field-0-is at c.in-Err-Word.ensures.refused) line.1.one.note (note_there c.args.text.now line c.in-Some-split_once.word.now comma.0)
 
-pub returns-in-Ok-add-clause-read : goal.returns-in-Ok-add-clause-read
-returns-in-Ok-add-clause-read g c =
+pub returns-in-Ok-clause-read : goal.returns-in-Ok-clause-read
+returns-in-Ok-clause-read c =
     line_read c.args.text.now c.in-Some.noted.now c.in-Some.ensures.some c.split_once.result c.in-Some-split_once.word c.in-Some-split_once.rest c.split_once-2.result
     c.in-Some-split_once-2._body c.in-Some-split_once-2.left c.in-Ok.note _
     c.in-Some-split_once.is c.split_once.ensures.cases c.in-Some-split_once-2.is c.split_once-2.ensures.cases c.in-Ok.ensures.read refl

@@ -1,6 +1,5 @@
-use Rattle.std.proofs.Common.{refl}
 use Rattle.table_rows.proofs.OpenRows.{left_within, row_line, row_read, row_unplaced}
-use Rattle.table_rows.proofs.open_rows.behind_row.Goals as goal
+use Rattle.table_rows.proofs.opened.behind_row.Goals as goal
 
 pub before-line-requires : goal.before-line-requires
 before-line-requires c = left_within c.args.text.now _ _ c.in-Ok.ensures.read
@@ -8,12 +7,12 @@ before-line-requires c = left_within c.args.text.now _ _ c.in-Ok.ensures.read
 pub returns-in-Err-Torn-clause-none : goal.returns-in-Err-Torn-clause-none
 returns-in-Err-Torn-clause-none c = λ _. row_line c.args.key.now c.args.plan.now c.args.number c.args.text.now (rw c.in-Err-Torn.field-0-is at c.in-Err-Torn.ensures.refused)
 
-pub returns-then-are_lines_of-clause-none : goal.returns-then-are_lines_of-clause-none
-returns-then-are_lines_of-clause-none c = λ _.
+pub returns-clause-none : goal.returns-clause-none
+returns-clause-none c = λ _.
     row_unplaced c.args.key.now c.args.plan.now c.args.number c.args.text.now _ _ c.in-Ok.ensures.read c.before-line.result.now c.before-line.ensures
-    (c.in_ok-are_lines_of.ensures.none c.if-are_lines_of.true)
+    (c.in_ok-is_row.ensures.none c.if-is_row.false)
 
-pub returns-clause-some : goal.returns-clause-some
-returns-clause-some c =
+pub returns-then-is_row-clause-some : goal.returns-then-is_row-clause-some
+returns-then-is_row-clause-some c =
     row_read c.args.key.now c.args.plan.now c.args.number c.args.text.now _ _ c.in-Ok.ensures.read c.before-line.result.now c.before-line.ensures
-    (c.in_ok-are_lines_of.ensures.are c.if-are_lines_of.false) c.args.started.now.items _ refl
+    (c.in_ok-is_row.ensures.are c.if-is_row.true) c.args.started.now.items _ c.in_ok-push.ensures.items

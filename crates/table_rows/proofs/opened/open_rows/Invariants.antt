@@ -5,7 +5,7 @@ use Rattle.sweep_plan.specs.Sweep.{seed_count}
 use Rattle.sweep_until.specs.Until.{AreTooFew}
 use Rattle.table_rows.specs.Settings.{HasSettingOf}
 use Rattle.table_rows.proofs.OpenRows.{RowsSo}
-use Rattle.table_rows.proofs.open_rows.open_rows.Given as goal
+use Rattle.table_rows.proofs.opened.open_rows.Given as goal
 
 -- the first lines are read, which are too few
 abbrev pub invariant-loop-run : goal.invariant-loop-run

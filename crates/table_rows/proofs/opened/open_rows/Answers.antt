@@ -4,7 +4,7 @@ use Rattle.sweep_until.specs.Until.{AreTooFew}
 use Rattle.sweep_until.proofs.ShardSettings.{none_yet}
 use Rattle.table_rows.specs.Open.{HasRowOf}
 use Rattle.table_rows.proofs.OpenRows.{RowsSo, no_row, not_all, one_row, open_there, too_few}
-use Rattle.table_rows.proofs.open_rows.open_rows.Goals as goal
+use Rattle.table_rows.proofs.opened.open_rows.Goals as goal
 
 pub loop-run-init : goal.loop-run-init
 loop-run-init c =

@@ -63,9 +63,10 @@ fn behind_row<'a>(
         Err(LineFault::Memory) => return Err(Memory),
     };
     let line = before(text, left);
-    if !are_lines_of(alloc, plan, key, number, 1, line)? {
-        return Ok(None);
+    let is_row = are_lines_of(alloc, plan, key, number, 1, line)?;
+    if is_row {
+        started.push(note)?;
+        return Ok(Some(left));
     }
-    started.push(note)?;
-    Ok(Some(left))
+    Ok(None)
 }
