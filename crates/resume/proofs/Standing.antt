@@ -81,9 +81,9 @@ module _ (revived : Bool) (mark : List ℕ) (sweep : Sweep) (width : ℕ) (p : S
   header = shard_header revived mark sweep p
 
   -- a beginning of the first line
-  pub short_stands : (rest : List ℕ) × (header ≡ text ++ rest) → IsBegunSettings revived mark sweep width p text (length text) 0 []
-  short_stands split = record {
-    stands = inl (record { rest = split.0; written = split.1; all = refl; no_run = refl }, refl);
+  pub short_stands : (before : List Note) → before ≡ [] → (rest : List ℕ) × (header ≡ text ++ rest) → IsBegunSettings revived mark sweep width p text (length text) 0 before
+  short_stands before none split = record {
+    stands = inl (record { rest = split.0; written = split.1; all = refl; no_run = refl }, none);
     few = omega arith;
   }
 

@@ -1,4 +1,4 @@
-use Rattle.std.proofs.Common.{◌≡◌, ◌∙◌, ◌≤◌, ◌+◌, ◌-◌, ap, refl, subst, sym, arith}
+use Rattle.std.proofs.Common.{◌≡◌, ◌∙◌, ◌≤◌, ◌+◌, ◌-◌, ap, refl, rules, subst, sym, arith}
 use Rattle.toml.specs.View.{view}
 use Rattle.sweep_plan.specs.Sweep.{setting_count}
 use Rattle.shards.specs.Shards.{first_run, past_run}
@@ -12,7 +12,7 @@ use Rattle.resume.proofs.begun.begun_settings_of.Goals as goal
 pub returns-in_default-clause-begun : goal.returns-in_default-clause-begun
 returns-in_default-clause-begun c =
     short_stands (counts_revived (view c.args.document.now)) c.args.mark.now c.args.plan.now c.args.width c.args.shard c.args.text.now
-    ((rw c.in_default.is at c.in_ok-lines.ensures.none) refl)
+    c.new.result.items (search rules) ((rw c.in_default.is at c.in_ok-lines.ensures.none) refl)
 
 pub first-first-requires-clause-few : goal.first-first-requires-clause-few
 first-first-requires-clause-few c = omega (arith, few_settings c.args.plan.now c.requires.asked, c.settings-count.ensures)
@@ -37,8 +37,8 @@ overflow_add-number c =
     let past = c.past.ensures in
     omega (arith, c.in_ok-stood.ensures.few, c.past.ensures.within, c.settings-count.ensures, few_settings c.args.plan.now c.requires.asked)
 
-pub overflow_add : goal.overflow_add
-overflow_add c = omega (arith, c.past.ensures.within, c.settings-count.ensures, few_settings c.args.plan.now c.requires.asked)
+pub overflow_add-first : goal.overflow_add-first
+overflow_add-first c = omega (arith, c.past.ensures.within, c.settings-count.ensures, few_settings c.args.plan.now c.requires.asked)
 
 pub behind_open-requires-clause-within : goal.behind_open-requires-clause-within
 behind_open-requires-clause-within c =
@@ -52,12 +52,12 @@ pub kept_of-kept-requires-clause-left : goal.kept_of-kept-requires-clause-left
 kept_of-kept-requires-clause-left c =
     let plan = c.args.plan.now in
     let stood = c.in_ok-stood in
-    let started = lines_behind c.in_ok-key.key.now plan c.args.width c.first-first.result (c.past.result - c.first-first.result) stood.stood.count _ _ stood.stood.left.now c.in_ok-left.left.now c.behind_open.new.started.items
+    let started = lines_behind c.in_ok-key.key plan c.args.width c.first-first.result (c.past.result - c.first-first.result) stood.stood.count _ _ stood.stood.left.now c.in_ok-left.left.now c.behind_open.new.started.items
     refl refl stood.ensures.few stood.ensures.no_more c.in_ok-left.ensures.past c.in_ok-left.ensures.open_lines in
     omega (
       arith,
-      left_within c.in_ok-key.key.now plan c.args.width c.first-first.result stood.stood.count c.read_front-words.result.now stood.stood.left.now stood.ensures.begins,
-      after_within c.in_ok-key.key.now plan c.args.width c.first-first.result (c.past.result - c.first-first.result) stood.stood.count stood.stood.left.now c.in_ok-left.left.now c.behind_open.new.started.items started,
+      left_within c.in_ok-key.key plan c.args.width c.first-first.result stood.stood.count c.read_front-words.result.now stood.stood.left.now stood.ensures.begins,
+      after_within c.in_ok-key.key plan c.args.width c.first-first.result (c.past.result - c.first-first.result) stood.stood.count stood.stood.left.now c.in_ok-left.left.now c.behind_open.new.started.items started,
     )
 
 pub kept_of-kept-requires-clause-words : goal.kept_of-kept-requires-clause-words
@@ -73,7 +73,7 @@ returns-clause-begun c =
     let first = c.first-first.ensures.first ∙ ap (first_run c.args.shard) c.settings-count.ensures in
     let past = c.past.ensures.past ∙ ap (past_run c.args.shard) c.settings-count.ensures in
     let stood = c.in_ok-stood in
-    let started = lines_behind c.in_ok-key.key.now c.args.plan.now c.args.width c.first-first.result (c.past.result - c.first-first.result) stood.stood.count _ _ stood.stood.left.now c.in_ok-left.left.now
+    let started = lines_behind c.in_ok-key.key c.args.plan.now c.args.width c.first-first.result (c.past.result - c.first-first.result) stood.stood.count _ _ stood.stood.left.now c.in_ok-left.left.now
     c.behind_open.new.started.items refl refl stood.ensures.few stood.ensures.no_more c.in_ok-left.ensures.past c.in_ok-left.ensures.open_lines in
     long_stands (counts_revived (view c.args.document.now)) c.args.mark.now c.args.plan.now c.args.width c.args.shard c.args.text.now _ _ _ c.in_ok-key.ensures first (λ i. past i - first i)
     c.in-Some.lines.now c.read_front-words.result.now stood.stood.left.now c.in_ok-left.left.now c.kept_of-kept.result stood.stood.count c.behind_open.new.started.items
