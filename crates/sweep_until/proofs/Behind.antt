@@ -7,20 +7,19 @@ use Rattle.std.proofs.lemmas.List.Concat.{flat_map-append}
 use Rattle.toml.specs.Data.{Data}
 use Rattle.scenario.specs.Setup.{Setup, IsSound}
 use Rattle.trace.specs.declared.row.Row.{Row}
-use Rattle.trace.specs.Sinks.{AppendsBeginning}
 use Rattle.trace.proofs.Beginnings.{Appends-then, beginning-first, beginning-of, beginning-then}
 use Rattle.member_laws.specs.Runs.{IsRunOf}
 use Rattle.sweep_plan.specs.Sweep.{Sweep, setting_count, seed_count}
 use Rattle.figures.specs.Notes.{Note}
 use Rattle.figures.specs.declared.summary.SettingSummary.{SettingSummary}
 use Rattle.shards.specs.declared.shard.Shard.{Shard}
-use Rattle.sweep.specs.Runs.{AreMadeBetween, Made, noted}
+use Rattle.sweep.specs.Runs.{AreMadeBetween, Made}
 use Rattle.sweep.specs.Judged.{AreAccepted}
 use Rattle.sweep.specs.Sums.{sweep_key}
 use Rattle.sweep.specs.Table.{noted_line, counts_revived}
 use Rattle.sweep.specs.Shards.{shard_header}
 use Rattle.sweep.specs.Resumed.{rest_text}
-use Rattle.sweep_until.specs.Until.{AreMadeBehind, AreMadeFrom, AreMadeWithFirst, BeginsSettings, BeginsWide, FinishesSetting, HasSettings, IsMadeBehind, all_of, setting_course, stretch_text}
+use Rattle.sweep_until.specs.Until.{AreMadeBehind, AreMadeFrom, AreMadeWithFirst, BeginsSettings, BeginsWide, FinishesSetting, HasSettings, IsMadeBehind, all_of, setting_course}
 use Rattle.sweep_until.specs.Shards.{AreSettingsBehind, BeginsRestUntil, CanGoOn, WritesRestUntil, first_setting, rest_settings, settings_in}
 use Rattle.sweep_until.proofs.Same.{OneRun, made_long}
 use Rattle.sweep_until.proofs.Left.{filled, setting_within, settings_left}

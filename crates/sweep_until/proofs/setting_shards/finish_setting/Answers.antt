@@ -1,4 +1,4 @@
-use Rattle.std.proofs.Common.{◌≡◌, ◌∙◌, ◌+◌, ap, arith, subst, sym}
+use Rattle.std.proofs.Common.{◌≡◌, ◌∙◌, ◌+◌, ap, arith, subst}
 use Rattle.toml.specs.View.{view}
 use Rattle.shards.specs.Shards.{first_run}
 use Rattle.run_output.proofs.Faults.{on_err}

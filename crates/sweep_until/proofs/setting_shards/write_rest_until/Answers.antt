@@ -1,4 +1,4 @@
-use Rattle.std.proofs.Common.{◌≡◌, [], length, rules, subst, sym}
+use Rattle.std.proofs.Common.{◌≡◌, [], rules, subst, sym}
 use Rattle.toml.specs.View.{view}
 use Rattle.sweep.proofs.Handing.{on_err_then, on_ok_then}
 use Rattle.sweep_until.specs.Shards.{BeginsRestUntil, WritesRestUntil}

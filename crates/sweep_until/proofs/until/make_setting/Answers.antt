@@ -1,4 +1,4 @@
-use Rattle.std.proofs.Common.{◌+◌, ◌≡◌, ◌∙◌, ap, arith, length, refl, subst, sym}
+use Rattle.std.proofs.Common.{◌+◌, ap, arith, length, refl, subst, sym}
 use Rattle.toml.specs.View.{view}
 use Rattle.run_output.proofs.Faults.{on_err}
 use Rattle.sweep_until.specs.Until.{GoesOn, HasEnded, setting_course}
