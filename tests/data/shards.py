@@ -3,7 +3,7 @@
 import json
 import random
 
-from model_sweeps import cases_text, swept, table_of
+from model_sweeps import cases_text, checksum_of, swept, table_of
 from program import Case, DATA, Wrong, expect, expect_ran
 from scenarios import document_of
 from sweeps import FOLDER, expect_progress, seeds_of, settings_of, words_of
@@ -52,13 +52,15 @@ def check_resumed(program, sweep, piece):
         program.keep('t.csv', whole[:cut])
         expect_ran(program.call([*words, '--resume']), 0, b'', b'', f'cut at {cut}')
         expect(f'cut at {cut}', program.held('t.csv'), whole)
-    if 'until' not in sweep and len(ends) > 1:
+    if len(ends) > 1:
         # what stood counts as made
         program.keep('t.csv', whole[:ends[0]])
         told = program.call([*words, '--resume', '--progress']).err
-        expect_progress(told, len(ends), None)
+        if 'until' not in sweep:
+            expect_progress(told, len(ends), None)
         if told.startswith(b'1/'):
             raise Wrong(f'progress: {told}')
+    expect_kept(program, words, whole)
     (program.folder / 't.csv').unlink()
     expect_ran(program.call([*words, '--resume']), 0, b'', b'', 'no table')
     expect('no table', program.held('t.csv'), whole)
@@ -74,6 +76,22 @@ def check_resumed(program, sweep, piece):
         program.keep('t.csv', held)
         expect_ran(program.call([*words, '--resume']), 3, b'', f'swimsim: piece t.csv {line}\n'.encode(), 'refused')
         expect('refused', program.held('t.csv'), held)
+
+
+def expect_kept(program, words, whole):
+    """Goes on behind each line of a table, with a figure of that line changed and its checksum that of the changed line: it stays,
+    since it is genuine, also within a setting of a sweep with a width. So no line is made again."""
+    header, *lines = whole.splitlines(keepends=True)
+    name = header[1:].partition(b'"')[0].partition(b' ')[2]
+    for number, line in enumerate(lines):
+        rest = line.partition(b' ')[2].rstrip(b'\n')
+        front, _, lost = rest.rpartition(b',')
+        other = front + b',%d\n' % (int(lost) + 1)
+        changed = checksum_of(name.decode(), other.decode()).encode() + b' ' + other
+        before, behind = b''.join([header, *lines[:number], changed]), b''.join(lines[number + 1:])
+        program.keep('t.csv', before)
+        expect_ran(program.call([*words, '--resume']), 0, b'', b'', f'line {number} changed')
+        expect(f'line {number} changed', program.held('t.csv'), before + behind)
 
 
 def without_checksums(table):

@@ -5,8 +5,8 @@
 
 A round takes the table of a sweep, cuts it off anywhere, goes on with it, and ends that: by a kill, by a limit on the size of
 files, or on a small file system that something else fills. Then the table must begin with every whole line that stood in it,
-with --until with those of every whole case, and be a beginning of the table that one go makes. Every tenth round goes on to
-the end. N is 40 where it isn't said; releases take 200. The small file system needs the right to mount one, else its rounds
+and be a beginning of the table that one go makes, with --until and without. Every tenth round goes on to the end. N is 40
+where it isn't said; releases take 200. The small file system needs the right to mount one, else its rounds
 are told as skipped. The last line is `N passed, M failed, K skipped`. Linux only; 40 rounds take some ten seconds.
 """
 
@@ -16,6 +16,7 @@ import sys
 import tempfile
 import threading
 import time
+from itertools import accumulate
 from pathlib import Path
 
 import paths  # noqa: F401 (puts the folders of what follows on the path)
@@ -31,7 +32,7 @@ SMALL = 1_310_720
 class Sweep:
     """A sweep, the table that one go makes of it, and where what stays of that may end."""
 
-    def __init__(self, program, folder, options, key=None):
+    def __init__(self, program, folder, options):
         self.program, self.folder = program, folder
         self.words = ['sweep', 's.toml', '--shard', '1/1', *options, '--resume', '--table']
         (folder / 's.toml').write_text(TWO_MEMBERS)
@@ -42,17 +43,7 @@ class Sweep:
             sys.exit(f'resume: {ran} of a plain sweep')
         self.seconds = time.monotonic() - started
         self.whole = (folder / 'whole.csv').read_bytes()
-        self.ends = list(self.ends_of(key))
-
-    def ends_of(self, key):
-        """Where its lines end; where a key's column is named, the first line and the lines of each value."""
-        place, before = 0, None
-        for line in self.whole.splitlines(keepends=True):
-            value = None if key is None else line.split(b',')[key]
-            if place and (key is None or value != before):
-                yield place
-            place, before = place + len(line), value
-        yield place
+        self.ends = list(accumulate(len(line) for line in self.whole.splitlines(keepends=True)))
 
     def cut(self, chance):
         """A beginning of the table, and what must stay of it."""
@@ -164,7 +155,7 @@ def main():
     with tempfile.TemporaryDirectory() as name:
         folder, small = Path(name), Path(name) / 'small'
         small.mkdir()
-        sweeps = [Sweep(program, folder, LONG), Sweep(program, folder, WIDE, key=1)]
+        sweeps = [Sweep(program, folder, LONG), Sweep(program, folder, WIDE)]
         why = mounted(small)
         try:
             counts = play(sweeps, given.rounds, random.Random(seed), folder, small, why)

@@ -1,2 +1,3 @@
+mod Again
 mod CutSettings
-mod Standing
+pub mod Standing

@@ -1,25 +1,40 @@
 //! What stands of the table of a shard of whole settings in a text.
-ghost use Rattle.std.specs.Prelude.{◌≡◌, ◌≤◌, ◌+◌, ◌-◌, List, ℕ, Some, IfOk, IfErr, length, take};
+ghost use Rattle.std.specs.Prelude.{◌≡◌, ◌≤◌, ◌<◌, ◌+◌, ◌-◌, List, [], ℕ, Some, IfOk, IfErr, length, take};
 ghost use Rattle.std.specs.Str.{IsValidUpTo};
 ghost use Rattle.toml.specs.View.{view};
 ghost use Rattle.shards.specs.Shards.{IsShard};
 ghost use Rattle.sweep.specs.Runs.{IsAskedFor};
 ghost use Rattle.sweep.specs.Table.{counts_revived};
+ghost use Rattle.sweep_plan.specs.Sweep.{setting_count};
+ghost use Rattle.table_rows.specs.Open.{BeginsWithOpen};
+ghost use Rattle.table_rows.specs.Settings.{HasSettingOf};
 ghost use Rattle.resume.specs.Begun.{IsBegunSettings, IsRead, RefusesBegunSettings};
 
+use base::Memory;
+use figures::RunMetadata;
 use shards::Shard;
 use std::alloc::Global;
 use std::str::from_utf8;
 use sweep::{BegunFault, lines_behind, sweep_key};
 use sweep_plan::Plan;
-use sweep_until::BegunSettings;
-use table_rows::settings_of_runs;
+use table_rows::{open_rows, settings_of_runs};
 use toml::Value;
 
+/// What of the table of a shard was made before it was cut off, where a setting has as many runs as it needs.
+#[derive(Drop)]
+pub struct BegunSettings {
+    /// How many bytes of it stay: its first line, or a beginning of that, and whole lines behind it.
+    pub kept: usize,
+    /// How many settings have the lines of all their runs there.
+    pub settings: usize,
+    /// The metadata of the other lines there: those of the next setting, which needs more runs.
+    pub started: Vec<RunMetadata>,
+}
+
 /// What stands of a shard's table in a text, where a setting has as many runs as make its interval so many hundredths wide at
-/// most: its first line or a beginning of that, and behind it the lines of its first settings, as many as are whole. Each line has
-/// its checksum, and the values and the seed that the plan asks for at its place. From the first setting that isn't so on nothing
-/// counts.
+/// most: its first line or a beginning of that, and behind it the lines of its first settings, and of the first runs of the next one.
+/// Each line has its checksum, and the values and the seed that the plan asks for at its place. From the first line that isn't so on
+/// nothing counts.
 ///
 /// Faults: `Other` where the text begins otherwise; `Older` where it goes on with a line without a checksum; `Memory`.
 pub fn begun_settings_of(
@@ -34,13 +49,14 @@ pub fn begun_settings_of(
     requires asked { IsAskedFor plan.now }
     requires shard { IsShard shard }
     requires wanted { plan.now.until ≡ Some width }
-    ensures begun { IfOk result (λ begun. IsBegunSettings (counts_revived (view document.now)) mark.now plan.now width shard text.now begun.kept begun.settings) }
+    ensures begun { IfOk result (λ begun. IsBegunSettings (counts_revived (view document.now)) mark.now plan.now width shard text.now begun.kept begun.settings begun.started.items) }
     ensures refused { IfErr result (RefusesBegunSettings (counts_revived (view document.now)) mark.now plan.now shard text.now) }
 {
     let Some(lines) = lines_behind(alloc, plan, shard, mark, document, text)? else {
         return Ok(BegunSettings {
             kept: text.len(),
             settings: 0,
+            started: Vec::new(alloc),
         });
     };
     let key = sweep_key(alloc, plan, mark)?;
@@ -49,11 +65,48 @@ pub fn begun_settings_of(
     let most = shard.past(count) - first;
     let words = read_front(lines);
     let stood = settings_of_runs(alloc, plan, &key, width, first, most, words)?;
-    let kept = kept_of(text, lines, words, stood.left);
+    let settings = stood.count;
+    let mut started = Vec::new(alloc);
+    let number = first + settings;
+    let left = behind_open(
+        alloc,
+        plan,
+        &key,
+        number,
+        first + most,
+        stood.left,
+        &mut started,
+    )?;
+    let kept = kept_of(text, lines, words, left);
     Ok(BegunSettings {
         kept,
-        settings: stood.count,
+        settings,
+        started,
     })
+}
+
+/// What is left of a text behind the lines of the setting of this number, which needs more runs, where that is one before another;
+/// their metadata is put into a list that was empty.
+fn behind_open<'a>(
+    alloc: Global,
+    plan: &Plan,
+    key: &[u8],
+    number: usize,
+    past: usize,
+    text: &'a str,
+    started: &mut Vec<RunMetadata>,
+) -> Result<&'a str, Memory>
+    requires asked { IsAskedFor plan.now }
+    requires within { past ≤ setting_count plan.now.swept_keys }
+    requires none { started.old.items ≡ [] }
+    ensures past { IfOk result (λ left. past ≤ number → (started.new.items ≡ []) × (left.now ≡ text.entry.now)) }
+    ensures open_lines { IfOk result (λ left. number < past → (width : ℕ) → ¬ (HasSettingOf key.now plan.now width number text.entry.now)
+        → BeginsWithOpen key.now plan.now width number text.entry.now left.now started.new.items) }
+{
+    if number < past {
+        return open_rows(alloc, plan, key, number, text, started);
+    }
+    Ok(text)
 }
 
 /// How many bytes of a text stay: all but those of its lines that weren't read, and those that are left behind what was.

@@ -1,5 +1,5 @@
 -- What the file holds that the table of a sweep was written to.
-use Rattle.std.proofs.Common.{◌≡◌, ◌∙◌, ◌≤◌, ◌⊎◌, ◌++◌, ℕ, Bool, false, true, List, [], Option, Some, None, Result, Ok, Err, IfSome, IfOk, OnOk, OnErr, inl, inr, ap, arith, length, sym, subst, take}
+use Rattle.std.proofs.Common.{◌≡◌, ◌∙◌, ◌≤◌, ◌⊎◌, ◌++◌, ℕ, Bool, false, true, List, [], Option, Some, None, Result, Ok, Err, IfSome, IfOk, OnOk, OnErr, inl, inr, refl, ap, arith, length, sym, subst, take}
 use Rattle.std.specs.Io.KnownBytes.{Appends}
 use Rattle.toml.specs.Data.{Data}
 use Rattle.base.specs.declared.fault.Fault.{Fault}
@@ -16,11 +16,13 @@ use Rattle.sweep.specs.Resumed.{IsLong, IsShort, runs_in}
 use Rattle.sweep.specs.Sums.{sweep_key}
 use Rattle.sweep_until.specs.Shards.{settings_in, first_setting}
 use Rattle.resume.specs.Begun.{AreSettingsBehind}
+use Rattle.resume.proofs.Standing.{can_go_on}
+use Rattle.sweep.specs.Runs.{IsAskedFor}
 use Rattle.figures.specs.declared.summary.SettingSummary.{SettingSummary}
 use Rattle.command_line.specs.declared.words.SweepWords.{SweepWords}
 use Rattle.scenario_files.specs.Shelves.{Shelf, HoldsBeginning}
 use Rattle.sweep_command.specs.Outcomes.{BeginsAsked, BeginsPart, BreaksOff, BreaksOffPart, BreaksOffRest, BreaksOffRuns, FitResumed, GoesOn, GoesOnWith, HeldSoFar, IsCaused, MakesAsked, MakesLines, MakesPart, StoresPlain, StoresPart, StoresRest, StoresRuns, Stood, shard_resumed}
-use Rattle.sweep_command.specs.Runs.{AreBegun, AreRuns, BeginsAllRuns, BeginsRuns, FitShard, MakesRuns, RunsBy, rest_table, runs_table}
+use Rattle.sweep_command.specs.Runs.{AreBegun, AreRuns, BeginsAllRuns, BeginsRuns, FitShard, MakesRuns, RunsBy, Standing, rest_table, runs_table}
 use Rattle.scenario_files.proofs.Held.{holds_beginning, holds_text}
 
 -- what is said of a success, with what holds of it
@@ -29,53 +31,54 @@ both_ok P Q (Ok x) p q = (p, q)
 both_ok P Q (Err e) p q = tt
 
 -- what is asked for is the shard, where one is named, and else the whole
-module _ {T E : Type 0} (bytes : T → List ℕ) (tree : Data) (mark : List ℕ) (sweep : SweepWords) (kept count : ℕ) (old new : Option (List ℕ)) (told : Result T E) (asked : Option Shard) where
-  pub shard_told : (p : Shard) → asked ≡ Some p → OnOk told (MakesPart sweep.resume tree mark sweep p kept count old new) → IfOk told (λ lines. bytes lines ≡ [])
-      → IfOk told (λ lines. MakesAsked asked tree mark sweep kept count old new (bytes lines))
+module _ {T E : Type 0} (bytes : T → List ℕ) (tree : Data) (mark : List ℕ) (sweep : SweepWords) (kept : ℕ) (stands : Standing) (old new : Option (List ℕ)) (told : Result T E) (asked : Option Shard) where
+  pub shard_told : (p : Shard) → asked ≡ Some p → OnOk told (MakesPart sweep.resume tree mark sweep p kept stands old new) → IfOk told (λ lines. bytes lines ≡ [])
+      → IfOk told (λ lines. MakesAsked asked tree mark sweep kept stands old new (bytes lines))
   shard_told p is written untold =
-      subst (λ (o : Option Shard). IfOk told (λ lines. MakesAsked o tree mark sweep kept count old new (bytes lines))) (sym is)
-      (both_ok (MakesPart sweep.resume tree mark sweep p kept count old new) (λ lines. bytes lines ≡ []) told written untold)
+      subst (λ (o : Option Shard). IfOk told (λ lines. MakesAsked o tree mark sweep kept stands old new (bytes lines))) (sym is)
+      (both_ok (MakesPart sweep.resume tree mark sweep p kept stands old new) (λ lines. bytes lines ≡ []) told written untold)
 
-  pub whole_told : asked ≡ None → IfOk told (λ lines. MakesLines tree mark sweep old new (bytes lines)) → IfOk told (λ lines. MakesAsked asked tree mark sweep kept count old new (bytes lines))
-  whole_told is tells = subst (λ (o : Option Shard). IfOk told (λ lines. MakesAsked o tree mark sweep kept count old new (bytes lines))) (sym is) tells
+  pub whole_told : asked ≡ None → IfOk told (λ lines. MakesLines tree mark sweep old new (bytes lines)) → IfOk told (λ lines. MakesAsked asked tree mark sweep kept stands old new (bytes lines))
+  whole_told is tells = subst (λ (o : Option Shard). IfOk told (λ lines. MakesAsked o tree mark sweep kept stands old new (bytes lines))) (sym is) tells
 
-  pub shard_begun : (p : Shard) → asked ≡ Some p → OnErr told (BeginsPart sweep.resume tree mark sweep p kept count old new) → OnErr told (BeginsAsked asked tree mark sweep kept count old new)
-  shard_begun p is begun = subst (λ (o : Option Shard). OnErr told (BeginsAsked o tree mark sweep kept count old new)) (sym is) begun
+  pub shard_begun : (p : Shard) → asked ≡ Some p → OnErr told (BeginsPart sweep.resume tree mark sweep p kept stands old new) → OnErr told (BeginsAsked asked tree mark sweep kept stands old new)
+  shard_begun p is begun = subst (λ (o : Option Shard). OnErr told (BeginsAsked o tree mark sweep kept stands old new)) (sym is) begun
 
-  pub whole_begun : asked ≡ None → OnErr told (BeginsAllRuns sweep.plan.until tree mark sweep.plan old new) → OnErr told (BeginsAsked asked tree mark sweep kept count old new)
-  whole_begun is begun = subst (λ (o : Option Shard). OnErr told (BeginsAsked o tree mark sweep kept count old new)) (sym is) begun
+  pub whole_begun : asked ≡ None → OnErr told (BeginsAllRuns sweep.plan.until tree mark sweep.plan old new) → OnErr told (BeginsAsked asked tree mark sweep kept stands old new)
+  whole_begun is begun = subst (λ (o : Option Shard). OnErr told (BeginsAsked o tree mark sweep kept stands old new)) (sym is) begun
 
--- a shard that goes on has no fewer runs, or settings, than are made
-begun_few : (until : Option ℕ) (revived : Bool) (mark : List ℕ) (plan : Sweep) (p : Shard) (text : List ℕ) (kept count : ℕ) → AreBegun until revived mark plan p text kept count
-    → FitShard until plan p count
-begun_few None revived mark plan p text kept count begun = begun.few
-begun_few (Some width) revived mark plan p text kept count begun = begun.few
+-- what stands of a shard is no more than it has
+begun_few : (until : Option ℕ) (revived : Bool) (mark : List ℕ) (plan : Sweep) (p : Shard) (text : List ℕ) (kept : ℕ) (stands : Standing) → IsAskedFor plan → plan.until ≡ until
+    → AreBegun until revived mark plan p text kept stands → FitShard until plan p (shard_header revived mark plan p) kept stands
+begun_few None revived mark plan p text kept stands asked is begun = begun.few
+begun_few (Some width) revived mark plan p text kept stands asked is begun = can_go_on revived mark plan width p text kept stands.count stands.before asked is begun
 
 -- no more bytes stay than there are
-begun_within : (until : Option ℕ) (revived : Bool) (mark : List ℕ) (plan : Sweep) (p : Shard) (text : List ℕ) (kept count : ℕ) → AreBegun until revived mark plan p text kept count
+begun_within : (until : Option ℕ) (revived : Bool) (mark : List ℕ) (plan : Sweep) (p : Shard) (text : List ℕ) (kept : ℕ) (stands : Standing) → AreBegun until revived mark plan p text kept stands
     → kept ≤ length text
-begun_within None revived mark plan p text kept count begun = by begun.stands
+begun_within None revived mark plan p text kept stands begun = by begun.stands
   where
     header : List ℕ
     header = shard_header revived mark plan p
 
-    by : IsShort header text kept count ⊎ IsLong (sweep_key mark plan) plan (first_run p (run_count plan)) (runs_in plan p) header text kept count → kept ≤ length text
+    by : IsShort header text kept stands.count ⊎ IsLong (sweep_key mark plan) plan (first_run p (run_count plan)) (runs_in plan p) header text kept stands.count → kept ≤ length text
     by (inl short) = omega (arith, short.all)
     by (inr long) = omega (arith, long.stay)
-begun_within (Some width) revived mark plan p text kept count begun = by begun.stands
+begun_within (Some width) revived mark plan p text kept stands begun = by begun.stands
   where
     header : List ℕ
     header = shard_header revived mark plan p
 
-    by : IsShort header text kept count ⊎ AreSettingsBehind (sweep_key mark plan) plan width (first_setting plan p) (settings_in plan p) header text kept count → kept ≤ length text
-    by (inl short) = omega (arith, short.all)
+    by : (IsShort header text kept stands.count × (stands.before ≡ []))
+        ⊎ AreSettingsBehind (sweep_key mark plan) plan width (first_setting plan p) (settings_in plan p) header text kept stands.count stands.before → kept ≤ length text
+    by (inl short) = omega (arith, short.0.all)
     by (inr behind) = omega (arith, behind.stay)
 
-pub stood_few : (tree : Data) (mark : List ℕ) (sweep : SweepWords) (known : KnownFile) (kept count : ℕ) → GoesOn tree mark sweep known kept count
-    → FitResumed sweep sweep.shard count
-stood_few tree mark sweep known kept count goes p is =
-    let there : Stood tree mark sweep p known kept count = subst (λ (o : Option Shard). GoesOnWith o tree mark sweep known kept count) is goes in
-    begun_few sweep.plan.until (counts_revived tree) mark sweep.plan p there.text kept count there.begun
+pub stood_few : (tree : Data) (mark : List ℕ) (sweep : SweepWords) (known : KnownFile) (kept : ℕ) (stands : Standing) → IsAskedFor sweep.plan → GoesOn tree mark sweep known kept stands
+    → FitResumed tree mark sweep sweep.shard kept stands
+stood_few tree mark sweep known kept stands asked goes p is =
+    let there : Stood tree mark sweep p known kept stands = subst (λ (o : Option Shard). GoesOnWith o tree mark sweep known kept stands) is goes in
+    begun_few sweep.plan.until (counts_revived tree) mark sweep.plan p there.text kept stands asked refl there.begun
 
 -- the file holds what was read of it
 held_bytes : (held : Option (List ℕ)) (text : List ℕ) → HeldSoFar (Some held) text → bytes_held held ≡ text
@@ -83,12 +86,12 @@ held_bytes held text (inl holds) = ap bytes_held holds
 held_bytes held text (inr absent) = ap bytes_held absent.0 ∙ sym absent.1
 
 -- so it has as many bytes as stay
-pub holds_kept : (shard : Option Shard) (tree : Data) (mark : List ℕ) (sweep : SweepWords) (known : KnownFile) (kept count : ℕ) → GoesOnWith shard tree mark sweep known kept count
+pub holds_kept : (shard : Option Shard) (tree : Data) (mark : List ℕ) (sweep : SweepWords) (known : KnownFile) (kept : ℕ) (stands : Standing) → GoesOnWith shard tree mark sweep known kept stands
     → HoldsAtLeast known kept
-holds_kept shard tree mark sweep None kept count goes = tt
-holds_kept None tree mark sweep (Some held) kept count goes = omega (arith, goes)
-holds_kept (Some p) tree mark sweep (Some held) kept count goes =
-    omega (arith, ap length (held_bytes held goes.text goes.held), begun_within sweep.plan.until (counts_revived tree) mark sweep.plan p goes.text kept count goes.begun)
+holds_kept shard tree mark sweep None kept stands goes = tt
+holds_kept None tree mark sweep (Some held) kept stands goes = omega (arith, goes)
+holds_kept (Some p) tree mark sweep (Some held) kept stands goes =
+    omega (arith, ap length (held_bytes held goes.text goes.held), begun_within sweep.plan.until (counts_revived tree) mark sweep.plan p goes.text kept stands goes.begun)
 
 -- where a file was opened behind these bytes, it and its writer hold them
 pub holds_front : (before made : KnownFile) (old : Option (List ℕ)) (kept : ℕ) (text : List ℕ) → HeldSoFar before text → files.HoldsBeginning before made kept
@@ -130,7 +133,7 @@ module _ (until : Option ℕ) (tree : Data) (mark mark' : List ℕ) (plan : Swee
   marked_begins same begins = subst (λ m. BeginsAllRuns until tree m plan old new) same begins
 
 -- after a sweep that was done, and after one that broke off
-module _ (tree : Data) (mark : List ℕ) (sweep : SweepWords) (start made end : Shelf) (old new : Option (List ℕ)) (kept count : ℕ)
+module _ (tree : Data) (mark : List ℕ) (sweep : SweepWords) (start made end : Shelf) (old new : Option (List ℕ)) (kept : ℕ) (stands : Standing)
     (table_made : KeepsOthers start made sweep.table.now) (table_closed : KeepsOthers made end sweep.table.now)
     (begins : files.HoldsBeginning (start sweep.table.now) (made sweep.table.now) kept)
     (behind : IfSome (start sweep.table.now) (λ held. old ≡ Some (take kept (bytes_held held))))
@@ -166,16 +169,16 @@ module _ (tree : Data) (mark : List ℕ) (sweep : SweepWords) (start made end : 
     }
 
   -- where some does
-  module _ (p : Shard) (stood : Stood tree mark sweep p (start sweep.table.now) kept count) where
+  module _ (p : Shard) (stood : Stood tree mark sweep p (start sweep.table.now) kept stands) where
     stay_held : (text : List ℕ) → Appends old new text → HoldsNow (start sweep.table.now) (end sweep.table.now) (take kept stood.text ++ text)
     stay_held text written =
         let front = holds_front (start sweep.table.now) (made sweep.table.now) old kept stood.text stood.held begins behind in
         holds_behind (start sweep.table.now) (made sweep.table.now) (end sweep.table.now) old new (take kept stood.text) text front.0 front.1 written closes
 
-    rest_stored : MakesPart true tree mark sweep p kept count old new → StoresRest tree mark sweep p start end
+    rest_stored : MakesPart true tree mark sweep p kept stands old new → StoresRest tree mark sweep p start end
     rest_stored makes = record {
       kept = kept;
-      count = count;
+      stands = stands;
       stood = stood;
       made = makes.made;
       are = makes.are;
@@ -183,11 +186,11 @@ module _ (tree : Data) (mark : List ℕ) (sweep : SweepWords) (start made end : 
       others = others_kept;
     }
 
-    rest_begun : (Refused : Type 0) (cause : Fault) → IsCaused Refused tree sweep.plan cause → BeginsPart true tree mark sweep p kept count old new
+    rest_begun : (Refused : Type 0) (cause : Fault) → IsCaused Refused tree sweep.plan cause → BeginsPart true tree mark sweep p kept stands old new
         → BreaksOffRest Refused tree mark sweep p start end cause
     rest_begun Refused cause caused begun = record {
       kept = kept;
-      count = count;
+      stands = stands;
       stood = stood;
       made = begun.made;
       are = begun.are;
@@ -197,9 +200,9 @@ module _ (tree : Data) (mark : List ℕ) (sweep : SweepWords) (start made end : 
     }
 
   abbrev Goes : Option Shard → Type 0
-  Goes shard = GoesOnWith shard tree mark sweep (start sweep.table.now) kept count
+  Goes shard = GoesOnWith shard tree mark sweep (start sweep.table.now) kept stands
 
-  part_stored : (resume : Bool) (p : Shard) → Goes (shard_resumed resume (Some p)) → MakesPart resume tree mark sweep p kept count old new → StoresPart resume tree mark sweep p start end
+  part_stored : (resume : Bool) (p : Shard) → Goes (shard_resumed resume (Some p)) → MakesPart resume tree mark sweep p kept stands old new → StoresPart resume tree mark sweep p start end
   part_stored false p goes makes = (makes.made, runs_stored goes p makes.made makes.are makes.written)
   part_stored true p goes makes = rest_stored p goes makes
 
@@ -207,7 +210,7 @@ module _ (tree : Data) (mark : List ℕ) (sweep : SweepWords) (start made end : 
   nothing_stays false goes = goes
   nothing_stays true goes = goes
 
-  pub table_stored : (shard : Option Shard) (lines : List ℕ) → Goes (shard_resumed sweep.resume shard) → MakesAsked shard tree mark sweep kept count old new lines
+  pub table_stored : (shard : Option Shard) (lines : List ℕ) → Goes (shard_resumed sweep.resume shard) → MakesAsked shard tree mark sweep kept stands old new lines
       → StoresPlain shard tree mark sweep start end lines
   table_stored (Some p) lines goes tells = (part_stored sweep.resume p goes tells.0, tells.1)
   table_stored None lines goes tells = (
@@ -217,12 +220,12 @@ module _ (tree : Data) (mark : List ℕ) (sweep : SweepWords) (start made end : 
   )
 
   module _ (Refused : Type 0) (cause : Fault) (caused : IsCaused Refused tree sweep.plan cause) where
-    part_begun : (resume : Bool) (p : Shard) → Goes (shard_resumed resume (Some p)) → BeginsPart resume tree mark sweep p kept count old new
+    part_begun : (resume : Bool) (p : Shard) → Goes (shard_resumed resume (Some p)) → BeginsPart resume tree mark sweep p kept stands old new
         → BreaksOffPart resume Refused tree mark sweep p start end cause
     part_begun false p goes begun = runs_begun goes Refused cause caused p begun
     part_begun true p goes begun = rest_begun p goes Refused cause caused begun
 
-    pub table_begun : (shard : Option Shard) → Goes (shard_resumed sweep.resume shard) → BeginsAsked shard tree mark sweep kept count old new
+    pub table_begun : (shard : Option Shard) → Goes (shard_resumed sweep.resume shard) → BeginsAsked shard tree mark sweep kept stands old new
         → BreaksOff shard Refused tree mark sweep start end cause
     table_begun (Some p) goes begun = part_begun sweep.resume p goes begun
     table_begun None goes begun = runs_begun (nothing_stays sweep.resume goes) Refused cause caused whole begun

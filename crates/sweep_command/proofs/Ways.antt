@@ -18,7 +18,7 @@ use Rattle.sweep.specs.Shards.{AreMadeIn, BeginsShard, BeginsTable, WritesShard}
 use Rattle.sweep.proofs.Flat.{runs_counted}
 use Rattle.sweep.specs.Resumed.{BeginsRest, WritesRest}
 use Rattle.sweep_until.specs.Shards.{AreSettingsBehind, AreSettingsIn, BeginsShardUntil, BeginsRestUntil, WritesShardUntil, WritesRestUntil}
-use Rattle.sweep_command.specs.Runs.{BeginsAllRuns, BeginsRuns, BeginsRunsBehind, MakesRuns, WritesRuns, WritesRunsBehind}
+use Rattle.sweep_command.specs.Runs.{BeginsAllRuns, BeginsRuns, BeginsRunsBehind, MakesRuns, Standing, WritesRuns, WritesRunsBehind}
 
 -- what holds of the way that was taken holds of the one that is asked for
 pub ok_by : {T E : Type 0} {P : T → Type 0} (Q : Option ℕ → T → Type 0) (until way : Option ℕ) (told : Result T E) → until ≡ way → IfOk told P → ((x : T) → P x → Q way x) → IfOk told (Q until)
@@ -104,23 +104,23 @@ module _ (tree : Data) (mark : List ℕ) (plan : Sweep) (p : Shard) (old new : O
   }
 
 -- and of one that goes on
-module _ (tree : Data) (mark : List ℕ) (plan : Sweep) (p : Shard) (kept count : ℕ) (old new : Option (List ℕ)) where
-  pub rest_made : WritesRest tree mark plan p kept count old new → WritesRunsBehind None tree mark plan p kept count old new
+module _ (tree : Data) (mark : List ℕ) (plan : Sweep) (p : Shard) (kept : ℕ) (stands : Standing) (old new : Option (List ℕ)) where
+  pub rest_made : WritesRest tree mark plan p kept stands.count old new → WritesRunsBehind None tree mark plan p kept stands old new
   rest_made makes = record { made = makes.made; are = makes.are; written = makes.written }
 
-  pub rest_begun : BeginsRest tree mark plan p kept count old new → BeginsRunsBehind None tree mark plan p kept count old new
+  pub rest_begun : BeginsRest tree mark plan p kept stands.count old new → BeginsRunsBehind None tree mark plan p kept stands old new
   rest_begun begins = record { made = begins.made; are = begins.are; written = begins.written }
 
-  pub few_rest_made : (width : ℕ) → plan.until ≡ Some width → WritesRestUntil tree mark plan p kept count old new → WritesRunsBehind (Some width) tree mark plan p kept count old new
+  pub few_rest_made : (width : ℕ) → plan.until ≡ Some width → WritesRestUntil tree mark plan p kept stands.count stands.before old new → WritesRunsBehind (Some width) tree mark plan p kept stands old new
   few_rest_made width is makes = record {
     made = makes.made;
-    are = subst (λ (w : ℕ). AreSettingsBehind tree plan w p count makes.made) (same_Some makes.width width (sym makes.wanted ∙ is)) makes.are;
+    are = subst (λ (w : ℕ). AreSettingsBehind tree plan w p stands.count stands.before makes.made) (same_Some makes.width width (sym makes.wanted ∙ is)) makes.are;
     written = makes.written;
   }
 
-  pub few_rest_begun : (width : ℕ) → plan.until ≡ Some width → BeginsRestUntil tree mark plan p kept count old new → BeginsRunsBehind (Some width) tree mark plan p kept count old new
+  pub few_rest_begun : (width : ℕ) → plan.until ≡ Some width → BeginsRestUntil tree mark plan p kept stands.count stands.before old new → BeginsRunsBehind (Some width) tree mark plan p kept stands old new
   few_rest_begun width is begins = record {
     made = begins.made;
-    are = subst (λ (w : ℕ). AreSettingsBehind tree plan w p count begins.made) (same_Some begins.width width (sym begins.wanted ∙ is)) begins.are;
+    are = subst (λ (w : ℕ). AreSettingsBehind tree plan w p stands.count stands.before begins.made) (same_Some begins.width width (sym begins.wanted ∙ is)) begins.are;
     written = begins.written;
   }

@@ -18,6 +18,7 @@ use Rattle.sweep_output.specs.Telling.{IsSweepPage, TellsSettings}
 use Rattle.shards.specs.Shards.{whole}
 use Rattle.shards.specs.declared.shard.Shard.{Shard}
 use Rattle.sweep.specs.Runs.{Planned}
+use Rattle.sweep.specs.Shards.{shard_header}
 use Rattle.sweep.specs.Judged.{AreAccepted, IsFirstRefused}
 use Rattle.sweep.specs.Table.{counts_revived, HasCause}
 use Rattle.sweep.specs.declared.begun.BegunFault.TheVariants as begun_fault
@@ -32,7 +33,7 @@ use Rattle.command_line.specs.declared.failure.ShardFault.{ShardFault}
 use Rattle.command_line.specs.declared.failure.ShardFault.TheVariants as shard
 use Rattle.scenario_files.specs.Shelves.{Shelf, word_given, IsRefused, IsUnread, HoldsBeginning}
 use Rattle.scenario_files.specs.Loading.{HasDocument, HasMarkedDocument, HasNoDocument}
-use Rattle.sweep_command.specs.Runs.{RunsBy, AreBegun, AreRuns, AreRunsBehind, AreSummedUp, BeginsAllRuns, BeginsRuns, BeginsRunsBehind, FitShard, MakesRuns, RefusesTable, WritesRuns, WritesRunsBehind, rest_table, runs_table}
+use Rattle.sweep_command.specs.Runs.{RunsBy, Standing, AreBegun, AreRuns, AreRunsBehind, AreSummedUp, BeginsAllRuns, BeginsRuns, BeginsRunsBehind, FitShard, MakesRuns, RefusesTable, WritesRuns, WritesRunsBehind, rest_table, runs_table}
 
 -- the words ask for a sweep that tells how far it has come
 abbrev pub AsksForProgress : List Text → Type 0
@@ -122,20 +123,20 @@ pub record BeginsPaged (tree : Data) (mark : List ℕ) (sweep : SweepWords) (old
 abbrev pub HeldSoFar : KnownFile → List ℕ → Type 0
 HeldSoFar known text = Holds known text ⊎ (IsAbsent known × (text ≡ []))
 
--- of a shard's table so much stood in the file: so many bytes stay, with the lines of so many runs, or whole settings
-pub record Stood (tree : Data) (mark : List ℕ) (sweep : SweepWords) (p : Shard) (known : KnownFile) (kept count : ℕ) : Type 0 where
+-- of a shard's table so much stood in the file: so many bytes stay, with the lines of these runs
+pub record Stood (tree : Data) (mark : List ℕ) (sweep : SweepWords) (p : Shard) (known : KnownFile) (kept : ℕ) (stands : Standing) : Type 0 where
   pub text : List ℕ
   pub held : HeldSoFar known text
-  pub begun : AreBegun sweep.plan.until (counts_revived tree) mark sweep.plan p text kept count
+  pub begun : AreBegun sweep.plan.until (counts_revived tree) mark sweep.plan p text kept stands
 
 -- The runs of a shard that were left were made: the file holds what stays of the table that stood there, and behind it the rest of the
 -- table, with the lines of these runs; and no other file has changed.
 pub record StoresRest (tree : Data) (mark : List ℕ) (sweep : SweepWords) (p : Shard) (before after : Shelf) : Type 0 where
   pub kept : ℕ
-  pub count : ℕ
-  pub stood : Stood tree mark sweep p (before sweep.table.now) kept count
+  pub stands : Standing
+  pub stood : Stood tree mark sweep p (before sweep.table.now) kept stands
   pub made : RunsBy sweep.plan.until
-  pub are : AreRunsBehind sweep.plan.until tree sweep.plan p count made
+  pub are : AreRunsBehind sweep.plan.until tree sweep.plan p stands made
   pub stored : HoldsNow (before sweep.table.now) (after sweep.table.now) (take kept stood.text ++ rest_table sweep.plan.until tree mark sweep.plan p kept made)
   pub others : KeepsOthers before after sweep.table.now
 
@@ -159,23 +160,23 @@ abbrev pub AreApart : Option (Bor Text) → Making → Text → Text → Type 0
 AreApart None making file table = making.are_one file table ≡ false
 AreApart (Some page) making file table = AreThreeFiles making file table page.now
 
--- the same of what was appended to what was held; of a shard that went on, behind so many bytes, with the lines of so many runs or settings
-abbrev pub MakesPart : Bool → Data → List ℕ → SweepWords → Shard → ℕ → ℕ → Option (List ℕ) → Option (List ℕ) → Type 0
-MakesPart false tree mark sweep p kept count old new = WritesRuns sweep.plan.until tree mark sweep.plan p old new
-MakesPart true tree mark sweep p kept count old new = WritesRunsBehind sweep.plan.until tree mark sweep.plan p kept count old new
+-- the same of what was appended to what was held; of a shard that went on, behind so many bytes, with the lines of these runs
+abbrev pub MakesPart : Bool → Data → List ℕ → SweepWords → Shard → ℕ → Standing → Option (List ℕ) → Option (List ℕ) → Type 0
+MakesPart false tree mark sweep p kept stands old new = WritesRuns sweep.plan.until tree mark sweep.plan p old new
+MakesPart true tree mark sweep p kept stands old new = WritesRunsBehind sweep.plan.until tree mark sweep.plan p kept stands old new
 
-abbrev pub MakesAsked : Option Shard → Data → List ℕ → SweepWords → ℕ → ℕ → Option (List ℕ) → Option (List ℕ) → List ℕ → Type 0
-MakesAsked None tree mark sweep kept count old new lines = MakesLines tree mark sweep old new lines
-MakesAsked (Some p) tree mark sweep kept count old new lines = MakesPart sweep.resume tree mark sweep p kept count old new × (lines ≡ [])
+abbrev pub MakesAsked : Option Shard → Data → List ℕ → SweepWords → ℕ → Standing → Option (List ℕ) → Option (List ℕ) → List ℕ → Type 0
+MakesAsked None tree mark sweep kept stands old new lines = MakesLines tree mark sweep old new lines
+MakesAsked (Some p) tree mark sweep kept stands old new lines = MakesPart sweep.resume tree mark sweep p kept stands old new × (lines ≡ [])
 
 -- a beginning of it was appended
-abbrev pub BeginsPart : Bool → Data → List ℕ → SweepWords → Shard → ℕ → ℕ → Option (List ℕ) → Option (List ℕ) → Type 0
-BeginsPart false tree mark sweep p kept count old new = BeginsRuns sweep.plan.until tree mark sweep.plan p old new
-BeginsPart true tree mark sweep p kept count old new = BeginsRunsBehind sweep.plan.until tree mark sweep.plan p kept count old new
+abbrev pub BeginsPart : Bool → Data → List ℕ → SweepWords → Shard → ℕ → Standing → Option (List ℕ) → Option (List ℕ) → Type 0
+BeginsPart false tree mark sweep p kept stands old new = BeginsRuns sweep.plan.until tree mark sweep.plan p old new
+BeginsPart true tree mark sweep p kept stands old new = BeginsRunsBehind sweep.plan.until tree mark sweep.plan p kept stands old new
 
-abbrev pub BeginsAsked : Option Shard → Data → List ℕ → SweepWords → ℕ → ℕ → Option (List ℕ) → Option (List ℕ) → Type 0
-BeginsAsked None tree mark sweep kept count old new = BeginsAllRuns sweep.plan.until tree mark sweep.plan old new
-BeginsAsked (Some p) tree mark sweep kept count old new = BeginsPart sweep.resume tree mark sweep p kept count old new
+abbrev pub BeginsAsked : Option Shard → Data → List ℕ → SweepWords → ℕ → Standing → Option (List ℕ) → Option (List ℕ) → Type 0
+BeginsAsked None tree mark sweep kept stands old new = BeginsAllRuns sweep.plan.until tree mark sweep.plan old new
+BeginsAsked (Some p) tree mark sweep kept stands old new = BeginsPart sweep.resume tree mark sweep p kept stands old new
 
 -- the shard that goes on, if one does
 abbrev pub shard_resumed : Bool → Option Shard → Option Shard
@@ -183,17 +184,18 @@ shard_resumed false asked = None
 shard_resumed true asked = asked
 
 -- a shard goes on with so many bytes that stay of what stood in the file of its table; where none does, nothing stays
-abbrev pub GoesOnWith : Option Shard → Data → List ℕ → SweepWords → KnownFile → ℕ → ℕ → Type 0
-GoesOnWith None tree mark sweep known kept count = kept ≡ 0
-GoesOnWith (Some p) tree mark sweep known kept count = Stood tree mark sweep p known kept count
+abbrev pub GoesOnWith : Option Shard → Data → List ℕ → SweepWords → KnownFile → ℕ → Standing → Type 0
+GoesOnWith None tree mark sweep known kept stands = kept ≡ 0
+GoesOnWith (Some p) tree mark sweep known kept stands = Stood tree mark sweep p known kept stands
 
 -- so does the shard that goes on, if one does
-abbrev pub GoesOn : Data → List ℕ → SweepWords → KnownFile → ℕ → ℕ → Type 0
-GoesOn tree mark sweep known kept count = GoesOnWith (shard_resumed sweep.resume sweep.shard) tree mark sweep known kept count
+abbrev pub GoesOn : Data → List ℕ → SweepWords → KnownFile → ℕ → Standing → Type 0
+GoesOn tree mark sweep known kept stands = GoesOnWith (shard_resumed sweep.resume sweep.shard) tree mark sweep known kept stands
 
--- so many runs of it, or settings, are no more than it has
-abbrev pub FitResumed : SweepWords → Option Shard → ℕ → Type 0
-FitResumed sweep asked count = ForSome (shard_resumed sweep.resume asked) (λ p. FitShard sweep.plan.until sweep.plan p count)
+-- it can go on behind these runs
+abbrev pub FitResumed : Data → List ℕ → SweepWords → Option Shard → ℕ → Standing → Type 0
+FitResumed tree mark sweep asked kept stands =
+    ForSome (shard_resumed sweep.resume asked) (λ p. FitShard sweep.plan.until sweep.plan p (shard_header (counts_revived tree) mark sweep.plan p) kept stands)
 
 -- the sweep passed its checks and was done, and this is what is told of its settings, where it is a whole one
 pub record SweepsAll (release : List ℕ) (before after : Shelf) (making : Making) (sweep : SweepWords) (lines : List ℕ) : Type 0 where
@@ -277,10 +279,10 @@ pub record HoldsBehind (old new : KnownFile) (stay text : List ℕ) : Type 0 whe
 -- and behind it a beginning of the rest, and no other has changed.
 pub record BreaksOffRest (Refused : Type 0) (tree : Data) (mark : List ℕ) (sweep : SweepWords) (p : Shard) (before after : Shelf) (cause : Fault) : Type 0 where
   pub kept : ℕ
-  pub count : ℕ
-  pub stood : Stood tree mark sweep p (before sweep.table.now) kept count
+  pub stands : Standing
+  pub stood : Stood tree mark sweep p (before sweep.table.now) kept stands
   pub made : RunsBy sweep.plan.until
-  pub are : AreRunsBehind sweep.plan.until tree sweep.plan p count made
+  pub are : AreRunsBehind sweep.plan.until tree sweep.plan p stands made
   pub begun : HoldsBehind (before sweep.table.now) (after sweep.table.now) (take kept stood.text) (rest_table sweep.plan.until tree mark sweep.plan p kept made)
   pub others : KeepsOthers before after sweep.table.now
   pub caused : IsCaused Refused tree sweep.plan cause

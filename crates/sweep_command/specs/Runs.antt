@@ -15,8 +15,9 @@ use Rattle.sweep.specs.Table.{counts_revived}
 use Rattle.sweep.specs.Shards.{AreMadeIn, shard_table}
 use Rattle.sweep.specs.Resumed.{AreMadeBehind, IsBegun, RefusesBegun, rest_text}
 use Rattle.sweep.specs.declared.begun.BegunFault.{BegunFault}
+use Rattle.figures.specs.Notes.{Note}
 use Rattle.resume.specs.Begun.{IsBegunSettings, RefusesBegunSettings}
-use Rattle.sweep_until.specs.Shards.{AreSettingsBehind, AreSettingsIn, settings_in}
+use Rattle.sweep_until.specs.Shards.{AreSettingsBehind, AreSettingsIn, CanGoOn}
 use Rattle.sweep_until.specs.Until.{SumsUp, all_of}
 
 -- how runs are listed: all of them in one list; with a width, those of each setting in a list of their own
@@ -69,38 +70,46 @@ pub record MakesRuns (until : Option ℕ) (tree : Data) (mark : List ℕ) (plan 
 
 -- ---- of a shard that goes on
 
--- So much of the table of a shard stands in the text: so many bytes stay, with the lines of so many runs; with a width, of so many whole settings.
-abbrev pub AreBegun : Option ℕ → Bool → List ℕ → Sweep → Shard → List ℕ → ℕ → ℕ → Type 0
-AreBegun None revived mark plan p text kept count = IsBegun revived mark plan p text kept count
-AreBegun (Some width) revived mark plan p text kept count = IsBegunSettings revived mark plan width p text kept count
+-- Of which runs lines stay: of so many runs; with a width, of so many whole settings, and of the runs of the next one with this metadata.
+pub record Standing : Type 0 where
+  pub count : ℕ
+  pub before : List Note
+
+abbrev pub standing : ℕ → List Note → Standing
+standing count before = record { count = count; before = before }
+
+-- so much of the table of a shard stands in the text: so many bytes stay, with the lines of these runs
+abbrev pub AreBegun : Option ℕ → Bool → List ℕ → Sweep → Shard → List ℕ → ℕ → Standing → Type 0
+AreBegun None revived mark plan p text kept stands = IsBegun revived mark plan p text kept stands.count
+AreBegun (Some width) revived mark plan p text kept stands = IsBegunSettings revived mark plan width p text kept stands.count stands.before
 
 -- why the text isn't so, unless memory was refused
 abbrev pub RefusesTable : Option ℕ → Bool → List ℕ → Sweep → Shard → List ℕ → BegunFault → Type 0
 RefusesTable None revived mark plan p text fault = RefusesBegun revived mark plan p text fault
 RefusesTable (Some width) revived mark plan p text fault = RefusesBegunSettings revived mark plan p text fault
 
--- so many runs, or settings, are no more than the shard has
-abbrev pub FitShard : Option ℕ → Sweep → Shard → ℕ → Type 0
-FitShard None plan p count = first_run p (run_count plan) + count ≤ past_run p (run_count plan)
-FitShard (Some width) plan p count = count ≤ settings_in plan p
+-- they are no more than the shard has, behind its first line, so that it can go on
+abbrev pub FitShard : Option ℕ → Sweep → Shard → List ℕ → ℕ → Standing → Type 0
+FitShard None plan p header kept stands = first_run p (run_count plan) + stands.count ≤ past_run p (run_count plan)
+FitShard (Some width) plan p header kept stands = CanGoOn plan p header kept stands.count stands.before
 
--- these are the runs of the shard but for the first, so many, or for those of its first settings
-abbrev pub AreRunsBehind : (until : Option ℕ) → Data → Sweep → Shard → ℕ → RunsBy until → Type 0
-AreRunsBehind None tree plan p count made = AreMadeBehind tree plan p count made
-AreRunsBehind (Some width) tree plan p count made = AreSettingsBehind tree plan width p count made
+-- these are the other runs of the shard
+abbrev pub AreRunsBehind : (until : Option ℕ) → Data → Sweep → Shard → Standing → RunsBy until → Type 0
+AreRunsBehind None tree plan p stands made = AreMadeBehind tree plan p stands.count made
+AreRunsBehind (Some width) tree plan p stands made = AreSettingsBehind tree plan width p stands.count stands.before made
 
 -- what comes behind so many bytes of the table of the shard: what they lack of its first line, and the lines of these runs
 abbrev pub rest_table : (until : Option ℕ) → Data → List ℕ → Sweep → Shard → ℕ → RunsBy until → List ℕ
 rest_table until tree mark plan p kept made = rest_text (counts_revived tree) mark plan p kept (listed until made)
 
 -- the runs that were left were made: that was appended
-pub record WritesRunsBehind (until : Option ℕ) (tree : Data) (mark : List ℕ) (plan : Sweep) (p : Shard) (kept count : ℕ) (old new : Option (List ℕ)) : Type 0 where
+pub record WritesRunsBehind (until : Option ℕ) (tree : Data) (mark : List ℕ) (plan : Sweep) (p : Shard) (kept : ℕ) (stands : Standing) (old new : Option (List ℕ)) : Type 0 where
   pub made : RunsBy until
-  pub are : AreRunsBehind until tree plan p count made
+  pub are : AreRunsBehind until tree plan p stands made
   pub written : Appends old new (rest_table until tree mark plan p kept made)
 
 -- a beginning of it was
-pub record BeginsRunsBehind (until : Option ℕ) (tree : Data) (mark : List ℕ) (plan : Sweep) (p : Shard) (kept count : ℕ) (old new : Option (List ℕ)) : Type 0 where
+pub record BeginsRunsBehind (until : Option ℕ) (tree : Data) (mark : List ℕ) (plan : Sweep) (p : Shard) (kept : ℕ) (stands : Standing) (old new : Option (List ℕ)) : Type 0 where
   pub made : RunsBy until
-  pub are : AreRunsBehind until tree plan p count made
+  pub are : AreRunsBehind until tree plan p stands made
   pub written : AppendsBeginning old new (rest_table until tree mark plan p kept made)

@@ -5,18 +5,19 @@ ghost use Rattle.run_output.specs.Written.{sink_failures};
 ghost use Rattle.shards.specs.Shards.{IsShard};
 ghost use Rattle.sweep.specs.Runs.{IsAskedFor};
 ghost use Rattle.sweep.specs.Judged.{AreAccepted};
-ghost use Rattle.sweep.specs.Table.{HasCause};
-ghost use Rattle.sweep_command.specs.Runs.{BeginsAllRuns, BeginsRuns, BeginsRunsBehind, FitShard, MakesRuns, WritesRuns, WritesRunsBehind};
+ghost use Rattle.sweep.specs.Shards.{shard_header};
+ghost use Rattle.sweep.specs.Table.{HasCause, counts_revived};
+ghost use Rattle.sweep_command.specs.Runs.{BeginsAllRuns, BeginsRuns, BeginsRunsBehind, FitShard, MakesRuns, WritesRuns, WritesRunsBehind, standing};
 
 use base::Fault;
-use figures::SettingSummary;
+use figures::{RunMetadata, SettingSummary};
 use scenario::Workers;
 use shards::Shard;
 use std::alloc::Global;
 use std::thread::Threads;
 use sweep::{Begun, Progress, sweep, write_rest, write_shard};
 use sweep_plan::Plan;
-use sweep_until::{BegunSettings, sweep_until, write_rest_until, write_shard_until};
+use sweep_until::{sweep_until, write_rest_until, write_shard_until};
 use toml::Value;
 use trace::Sink;
 
@@ -87,8 +88,8 @@ pub(crate) fn make_shard<S: Sink, P: Progress>(
 }
 
 /// Makes the runs of a shard that are left, and writes its table behind the bytes that stay of it. These have the lines of so
-/// many runs, or of so many whole settings where the plan says how wide the interval of a setting may be. All else is as in
-/// `make_shard`.
+/// many runs; where the plan says how wide the interval of a setting may be, of so many whole settings, and of the runs of the next
+/// one with this metadata. All else is as in `make_shard`.
 pub(crate) fn make_rest<S: Sink, P: Progress>(
     rt: &(impl Threads + Sync),
     alloc: Global,
@@ -97,6 +98,7 @@ pub(crate) fn make_rest<S: Sink, P: Progress>(
     mark: &str,
     kept: usize,
     count: usize,
+    started: &[RunMetadata],
     document: &Value,
     workers: Workers,
     progress: &mut P,
@@ -105,23 +107,17 @@ pub(crate) fn make_rest<S: Sink, P: Progress>(
     requires asked { IsAskedFor plan.now }
     requires shard { IsShard shard }
     requires judged { AreAccepted (view document.now) plan.now }
-    requires few { FitShard plan.now.until plan.now shard count }
+    requires few { FitShard plan.now.until plan.now shard (shard_header (counts_revived (view document.now)) mark.now plan.now shard) kept (standing count started.now) }
     requires countable { S.failed table.old < 2 ^ 63 }
-    ensures whole { OnOk result (WritesRunsBehind plan.now.until (view document.now) mark.now plan.now shard kept count (S.held table.old) (S.held table.new)) }
-    ensures part { OnErr result (BeginsRunsBehind plan.now.until (view document.now) mark.now plan.now shard kept count (S.held table.old) (S.held table.new)) }
+    ensures whole { OnOk result (WritesRunsBehind plan.now.until (view document.now) mark.now plan.now shard kept (standing count started.now) (S.held table.old) (S.held table.new)) }
+    ensures part { OnErr result (BeginsRunsBehind plan.now.until (view document.now) mark.now plan.now shard kept (standing count started.now) (S.held table.old) (S.held table.new)) }
     ensures causes { IfErr result (HasCause (view document.now) plan.now) }
     ensures failures { S.failed table.new ≡ S.failed table.old + sink_failures result }
 {
     match plan.until() {
-        Some(_) => {
-            let begun = BegunSettings {
-                kept,
-                settings: count,
-            };
-            write_rest_until(
-                rt, alloc, plan, shard, mark, begun, document, workers, progress, table,
-            )
-        }
+        Some(_) => write_rest_until(
+            rt, alloc, plan, shard, mark, kept, count, started, document, workers, progress, table,
+        ),
         None => {
             let begun = Begun { kept, runs: count };
             write_rest(

@@ -9,9 +9,10 @@ ghost use Rattle.sweep.specs.Resumed.{IsBegun, RefusesBegun};
 ghost use Rattle.sweep.specs.Table.{counts_revived};
 ghost use Rattle.resume.specs.Begun.{IsBegunSettings, RefusesBegunSettings};
 ghost use Rattle.sweep_command.specs.Outcomes.{CannotGoOn, GoesOn, HeldSoFar, RefusesSoFar, shard_resumed};
-ghost use Rattle.sweep_command.specs.Runs.{AreBegun, RefusesTable};
+ghost use Rattle.sweep_command.specs.Runs.{AreBegun, RefusesTable, standing};
 
 use command_line::{Failure, ShardFault, SweepWords};
+use figures::RunMetadata;
 use files::{Files, ReadFault};
 use resume::begun_settings_of;
 use scenario_files::MarkedDocument;
@@ -21,12 +22,14 @@ use sweep::{BegunFault, begun_of};
 use sweep_plan::Plan;
 
 /// What stays of a shard's table that was made before it was cut off; nothing where no shard goes on.
-#[derive(Clone, Copy)]
+#[derive(Drop)]
 pub(crate) struct Stays {
     /// How many bytes.
     pub(crate) kept: usize,
-    /// Of how many runs they have the lines, or of how many settings where these have as many runs as are enough.
+    /// Of how many runs they have the lines, or of how many whole settings where these have as many runs as are enough.
     pub(crate) count: usize,
+    /// The metadata of their lines of the next such setting.
+    pub(crate) started: Vec<RunMetadata>,
 }
 
 /// What stays of the table that the words name, where they ask for a shard that goes on.
@@ -41,7 +44,7 @@ pub(crate) fn find_standing<'a, F: Files>(
 ) -> Result<Stays, Failure<'a>>
     requires asked { IsAskedFor words.now.plan }
     requires shard { ForSome words.now.shard IsShard }
-    ensures stood { IfOk result (λ s. GoesOn (view marked.now.document) (string_bytes marked.now.mark) words.now (F.known files.old words.now.table.now) s.kept s.count) }
+    ensures stood { IfOk result (λ s. GoesOn (view marked.now.document) (string_bytes marked.now.mark) words.now (F.known files.old words.now.table.now) s.kept (standing s.count s.started.items)) }
     ensures failed { IfErr result (CannotGoOn (view marked.now.document) (string_bytes marked.now.mark) words.now (F.known files.old words.now.table.now)) }
     ensures same { F.known files.new ≡ F.known files.old }
     ensures making { F.making files.new ≡ F.making files.old }
@@ -52,7 +55,11 @@ pub(crate) fn find_standing<'a, F: Files>(
             let text = text_so_far(alloc, words.table, files)?;
             stays_in(alloc, words, shard, marked, text.as_slice())
         }
-        None => Ok(Stays { kept: 0, count: 0 }),
+        None => Ok(Stays {
+            kept: 0,
+            count: 0,
+            started: Vec::new(alloc),
+        }),
     }
 }
 
@@ -94,7 +101,7 @@ fn stays_in<'a>(
     requires asked { IsAskedFor words.now.plan }
     requires shard { IsShard shard }
     ensures begun { IfOk result (λ s. AreBegun words.now.plan.until (counts_revived (view marked.now.document)) (string_bytes marked.now.mark) words.now.plan shard text.now
-        s.kept s.count) }
+        s.kept (standing s.count s.started.items)) }
     ensures refused { IfErr result (RefusesSoFar (view marked.now.document) (string_bytes marked.now.mark) words.now shard text.now) }
 {
     match begun_in(alloc, &words.plan, shard, marked, text) {
@@ -115,7 +122,7 @@ fn begun_in(
 ) -> Result<Stays, BegunFault>
     requires asked { IsAskedFor plan.now }
     requires shard { IsShard shard }
-    ensures begun { IfOk result (λ s. AreBegun plan.now.until (counts_revived (view marked.now.document)) (string_bytes marked.now.mark) plan.now shard text.now s.kept s.count) }
+    ensures begun { IfOk result (λ s. AreBegun plan.now.until (counts_revived (view marked.now.document)) (string_bytes marked.now.mark) plan.now shard text.now s.kept (standing s.count s.started.items)) }
     ensures refused { IfErr result (RefusesTable plan.now.until (counts_revived (view marked.now.document)) (string_bytes marked.now.mark) plan.now shard text.now) }
 {
     match plan.until() {
@@ -142,6 +149,7 @@ fn runs_begun(
         Ok(begun) => Ok(Stays {
             kept: begun.kept,
             count: begun.runs,
+            started: Vec::new(alloc),
         }),
         Err(fault) => Err(fault),
     }
@@ -160,7 +168,7 @@ fn settings_begun(
     requires shard { IsShard shard }
     requires wanted { plan.now.until ≡ Some width }
     ensures begun { IfOk result
-        (λ s. IsBegunSettings (counts_revived (view marked.now.document)) (string_bytes marked.now.mark) plan.now width shard text.now s.kept s.count) }
+        (λ s. IsBegunSettings (counts_revived (view marked.now.document)) (string_bytes marked.now.mark) plan.now width shard text.now s.kept s.count s.started.items) }
     ensures refused { IfErr result (RefusesBegunSettings (counts_revived (view marked.now.document)) (string_bytes marked.now.mark) plan.now shard text.now) }
 {
     let mark = marked.mark.as_str();
@@ -168,6 +176,7 @@ fn settings_begun(
         Ok(begun) => Ok(Stays {
             kept: begun.kept,
             count: begun.settings,
+            started: begun.started,
         }),
         Err(fault) => Err(fault),
     }

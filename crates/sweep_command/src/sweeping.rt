@@ -10,7 +10,7 @@ ghost use Rattle.sweep.specs.Runs.{IsAskedFor};
 ghost use Rattle.sweep.specs.Judged.{AreAccepted};
 ghost use Rattle.sweep.specs.Table.{HasCause};
 ghost use Rattle.sweep_command.specs.Outcomes.{AreApart, BeginsAsked, BeginsPart, FitResumed, GoesOn, MakesAsked, MakesLines, MakesPart, StoreFails, StoresAsked, StoresPlain, SweepFails, SweepsAll, TableFails};
-ghost use Rattle.sweep_command.specs.Runs.{BeginsAllRuns};
+ghost use Rattle.sweep_command.specs.Runs.{BeginsAllRuns, standing};
 
 use crate::checks::{PreparedSweep, prepare_sweep};
 use crate::making::{make_rest, make_runs, make_shard};
@@ -53,7 +53,9 @@ pub fn sweep_file<'a, F: Files, P: Write>(
 {
     let prepared = prepare_sweep(rt, alloc, words, files)?;
     let stood = find_standing(alloc, words, &prepared.marked, files)?;
-    store_asked(rt, alloc, release, words, &prepared, stood, files, progress)
+    store_asked(
+        rt, alloc, release, words, &prepared, &stood, files, progress,
+    )
 }
 
 /// Makes the runs, and writes their table to the file that the words name, and their page to another where one is asked for.
@@ -63,7 +65,7 @@ fn store_asked<'a, F: Files, P: Write>(
     release: &Release<'_>,
     words: &SweepWords<'a>,
     prepared: &PreparedSweep,
-    stood: Stays,
+    stood: &Stays,
     files: &mut F,
     progress: &mut P,
 ) -> Result<String, Failure<'a>>
@@ -71,7 +73,7 @@ fn store_asked<'a, F: Files, P: Write>(
     requires shard { ForSome words.now.shard IsShard }
     requires wants { All IsBounded words.now.wants.items }
     requires judged { AreAccepted (view prepared.now.marked.document) words.now.plan }
-    requires stood { GoesOn (view prepared.now.marked.document) (string_bytes prepared.now.marked.mark) words.now (F.known files.old words.now.table.now) stood.kept stood.count }
+    requires stood { GoesOn (view prepared.now.marked.document) (string_bytes prepared.now.marked.mark) words.now (F.known files.old words.now.table.now) stood.now.kept (standing stood.now.count stood.now.started.items) }
     ensures done { IfOk result (λ lines. StoresAsked words.now.page (view prepared.now.marked.document) (string_bytes prepared.now.marked.mark) words.now release.now.version.now
         (F.known files.old) (F.known files.new) (string_bytes lines)) }
     ensures apart { OnOk result (AreApart words.now.page (F.making files.old) words.now.file.now words.now.table.now) }
@@ -91,7 +93,7 @@ fn store_table<'a, F: Files, P: Write>(
     alloc: Global,
     words: &SweepWords<'a>,
     prepared: &PreparedSweep,
-    stood: Stays,
+    stood: &Stays,
     files: &mut F,
     progress: &mut P,
 ) -> Result<String, Failure<'a>>
@@ -99,7 +101,7 @@ fn store_table<'a, F: Files, P: Write>(
     requires shard { ForSome words.now.shard IsShard }
     requires wants { All IsBounded words.now.wants.items }
     requires judged { AreAccepted (view prepared.now.marked.document) words.now.plan }
-    requires stood { GoesOn (view prepared.now.marked.document) (string_bytes prepared.now.marked.mark) words.now (F.known files.old words.now.table.now) stood.kept stood.count }
+    requires stood { GoesOn (view prepared.now.marked.document) (string_bytes prepared.now.marked.mark) words.now (F.known files.old words.now.table.now) stood.now.kept (standing stood.now.count stood.now.started.items) }
     ensures done { IfOk result (λ lines. StoresPlain words.now.shard (view prepared.now.marked.document) (string_bytes prepared.now.marked.mark) words.now
         (F.known files.old) (F.known files.new) (string_bytes lines)) }
     ensures apart { OnOk result ((F.making files.old).are_one words.now.file.now words.now.table.now ≡ false) }
@@ -122,7 +124,7 @@ fn fill_table<T: Write, P: Write>(
     alloc: Global,
     words: &SweepWords<'_>,
     prepared: &PreparedSweep,
-    stood: Stays,
+    stood: &Stays,
     table: T,
     progress: &mut P,
 ) -> (Put<T>, Result<String, Fault>)
@@ -130,10 +132,11 @@ fn fill_table<T: Write, P: Write>(
     requires shard { ForSome words.now.shard IsShard }
     requires wants { All IsBounded words.now.wants.items }
     requires judged { AreAccepted (view prepared.now.marked.document) words.now.plan }
-    requires few { FitResumed words.now words.now.shard stood.count }
-    ensures whole { IfOk result.1 (λ lines. MakesAsked words.now.shard (view prepared.now.marked.document) (string_bytes prepared.now.marked.mark) words.now stood.kept stood.count
+    requires few { FitResumed (view prepared.now.marked.document) (string_bytes prepared.now.marked.mark) words.now words.now.shard stood.now.kept
+        (standing stood.now.count stood.now.started.items) }
+    ensures whole { IfOk result.1 (λ lines. MakesAsked words.now.shard (view prepared.now.marked.document) (string_bytes prepared.now.marked.mark) words.now stood.now.kept (standing stood.now.count stood.now.started.items)
         (T.contents table) (T.contents (writer_under result.0)) (string_bytes lines)) }
-    ensures part { OnErr result.1 (BeginsAsked words.now.shard (view prepared.now.marked.document) (string_bytes prepared.now.marked.mark) words.now stood.kept stood.count
+    ensures part { OnErr result.1 (BeginsAsked words.now.shard (view prepared.now.marked.document) (string_bytes prepared.now.marked.mark) words.now stood.now.kept (standing stood.now.count stood.now.started.items)
         (T.contents table) (T.contents (writer_under result.0))) }
     ensures causes { IfErr result.1 (HasCause (view prepared.now.marked.document) words.now.plan) }
     ensures failures { put_failures result.0 ≡ sink_failures result.1 }
@@ -163,7 +166,7 @@ fn tell_asked<S: Sink, P: Progress>(
     alloc: Global,
     words: &SweepWords<'_>,
     prepared: &PreparedSweep,
-    stood: Stays,
+    stood: &Stays,
     progress: &mut P,
     table: &mut S,
 ) -> Result<String, Fault>
@@ -171,11 +174,12 @@ fn tell_asked<S: Sink, P: Progress>(
     requires shard { ForSome words.now.shard IsShard }
     requires wants { All IsBounded words.now.wants.items }
     requires judged { AreAccepted (view prepared.now.marked.document) words.now.plan }
-    requires few { FitResumed words.now words.now.shard stood.count }
+    requires few { FitResumed (view prepared.now.marked.document) (string_bytes prepared.now.marked.mark) words.now words.now.shard stood.now.kept
+        (standing stood.now.count stood.now.started.items) }
     requires countable { S.failed table.old < 2 ^ 63 }
-    ensures whole { IfOk result (λ lines. MakesAsked words.now.shard (view prepared.now.marked.document) (string_bytes prepared.now.marked.mark) words.now stood.kept stood.count
+    ensures whole { IfOk result (λ lines. MakesAsked words.now.shard (view prepared.now.marked.document) (string_bytes prepared.now.marked.mark) words.now stood.now.kept (standing stood.now.count stood.now.started.items)
         (S.held table.old) (S.held table.new) (string_bytes lines)) }
-    ensures part { OnErr result (BeginsAsked words.now.shard (view prepared.now.marked.document) (string_bytes prepared.now.marked.mark) words.now stood.kept stood.count
+    ensures part { OnErr result (BeginsAsked words.now.shard (view prepared.now.marked.document) (string_bytes prepared.now.marked.mark) words.now stood.now.kept (standing stood.now.count stood.now.started.items)
         (S.held table.old) (S.held table.new)) }
     ensures causes { IfErr result (HasCause (view prepared.now.marked.document) words.now.plan) }
     ensures failures { S.failed table.new ≡ S.failed table.old + sink_failures result }
@@ -192,7 +196,7 @@ fn tell_shard<S: Sink, P: Progress>(
     alloc: Global,
     words: &SweepWords<'_>,
     prepared: &PreparedSweep,
-    stood: Stays,
+    stood: &Stays,
     shard: Shard,
     progress: &mut P,
     table: &mut S,
@@ -200,12 +204,13 @@ fn tell_shard<S: Sink, P: Progress>(
     requires asked { IsAskedFor words.now.plan }
     requires shard { IsShard shard }
     requires judged { AreAccepted (view prepared.now.marked.document) words.now.plan }
-    requires few { FitResumed words.now (Some shard) stood.count }
+    requires few { FitResumed (view prepared.now.marked.document) (string_bytes prepared.now.marked.mark) words.now (Some shard) stood.now.kept
+        (standing stood.now.count stood.now.started.items) }
     requires countable { S.failed table.old < 2 ^ 63 }
-    ensures whole { OnOk result (MakesPart words.now.resume (view prepared.now.marked.document) (string_bytes prepared.now.marked.mark) words.now shard stood.kept stood.count
+    ensures whole { OnOk result (MakesPart words.now.resume (view prepared.now.marked.document) (string_bytes prepared.now.marked.mark) words.now shard stood.now.kept (standing stood.now.count stood.now.started.items)
         (S.held table.old) (S.held table.new)) }
     ensures untold { IfOk result (λ lines. string_bytes lines ≡ []) }
-    ensures part { OnErr result (BeginsPart words.now.resume (view prepared.now.marked.document) (string_bytes prepared.now.marked.mark) words.now shard stood.kept stood.count
+    ensures part { OnErr result (BeginsPart words.now.resume (view prepared.now.marked.document) (string_bytes prepared.now.marked.mark) words.now shard stood.now.kept (standing stood.now.count stood.now.started.items)
         (S.held table.old) (S.held table.new)) }
     ensures causes { IfErr result (HasCause (view prepared.now.marked.document) words.now.plan) }
     ensures failures { S.failed table.new ≡ S.failed table.old + sink_failures result }
@@ -221,7 +226,7 @@ fn write_part<S: Sink, P: Progress>(
     alloc: Global,
     words: &SweepWords<'_>,
     prepared: &PreparedSweep,
-    stood: Stays,
+    stood: &Stays,
     shard: Shard,
     progress: &mut P,
     table: &mut S,
@@ -229,11 +234,12 @@ fn write_part<S: Sink, P: Progress>(
     requires asked { IsAskedFor words.now.plan }
     requires shard { IsShard shard }
     requires judged { AreAccepted (view prepared.now.marked.document) words.now.plan }
-    requires few { FitResumed words.now (Some shard) stood.count }
+    requires few { FitResumed (view prepared.now.marked.document) (string_bytes prepared.now.marked.mark) words.now (Some shard) stood.now.kept
+        (standing stood.now.count stood.now.started.items) }
     requires countable { S.failed table.old < 2 ^ 63 }
-    ensures whole { OnOk result (MakesPart words.now.resume (view prepared.now.marked.document) (string_bytes prepared.now.marked.mark) words.now shard stood.kept stood.count
+    ensures whole { OnOk result (MakesPart words.now.resume (view prepared.now.marked.document) (string_bytes prepared.now.marked.mark) words.now shard stood.now.kept (standing stood.now.count stood.now.started.items)
         (S.held table.old) (S.held table.new)) }
-    ensures part { OnErr result (BeginsPart words.now.resume (view prepared.now.marked.document) (string_bytes prepared.now.marked.mark) words.now shard stood.kept stood.count
+    ensures part { OnErr result (BeginsPart words.now.resume (view prepared.now.marked.document) (string_bytes prepared.now.marked.mark) words.now shard stood.now.kept (standing stood.now.count stood.now.started.items)
         (S.held table.old) (S.held table.new)) }
     ensures causes { IfErr result (HasCause (view prepared.now.marked.document) words.now.plan) }
     ensures failures { S.failed table.new ≡ S.failed table.old + sink_failures result }
@@ -245,8 +251,9 @@ fn write_part<S: Sink, P: Progress>(
     if words.resume {
         let kept = stood.kept;
         let count = stood.count;
+        let started = stood.started.as_slice();
         return make_rest(
-            rt, alloc, plan, shard, mark, kept, count, document, workers, progress, table,
+            rt, alloc, plan, shard, mark, kept, count, started, document, workers, progress, table,
         );
     }
     make_shard(

@@ -1,5 +1,5 @@
 -- In how many runs members were thrown out, one run more.
-use Rattle.std.proofs.Common.{◌≡◌, ◌+◌, ◌==◌, ◌≤◌, ◌-◌, ◌^◌, ℕ, List, [], ◌∷◌, ◌++◌, cond, not, arith, length, min}
+use Rattle.std.proofs.Common.{◌≡◌, ◌+◌, ◌==◌, ◌≤◌, ◌-◌, ◌^◌, ℕ, List, [], ◌∷◌, ◌++◌, cond, not, arith, append_assoc, subst, length, min}
 use Rattle.std.proofs.lemmas.List.Sums.{count_by-le-length, sum_by-append}
 use Rattle.figures.specs.Settings.{runs_with}
 use Rattle.figures.specs.Kept.{AreFiguresOf}
@@ -12,6 +12,11 @@ few_with runs = count_by-le-length (λ (run : Note). not (run.thrown_out == 0)) 
 
 counted_more : (runs : List Note) (note : Note) → runs_with (runs ++ note ∷ []) ≡ runs_with runs + runs_with (note ∷ [])
 counted_more runs note = sum_by-append (λ (run : Note). cond (not (run.thrown_out == 0)) 1 0) runs (note ∷ [])
+
+-- what is kept with one run more of those behind others is what is kept with it behind all of them
+pub kept_behind : (old new : SettingRuns) (note : Note) (before : List Note) → ((notes : List Note) → AreKept notes old → AreKept (notes ++ note ∷ []) new)
+    → (notes : List Note) → AreKept (before ++ notes) old → AreKept (before ++ (notes ++ note ∷ [])) new
+kept_behind old new note before more notes kept = subst (λ l. AreKept l new) (append_assoc before notes (note ∷ [])) (more (before ++ notes) kept)
 
 -- what is kept, with one run more
 pub kept_more : (runs : List Note) (note : Note) (old new : SettingRuns) (one : ℕ) → AreKept runs old → one ≡ runs_with (note ∷ []) → AreFiguresOf new.figures (runs ++ note ∷ [])

@@ -18,7 +18,8 @@ use Rattle.sweep.specs.Runs.{Planned, Made, IsMadeAs, AreMadeBetween, noted, pla
 use Rattle.sweep.specs.Judged.{IsAccepted, AreAccepted}
 use Rattle.sweep.proofs.Flat.{runs_counted}
 use Rattle.sweep.proofs.Steps.{are_more}
-use Rattle.sweep_until.specs.Until.{AreMadeFrom, IsMadeUntil, IsWide, is_narrow_of}
+use Rattle.figures.specs.Notes.{Note}
+use Rattle.sweep_until.specs.Until.{AreMadeFrom, IsMadeBehind, IsMadeUntil, IsWide, is_narrow_of}
 use Rattle.sweep_until.proofs.Same.{OneRun}
 use Rattle.sweep_until.proofs.Wide.{wide_next}
 
@@ -49,33 +50,39 @@ module _ (tree : Data) (sweep : Sweep) (one : OneRun) (exists : (s : Setup) → 
       let run = exists here.0 here.2 in
       (p, record { setting = p.setting; scenario = here.0; rows = run.0 }, slice_get-get_or all number _ within, record { same = refl; accepted = here.1; run = run.1 })
 
-  module _ (number : ℕ) (low : number < setting_count sweep.swept_keys) where
+  module _ (number : ℕ) (low : number < setting_count sweep.swept_keys) (before : List Note) where
     abbrev first : ℕ
-    first = number * seed_count sweep.seeds
+    first = number * seed_count sweep.seeds + length before
 
     -- so the runs of a setting can be made until they are enough
     abbrev Filled : List Made → Type 0
-    Filled made = (more : List Made) × IsMadeUntil tree sweep width number (made ++ more)
+    Filled made = (more : List Made) × IsMadeBehind tree sweep width number before (made ++ more)
+
+    abbrev noted_all : List Made → List Note
+    noted_all made = before ++ map noted made
+
+    counted_all : (made : List Made) → length (noted_all made) ≡ length before + length made
+    counted_all made = length-append before (map noted made) ∙ ap (λ n. length before + n) (length-map made noted)
 
     abbrev Are : List Made → Type 0
     Are made = AreMadeBetween tree sweep first (first + length made) made
 
-    enough : (made : List Made) → length made ≤ seed_count sweep.seeds → Are made → IsWide width (map noted made)
-        → (is_narrow_of width (map noted made) ≡ true) ⊎ (length made ≡ seed_count sweep.seeds) → Filled made
+    enough : (made : List Made) → length before + length made ≤ seed_count sweep.seeds → Are made → IsWide width (noted_all made)
+        → (is_narrow_of width (noted_all made) ≡ true) ⊎ (length before + length made ≡ seed_count sweep.seeds) → Filled made
     enough made few are wide ends = (
       [],
-      subst (IsMadeUntil tree sweep width number) (sym (append-nil made))
-          (record { are = are; enough = record { few = omega (arith, few, length-map made noted); wide = wide; ends = counted made ends } }),
+      subst (IsMadeBehind tree sweep width number before) (sym (append-nil made))
+          (record { are = are; enough = record { few = omega (arith, few, counted_all made); wide = wide; ends = counted made ends } }),
     )
       where
-        counted : (made : List Made) → (is_narrow_of width (map noted made) ≡ true) ⊎ (length made ≡ seed_count sweep.seeds)
-            → (is_narrow_of width (map noted made) ≡ true) ⊎ (length (map noted made) ≡ seed_count sweep.seeds)
+        counted : (made : List Made) → (is_narrow_of width (noted_all made) ≡ true) ⊎ (length before + length made ≡ seed_count sweep.seeds)
+            → (is_narrow_of width (noted_all made) ≡ true) ⊎ (length (noted_all made) ≡ seed_count sweep.seeds)
         counted made (inl narrow) = inl narrow
-        counted made (inr all) = inr (length-map made noted ∙ all)
+        counted made (inr all) = inr (counted_all made ∙ all)
 
-    one_further : (left : ℕ) (made : List Made) → length made + suc left ≡ seed_count sweep.seeds → Are made → IsWide width (map noted made)
-        → ((longer : List Made) → length longer + left ≡ seed_count sweep.seeds → Are longer → IsWide width (map noted longer) → Filled longer)
-        → (b : Bool) → is_narrow_of width (map noted made) ≡ b → Filled made
+    one_further : (left : ℕ) (made : List Made) → length before + length made + suc left ≡ seed_count sweep.seeds → Are made → IsWide width (noted_all made)
+        → ((longer : List Made) → length before + length longer + left ≡ seed_count sweep.seeds → Are longer → IsWide width (noted_all longer) → Filled longer)
+        → (b : Bool) → is_narrow_of width (noted_all made) ≡ b → Filled made
     one_further left made full are wide further true narrow = enough made (omega (arith, full)) are wide (inl narrow)
     one_further left made full are wide further false narrow =
         let within = setting_within (setting_count sweep.swept_keys) (seed_count sweep.seeds) number low in
@@ -85,25 +92,27 @@ module _ (tree : Data) (sweep : Sweep) (one : OneRun) (exists : (s : Setup) → 
         let size = length-append made (next.1 ∷ []) in
         let grown : place + 1 ≡ first + length longer = omega (arith, size) in
         let are_grown : Are longer = subst (λ n. AreMadeBetween tree sweep first n longer) grown (are_more tree sweep first place next.0 next.1 made (omega arith) next.2 next.3 are) in
-        let wide_grown = wide_next tree sweep one ok width first place (first + length longer) made longer (omega arith) (omega (arith, within, full)) (omega arith) (omega (arith, size, within, full)) (omega (arith, size))
+        let wide_grown = wide_next tree sweep one ok width before first place (first + length longer) made longer (omega arith) (omega (arith, within, full)) (omega arith) (omega (arith, size, within, full)) (omega (arith, size))
         are are_grown wide narrow in
         let rest = further longer (omega (arith, size, full)) are_grown wide_grown in
-        (next.1 ∷ rest.0, subst (IsMadeUntil tree sweep width number) (append_assoc made (next.1 ∷ []) rest.0) rest.1)
+        (next.1 ∷ rest.0, subst (IsMadeBehind tree sweep width number before) (append_assoc made (next.1 ∷ []) rest.0) rest.1)
 
-    setting_left : (left : ℕ) (made : List Made) → length made + left ≡ seed_count sweep.seeds → Are made → IsWide width (map noted made) → Filled made
+    setting_left : (left : ℕ) (made : List Made) → length before + length made + left ≡ seed_count sweep.seeds → Are made → IsWide width (noted_all made) → Filled made
     setting_left zero made full are wide = enough made (omega (arith, full)) are wide (inr (omega (arith, full)))
-    setting_left (suc left) made full are wide = one_further left made full are wide (setting_left left) (is_narrow_of width (map noted made)) refl
+    setting_left (suc left) made full are wide = one_further left made full are wide (setting_left left) (is_narrow_of width (noted_all made)) refl
 
-    pub filled : (made : List Made) → length made ≤ seed_count sweep.seeds → AreMadeBetween tree sweep first (first + length made) made → IsWide width (map noted made) → Filled made
-    filled made few are wide = setting_left (seed_count sweep.seeds - length made) made (omega (arith, few)) are wide
+    pub filled : (made : List Made) → length before + length made ≤ seed_count sweep.seeds → AreMadeBetween tree sweep first (first + length made) made → IsWide width (before ++ map noted made)
+        → (more : List Made) × IsMadeBehind tree sweep width number before (made ++ more)
+    filled made few are wide = setting_left (seed_count sweep.seeds - (length before + length made)) made (omega (arith, few)) are wide
 
     none_made : AreMadeBetween tree sweep first (first + 0) []
     none_made =
         let none : 0 ≡ (first + 0) - first = omega arith in
         subst (λ n. AllZip (IsMadeAs tree) (take n (drop first (runs_of sweep))) []) none tt
 
-    pub fresh : (made : List Made) × IsMadeUntil tree sweep width number made
-    fresh = filled [] (omega arith) none_made (λ n less. absurd (omega arith))
+    -- behind those that were made before
+    pub fresh : length before ≤ seed_count sweep.seeds → IsWide width before → (made : List Made) × IsMadeBehind tree sweep width number before made
+    fresh few wide = filled [] (omega (arith, few)) none_made (subst (IsWide width) (sym (append-nil before)) wide)
 
   -- and so can those of the settings that are left
   pub settings_left : (left first count all : ℕ) (made : List (List Made)) → count + left ≡ all → first + all ≤ setting_count sweep.swept_keys → AreMadeFrom tree sweep width first count made
@@ -112,6 +121,6 @@ module _ (tree : Data) (sweep : Sweep) (one : OneRun) (exists : (s : Setup) → 
       let same : count ≡ all = omega (arith, full) in
       ([], subst (λ l. AreMadeFrom tree sweep width first all l) (sym (append-nil made)) (subst (λ n. AreMadeFrom tree sweep width first n made) same are))
   settings_left (suc left) first count all made full within are =
-      let next = fresh (first + count) (omega (arith, full, within)) in
+      let next = fresh (first + count) (omega (arith, full, within)) [] (omega arith) (λ n less. absurd (omega (arith, less))) in
       let rest = settings_left left first (count + 1) all (made ++ next.0 ∷ []) (omega (arith, full)) within (one_setting tree sweep width first count (first + count) made next.0 refl are next.1) in
       (next.0 ∷ rest.0, subst (λ l. AreMadeFrom tree sweep width first all l) (append_assoc made (next.0 ∷ []) rest.0) rest.1)

@@ -14,7 +14,7 @@ use Rattle.sweep.specs.Judged.{IsAccepted, AreAccepted}
 use Rattle.sweep.proofs.Steps.{zipped_long}
 use Rattle.sweep.proofs.Flat.{runs_counted}
 
-zip_taken : {X Y : Type 0} (R : X → Y → Type 0) (n : ℕ) (xs : List X) (ys : List Y) → AllZip R xs ys → AllZip R (take n xs) (take n ys)
+pub zip_taken : {X Y : Type 0} (R : X → Y → Type 0) (n : ℕ) (xs : List X) (ys : List Y) → AllZip R xs ys → AllZip R (take n xs) (take n ys)
 zip_taken R zero xs ys all = tt
 zip_taken R (suc n) [] [] all = tt
 zip_taken R (suc n) [] (y ∷ ys) all = absurd all

@@ -1,5 +1,5 @@
 -- The settings of a shard.
-use Rattle.std.proofs.Common.{◌≡◌, ◌∙◌, ◌<◌, ◌≤◌, ◌+◌, ◌-◌, ◌*◌, ℕ, List, ◌++◌, Option, Some, ap, arith, drop, subst}
+use Rattle.std.proofs.Common.{◌≡◌, ◌∙◌, ◌<◌, ◌≤◌, ◌+◌, ◌-◌, ◌*◌, ℕ, List, [], ◌++◌, Option, Some, ap, arith, drop, refl, subst}
 use Rattle.std.specs.List.{flat_map}
 use Rattle.std.specs.Io.KnownBytes.{Appends}
 use Rattle.std.proofs.Math.Nat.{le-mul_of_pos_right}
@@ -17,7 +17,7 @@ use Rattle.sweep.specs.Table.{noted_line, counts_revived}
 use Rattle.sweep.specs.Shards.{shard_header, shard_table}
 use Rattle.sweep.specs.Resumed.{rest_text}
 use Rattle.sweep.proofs.Sizes.{some_runs}
-use Rattle.sweep_until.specs.Until.{AreMadeFrom, BeginsSettings, HasSettings, all_settings, all_of}
+use Rattle.sweep_until.specs.Until.{AreMadeFrom, AreTooFew, BeginsSettings, HasSettings, all_settings, all_of}
 use Rattle.sweep_until.specs.Shards.{AreSettingsBehind, AreSettingsIn, BeginsShardUntil, BeginsRestUntil, WritesShardUntil, WritesRestUntil, settings_in, first_setting, rest_settings}
 
 -- a sweep has no more settings than runs
@@ -37,6 +37,10 @@ settings_within sweep p sound =
 pub a_width : (sweep : Sweep) (width : ℕ) → IsAskedFor sweep → sweep.until ≡ Some width → width ≤ 100
 a_width sweep width asked is = (asked.asked.width width is).most
 
+-- a setting of which no run is made needs some
+pub none_yet : (sweep : Sweep) (width : ℕ) → IsAskedFor sweep → AreTooFew width (seed_count sweep.seeds) []
+none_yet sweep width asked = record { few = some_runs sweep asked; wide = λ n less. absurd (omega (arith, less)); open_yet = refl }
+
 -- nor are those that are left of it
 pub rest_within : (sweep : Sweep) (p : Shard) (settings : ℕ) → IsShard p → settings ≤ settings_in sweep p → first_setting sweep p + settings + (settings_in sweep p - settings) ≤ setting_count sweep.swept_keys
 rest_within sweep p settings sound few = omega (arith, few, settings_within sweep p sound)
@@ -44,10 +48,10 @@ rest_within sweep p settings sound few = omega (arith, few, settings_within swee
 module _ (tree : Data) (sweep : Sweep) (mark : List ℕ) (p : Shard) (kept begun : ℕ) where
   module _ (width : ℕ) (wanted : sweep.until ≡ Some width) (old new : Option (List ℕ)) where
     pub rest_whole : (settings : List SettingSummary) → HasSettings tree sweep width (rest_settings tree mark sweep p kept begun) old new (settings_in sweep p - begun) settings
-        → WritesRestUntil tree mark sweep p kept begun old new
+        → WritesRestUntil tree mark sweep p kept begun [] old new
     rest_whole settings every = record { width = width; wanted = wanted; made = every.made; are = every.are; written = every.written }
 
-    pub rest_begun : BeginsSettings tree sweep width (rest_settings tree mark sweep p kept begun) old new → BeginsRestUntil tree mark sweep p kept begun old new
+    pub rest_begun : BeginsSettings tree sweep width (rest_settings tree mark sweep p kept begun) old new → BeginsRestUntil tree mark sweep p kept begun [] old new
     rest_begun begins = record { width = width; wanted = wanted; made = begins.made; are = begins.are; written = begins.written }
 
   -- where nothing was made before, the rest is the whole
@@ -64,7 +68,7 @@ module _ (tree : Data) (sweep : Sweep) (mark : List ℕ) (p : Shard) (kept begun
     same_count : settings_in sweep p - begun ≡ settings_in sweep p
     same_count = omega (arith, none)
 
-    all_made : (width : ℕ) (made : List (List Made)) → AreSettingsBehind tree sweep width p begun made → AreSettingsIn tree sweep width p made
+    all_made : (width : ℕ) (made : List (List Made)) → AreSettingsBehind tree sweep width p begun [] made → AreSettingsIn tree sweep width p made
     all_made width made are =
         subst (λ n. AreMadeFrom tree sweep width (first_setting sweep p) n made) same_count
         (subst (λ n. AreMadeFrom tree sweep width n (settings_in sweep p - begun) made) same_first are)
@@ -72,7 +76,7 @@ module _ (tree : Data) (sweep : Sweep) (mark : List ℕ) (p : Shard) (kept begun
     text_is : (made : List Made) → rest_text (counts_revived tree) mark sweep p kept made ≡ shard_table (counts_revived tree) mark sweep p made
     text_is made = ap (λ l. l ++ flat_map (noted_line (counts_revived tree) (sweep_key mark sweep)) made) front
 
-    pub rest_is_shard : (old new : Option (List ℕ)) → WritesRestUntil tree mark sweep p kept begun old new → WritesShardUntil tree mark sweep p old new
+    pub rest_is_shard : (old new : Option (List ℕ)) → WritesRestUntil tree mark sweep p kept begun [] old new → WritesShardUntil tree mark sweep p old new
     rest_is_shard old new writes = record {
       width = writes.width;
       wanted = writes.wanted;
@@ -81,7 +85,7 @@ module _ (tree : Data) (sweep : Sweep) (mark : List ℕ) (p : Shard) (kept begun
       written = subst (Appends old new) (text_is (all_of writes.made)) writes.written;
     }
 
-    pub rest_begins_shard : (old new : Option (List ℕ)) → BeginsRestUntil tree mark sweep p kept begun old new → BeginsShardUntil tree mark sweep p old new
+    pub rest_begins_shard : (old new : Option (List ℕ)) → BeginsRestUntil tree mark sweep p kept begun [] old new → BeginsShardUntil tree mark sweep p old new
     rest_begins_shard old new begins = record {
       width = begins.width;
       wanted = begins.wanted;

@@ -1,9 +1,10 @@
 -- The table of a shard of a sweep whose settings have as many runs as their intervals need: a shard is one of whole settings.
-use Rattle.std.specs.Prelude.{◌≡◌, ℕ, ◌+◌, ◌-◌, List, Option, Some, drop}
+use Rattle.std.specs.Prelude.{◌≡◌, ◌≤◌, ◌<◌, ◌⊎◌, ℕ, ◌+◌, ◌-◌, List, [], Option, Some, drop, length}
 use Rattle.std.specs.Io.KnownBytes.{Appends}
 use Rattle.toml.specs.Data.{Data}
 use Rattle.trace.specs.Sinks.{AppendsBeginning}
-use Rattle.sweep_plan.specs.Sweep.{Sweep, setting_count}
+use Rattle.figures.specs.Notes.{Note}
+use Rattle.sweep_plan.specs.Sweep.{Sweep, setting_count, seed_count}
 use Rattle.shards.specs.declared.shard.Shard.{Shard}
 use Rattle.shards.specs.Shards.{first_run, past_run}
 use Rattle.sweep.specs.Runs.{Made}
@@ -11,7 +12,7 @@ use Rattle.sweep.specs.Sums.{sweep_key}
 use Rattle.sweep.specs.Table.{counts_revived}
 use Rattle.sweep.specs.Shards.{shard_header, shard_table}
 use Rattle.sweep.specs.Resumed.{rest_text}
-use Rattle.sweep_until.specs.Until.{AreMadeFrom, Stretch, all_of}
+use Rattle.sweep_until.specs.Until.{AreMadeBehind, AreMadeFrom, AreTooFew, Stretch, all_of}
 
 -- the number of its first setting, and how many it has: settings are shared out as runs are
 abbrev pub first_setting : Sweep → Shard → ℕ
@@ -42,6 +43,13 @@ pub record BeginsShardUntil (tree : Data) (mark : List ℕ) (sweep : Sweep) (p :
 
 -- ---- a shard that goes on
 
+-- So many bytes of a shard stay, with so many whole settings and these runs of the next one, which are too few; runs only where there is a next one, behind
+-- the whole first line.
+pub record CanGoOn (sweep : Sweep) (p : Shard) (header : List ℕ) (kept settings : ℕ) (before : List Note) : Type 0 where
+  pub few : settings ≤ settings_in sweep p
+  pub there : (before ≡ []) ⊎ ((settings < settings_in sweep p) × (length header ≤ kept))
+  pub open_yet : (width : ℕ) → sweep.until ≡ Some width → AreTooFew width (seed_count sweep.seeds) before
+
 -- The settings of the shard but for so many, the first: they come behind so many bytes that were written before, and what these lack of its first line.
 abbrev pub rest_settings : Data → List ℕ → Sweep → Shard → ℕ → ℕ → Stretch
 rest_settings tree mark sweep p kept settings = record {
@@ -51,22 +59,22 @@ rest_settings tree mark sweep p kept settings = record {
   settings = settings_in sweep p - settings;
 }
 
--- these are their runs
-abbrev pub AreSettingsBehind : Data → Sweep → ℕ → Shard → ℕ → List (List Made) → Type 0
-AreSettingsBehind tree sweep width p settings made = AreMadeFrom tree sweep width (first_setting sweep p + settings) (settings_in sweep p - settings) made
+-- these are their runs, but for those that were made before of the first one
+abbrev pub AreSettingsBehind : Data → Sweep → ℕ → Shard → ℕ → List Note → List (List Made) → Type 0
+AreSettingsBehind tree sweep width p settings before made = AreMadeBehind tree sweep width (first_setting sweep p + settings) (settings_in sweep p - settings) before made
 
--- what the bytes lack of the first line, and the lines of the settings that were left, were appended
-pub record WritesRestUntil (tree : Data) (mark : List ℕ) (sweep : Sweep) (p : Shard) (kept settings : ℕ) (old new : Option (List ℕ)) : Type 0 where
+-- what the bytes lack of the first line, and the lines of the runs that were left, were appended
+pub record WritesRestUntil (tree : Data) (mark : List ℕ) (sweep : Sweep) (p : Shard) (kept settings : ℕ) (before : List Note) (old new : Option (List ℕ)) : Type 0 where
   pub width : ℕ
   pub wanted : sweep.until ≡ Some width
   pub made : List (List Made)
-  pub are : AreSettingsBehind tree sweep width p settings made
+  pub are : AreSettingsBehind tree sweep width p settings before made
   pub written : Appends old new (rest_text (counts_revived tree) mark sweep p kept (all_of made))
 
 -- a beginning of that was
-pub record BeginsRestUntil (tree : Data) (mark : List ℕ) (sweep : Sweep) (p : Shard) (kept settings : ℕ) (old new : Option (List ℕ)) : Type 0 where
+pub record BeginsRestUntil (tree : Data) (mark : List ℕ) (sweep : Sweep) (p : Shard) (kept settings : ℕ) (before : List Note) (old new : Option (List ℕ)) : Type 0 where
   pub width : ℕ
   pub wanted : sweep.until ≡ Some width
   pub made : List (List Made)
-  pub are : AreSettingsBehind tree sweep width p settings made
+  pub are : AreSettingsBehind tree sweep width p settings before made
   pub written : AppendsBeginning old new (rest_text (counts_revived tree) mark sweep p kept (all_of made))

@@ -1,5 +1,5 @@
 -- A sweep whose settings have as many runs as their 95 % intervals need to be narrow enough, and no more.
-use Rattle.std.specs.Prelude.{◌≡◌, ◌≤◌, ◌<◌, ◌⊎◌, ℕ, ◌+◌, ◌*◌, Bool, true, false, List, [], ◌++◌, Option, flat_map, length, map, take}
+use Rattle.std.specs.Prelude.{◌≡◌, ◌≤◌, ◌<◌, ◌⊎◌, ℕ, ◌+◌, ◌-◌, ◌*◌, Bool, true, false, List, [], ◌∷◌, ◌++◌, Option, flat_map, length, map, take}
 use Rattle.std.specs.List.{AllZip, range_with_len}
 use Rattle.std.specs.Io.KnownBytes.{Appends}
 use Rattle.toml.specs.Data.{Data}
@@ -32,10 +32,20 @@ pub record AreEnough (width each : ℕ) (runs : List Note) : Type 0 where
   pub wide : IsWide width runs
   pub ends : (is_narrow_of width runs ≡ true) ⊎ (length runs ≡ each)
 
+-- The metadata of the first runs of a setting, so few that it needs more.
+pub record AreTooFew (width each : ℕ) (runs : List Note) : Type 0 where
+  pub few : length runs < each
+  pub wide : IsWide width runs
+  pub open_yet : is_narrow_of width runs ≡ false
+
+-- The runs of the setting of this number that come behind those which were made before, whose metadata these are: as many as are enough with them.
+pub record IsMadeBehind (tree : Data) (sweep : Sweep) (width number : ℕ) (before : List Note) (made : List Made) : Type 0 where
+  pub are : AreMadeBetween tree sweep (number * seed_count sweep.seeds + length before) (number * seed_count sweep.seeds + length before + length made) made
+  pub enough : AreEnough width (seed_count sweep.seeds) (before ++ map noted made)
+
 -- The runs of the setting of this number: its first ones, as many as are enough.
-pub record IsMadeUntil (tree : Data) (sweep : Sweep) (width number : ℕ) (made : List Made) : Type 0 where
-  pub are : AreMadeBetween tree sweep (number * seed_count sweep.seeds) (number * seed_count sweep.seeds + length made) made
-  pub enough : AreEnough width (seed_count sweep.seeds) (map noted made)
+abbrev pub IsMadeUntil : Data → Sweep → ℕ → ℕ → List Made → Type 0
+IsMadeUntil tree sweep width number made = IsMadeBehind tree sweep width number [] made
 
 -- those of so many settings, from that of a number on, in their order
 abbrev pub AreMadeFrom : Data → Sweep → ℕ → ℕ → ℕ → List (List Made) → Type 0
@@ -44,6 +54,20 @@ AreMadeFrom tree sweep width first settings made = AllZip (IsMadeUntil tree swee
 -- those of the first settings
 abbrev pub AreMadeUntil : Data → Sweep → ℕ → ℕ → List (List Made) → Type 0
 AreMadeUntil tree sweep width settings made = AreMadeFrom tree sweep width 0 settings made
+
+-- The runs of so many settings, from that of a number on, where these were made before of the first one: its other runs, and those of the others.
+pub record AreMadeWithFirst (tree : Data) (sweep : Sweep) (width first settings : ℕ) (before : List Note) (made : List (List Made)) : Type 0 where
+  pub one : List Made
+  pub others : List (List Made)
+  pub all : made ≡ one ∷ others
+  pub some : 0 < settings
+  pub open_one : IsMadeBehind tree sweep width first before one
+  pub are : AreMadeFrom tree sweep width (first + 1) (settings - 1) others
+
+-- the same where perhaps none were made of it before
+abbrev pub AreMadeBehind : Data → Sweep → ℕ → ℕ → ℕ → List Note → List (List Made) → Type 0
+AreMadeBehind tree sweep width first settings [] made = AreMadeFrom tree sweep width first settings made
+AreMadeBehind tree sweep width first settings (note ∷ notes) made = AreMadeWithFirst tree sweep width first settings (note ∷ notes) made
 
 -- the runs of settings, one setting after the other
 abbrev pub all_of : List (List Made) → List Made
@@ -95,37 +119,41 @@ BeginsUntil tree mark sweep width old new = BeginsSettings tree sweep width (all
 
 -- ---- how far a setting has come
 
--- the lines of the setting of this number
-abbrev pub setting_course : Sweep → List ℕ → ℕ → Option (List ℕ) → Course
-setting_course sweep key number start =
-    record { key = key; start = start; front = []; from = number * seed_count sweep.seeds; till = number * seed_count sweep.seeds + seed_count sweep.seeds }
+-- the lines of the setting of this number, behind those of its runs that were made before
+abbrev pub setting_course : Sweep → List ℕ → ℕ → List Note → Option (List ℕ) → Course
+setting_course sweep key number before start =
+    record { key = key; start = start; front = []; from = number * seed_count sweep.seeds + length before; till = number * seed_count sweep.seeds + seed_count sweep.seeds }
 
--- the lines of the runs of a setting to before the run of this number were appended, and no fewer of them are narrow enough
-pub record HasGone (tree : Data) (sweep : Sweep) (width : ℕ) (course : Course) (held : Option (List ℕ)) (kept : SettingRuns) (number : ℕ) : Type 0 where
-  pub come : HasCome tree sweep course held (λ notes. AreKept notes kept) number
-  pub wide : IsWide width (map noted come.lines.made)
+-- the lines of the runs of a setting to before the run of this number were appended; no fewer of them are narrow enough with those that were made before
+pub record HasGone (tree : Data) (sweep : Sweep) (width : ℕ) (before : List Note) (course : Course) (held : Option (List ℕ)) (kept : SettingRuns) (number : ℕ) : Type 0 where
+  pub come : HasCome tree sweep course held (λ notes. AreKept (before ++ notes) kept) number
+  pub wide : IsWide width (before ++ map noted come.lines.made)
 
 -- nor are they
-pub record GoesOn (tree : Data) (sweep : Sweep) (width : ℕ) (course : Course) (held : Option (List ℕ)) (kept : SettingRuns) (number : ℕ) : Type 0 where
-  pub gone : HasGone tree sweep width course held kept number
-  pub open_yet : is_narrow_of width (map noted gone.come.lines.made) ≡ false
+pub record GoesOn (tree : Data) (sweep : Sweep) (width : ℕ) (before : List Note) (course : Course) (held : Option (List ℕ)) (kept : SettingRuns) (number : ℕ) : Type 0 where
+  pub gone : HasGone tree sweep width before course held kept number
+  pub open_yet : is_narrow_of width (before ++ map noted gone.come.lines.made) ≡ false
 
 -- runs of a setting were made up to one with which there are enough, or all to before the run of a number
-pub record HasEnded (tree : Data) (sweep : Sweep) (width : ℕ) (course : Course) (held : Option (List ℕ)) (kept : SettingRuns) (first past : ℕ) : Type 0 where
+pub record HasEnded (tree : Data) (sweep : Sweep) (width : ℕ) (before : List Note) (course : Course) (held : Option (List ℕ)) (kept : SettingRuns) (first past : ℕ) : Type 0 where
   pub next : ℕ
   pub more : first < next
   pub high : next ≤ past
-  pub gone : HasGone tree sweep width course held kept next
-  pub ends : (is_narrow_of width (map noted gone.come.lines.made) ≡ true) ⊎ (next ≡ past)
+  pub gone : HasGone tree sweep width before course held kept next
+  pub ends : (is_narrow_of width (before ++ map noted gone.come.lines.made) ≡ true) ⊎ (next ≡ past)
 
 -- a beginning of such lines was appended
-pub record BeginsWide (tree : Data) (sweep : Sweep) (width : ℕ) (course : Course) (held : Option (List ℕ)) : Type 0 where
+pub record BeginsWide (tree : Data) (sweep : Sweep) (width : ℕ) (before : List Note) (course : Course) (held : Option (List ℕ)) : Type 0 where
   pub begun : BeginsLines tree sweep course held
-  pub wide : IsWide width (map noted begun.made)
+  pub wide : IsWide width (before ++ map noted begun.made)
 
--- the runs of a setting were made, their lines were appended, and it is summed up
-pub record MakesSetting (tree : Data) (sweep : Sweep) (key : List ℕ) (width number : ℕ) (old new : Option (List ℕ)) (setting : SettingSummary) : Type 0 where
+-- the runs of a setting were made behind those that were made before, their lines were appended, and all are summed up
+pub record MakesSetting (tree : Data) (sweep : Sweep) (key : List ℕ) (width number : ℕ) (before : List Note) (old new : Option (List ℕ)) (setting : SettingSummary) : Type 0 where
   pub made : List Made
-  pub are : IsMadeUntil tree sweep width number made
+  pub are : IsMadeBehind tree sweep width number before made
   pub written : Appends old new (flat_map (noted_line (counts_revived tree) key) made)
-  pub told : SumsUp made setting
+  pub told : IsSummaryOf setting (before ++ map noted made)
+
+-- they were, whatever is told of them
+abbrev pub FinishesSetting : Data → Sweep → List ℕ → ℕ → ℕ → List Note → Option (List ℕ) → Option (List ℕ) → Type 0
+FinishesSetting tree sweep key width number before old new = (setting : SettingSummary) × MakesSetting tree sweep key width number before old new setting

@@ -2,7 +2,6 @@
 //! thrown out narrow enough.
 #![tactic(auto)]
 
-mod begun;
 mod lots;
 mod parts;
 mod runs;
@@ -10,7 +9,6 @@ mod setting_shards;
 mod until;
 mod widths;
 
-pub use begun::BegunSettings;
 pub use runs::SettingRuns;
 pub use setting_shards::{write_rest_until, write_shard_until};
 pub use until::sweep_until;

@@ -1,8 +1,9 @@
 //! The runs of a setting, some at a time, side by side.
-ghost use Rattle.std.specs.Prelude.{◌≡◌, ◌<◌, ◌≤◌, ◌^◌, ◌+◌, OnErr, IfOk, IfErr};
+ghost use Rattle.std.specs.Prelude.{◌≡◌, ◌<◌, ◌≤◌, ◌^◌, ◌+◌, List, OnErr, IfOk, IfErr};
 ghost use Rattle.toml.specs.View.{view};
 ghost use Rattle.sweep_plan.specs.Sweep.{run_count};
 ghost use Rattle.run_output.specs.Written.{sink_failures};
+ghost use Rattle.figures.specs.Notes.{Note};
 ghost use Rattle.sweep.specs.Judged.{AreAccepted};
 ghost use Rattle.sweep.specs.Runs.{IsAskedFor};
 ghost use Rattle.sweep.specs.Shares.{AreShares};
@@ -43,12 +44,12 @@ pub(crate) fn make_lot<S: Sink>(
     requires shared { AreShares from till shares.now }
     requires within { till ≤ run_count plan.now }
     requires countable { S.failed table.old < 2 ^ 63 }
-    ensures whole { IfOk result (λ next. (course : Course) → course.key ≡ key.now → GoesOn (view document.now) plan.now width course (S.held table.old) runs.old from
-        → HasGone (view document.now) plan.now width course (S.held table.new) runs.new next) }
+    ensures whole { IfOk result (λ next. (before : List Note) (course : Course) → course.key ≡ key.now → GoesOn (view document.now) plan.now width before course (S.held table.old) runs.old from
+        → HasGone (view document.now) plan.now width before course (S.held table.new) runs.new next) }
     ensures further { IfOk result (λ next. from < next) }
     ensures bounded { IfOk result (λ next. next ≤ till) }
-    ensures part { OnErr result ((course : Course) → course.key ≡ key.now → till ≤ course.till → GoesOn (view document.now) plan.now width course (S.held table.old) runs.old from
-        → BeginsWide (view document.now) plan.now width course (S.held table.new)) }
+    ensures part { OnErr result ((before : List Note) (course : Course) → course.key ≡ key.now → till ≤ course.till → GoesOn (view document.now) plan.now width before course (S.held table.old) runs.old from
+        → BeginsWide (view document.now) plan.now width before course (S.held table.new)) }
     ensures causes { IfErr result (HasCause (view document.now) plan.now) }
     ensures failures { S.failed table.new ≡ S.failed table.old + sink_failures result }
 {

@@ -1,19 +1,21 @@
 //! The table of a shard, which is one of whole settings.
-ghost use Rattle.std.specs.Prelude.{◌≡◌, ◌<◌, ◌≤◌, ◌^◌, ◌+◌, ◌-◌, [], Some, is_some, true, OnOk, OnErr, IfErr};
+ghost use Rattle.std.specs.Prelude.{◌≡◌, ◌≢◌, ◌<◌, ◌≤◌, ◌^◌, ◌+◌, ◌-◌, [], Some, is_some, true, OnOk, OnErr, IfErr};
 ghost use Rattle.toml.specs.View.{view};
 ghost use Rattle.run_output.specs.Written.{sink_failures};
 ghost use Rattle.shards.specs.Shards.{IsShard};
 ghost use Rattle.sweep.specs.Judged.{AreAccepted};
 ghost use Rattle.sweep.specs.Runs.{IsAskedFor};
-ghost use Rattle.sweep.specs.Table.{HasCause};
-ghost use Rattle.sweep_until.specs.Shards.{BeginsShardUntil, BeginsRestUntil, WritesShardUntil, WritesRestUntil, settings_in, rest_settings};
-ghost use Rattle.sweep_until.specs.Until.{BeginsSettings, HasSettings};
+ghost use Rattle.sweep.specs.Table.{HasCause, counts_revived};
+ghost use Rattle.sweep.specs.Shards.{shard_header};
+ghost use Rattle.sweep.specs.Sums.{sweep_key};
+ghost use Rattle.sweep_plan.specs.Sweep.{seed_count};
+ghost use Rattle.sweep_until.specs.Shards.{BeginsShardUntil, BeginsRestUntil, CanGoOn, WritesShardUntil, WritesRestUntil, first_setting, settings_in, rest_settings};
+ghost use Rattle.sweep_until.specs.Until.{AreTooFew, BeginsSettings, BeginsWide, FinishesSetting, HasSettings, setting_course};
 
-use crate::begun::BegunSettings;
 use crate::parts::ShardProgress;
-use crate::until::make_settings;
+use crate::until::{make_setting, make_settings};
 use base::Fault;
-use figures::SettingSummary;
+use figures::{RunMetadata, SettingSummary};
 use run_output::flush;
 use scenario::Workers;
 use sequential_run::{a_run_exists, the_run_is_one};
@@ -59,22 +61,35 @@ pub fn write_shard_until<S: Sink, P: Progress>(
     ensures causes { IfErr result (HasCause (view document.now) plan.now) }
     ensures failures { S.failed table.new ≡ S.failed table.old + sink_failures result }
 {
-    let nothing = BegunSettings::nothing();
     write_rest_until(
-        rt, alloc, plan, shard, mark, nothing, document, workers, progress, table,
+        rt,
+        alloc,
+        plan,
+        shard,
+        mark,
+        0,
+        0,
+        &[],
+        document,
+        workers,
+        progress,
+        table,
     )
 }
 
-/// Makes the runs of the settings of a shard that aren't made yet, and writes its table behind the bytes that stay of it: what
-/// these lack of the first line, and the lines of the settings that are left; at the end the table is flushed. All else is as in
-/// `write_shard_until`.
+/// Makes the runs of a shard that aren't made yet, and writes its table behind the bytes that stay of it: what these lack of the
+/// first line, and the lines of the runs that are left; at the end the table is flushed. So many settings are made, and the runs of
+/// the next one whose metadata is in `started`: that one goes on behind these, up to where it ends in a shard that is made at once. All
+/// else is as in `write_shard_until`.
 pub fn write_rest_until<S: Sink, P: Progress>(
     rt: &(impl Threads + Sync),
     alloc: Global,
     plan: &Plan,
     shard: Shard,
     mark: &str,
-    begun: BegunSettings,
+    kept: usize,
+    made: usize,
+    started: &[RunMetadata],
     document: &Value,
     workers: Workers,
     progress: &mut P,
@@ -84,15 +99,76 @@ pub fn write_rest_until<S: Sink, P: Progress>(
     requires judged { AreAccepted (view document.now) plan.now }
     requires shard { IsShard shard }
     requires wanted { is_some plan.now.until ≡ true }
-    requires few { begun.settings ≤ settings_in plan.now shard }
+    requires begun { CanGoOn plan.now shard (shard_header (counts_revived (view document.now)) mark.now plan.now shard) kept made started.now }
     requires countable { S.failed table.old < 2 ^ 63 }
-    ensures whole { OnOk result (WritesRestUntil (view document.now) mark.now plan.now shard begun.kept begun.settings (S.held table.old) (S.held table.new)) }
-    ensures part { OnErr result (BeginsRestUntil (view document.now) mark.now plan.now shard begun.kept begun.settings (S.held table.old) (S.held table.new)) }
+    ensures whole { OnOk result (WritesRestUntil (view document.now) mark.now plan.now shard kept made started.now
+        (S.held table.old) (S.held table.new)) }
+    ensures part { OnErr result (BeginsRestUntil (view document.now) mark.now plan.now shard kept made started.now
+        (S.held table.old) (S.held table.new)) }
     ensures causes { IfErr result (HasCause (view document.now) plan.now) }
     ensures failures { S.failed table.new ≡ S.failed table.old + sink_failures result }
 {
     let width = width_of(plan);
+    if started.is_empty() {
+        let mut settings = Vec::new(alloc);
+        return write_settings(
+            rt,
+            alloc,
+            plan,
+            shard,
+            mark,
+            width,
+            kept,
+            made,
+            document,
+            workers,
+            progress,
+            &mut settings,
+            table,
+        );
+    }
+    write_open(
+        rt, alloc, plan, shard, mark, width, kept, made, started, document, workers, progress,
+        table,
+    )
+}
+
+/// Writes that rest where some runs of a setting are made: first the lines of its other runs.
+fn write_open<S: Sink, P: Progress>(
+    rt: &(impl Threads + Sync),
+    alloc: Global,
+    plan: &Plan,
+    shard: Shard,
+    mark: &str,
+    width: u64,
+    kept: usize,
+    made: usize,
+    started: &[RunMetadata],
+    document: &Value,
+    workers: Workers,
+    progress: &mut P,
+    table: &mut S,
+) -> Result<(), Fault>
+    requires asked { IsAskedFor plan.now }
+    requires judged { AreAccepted (view document.now) plan.now }
+    requires shard { IsShard shard }
+    requires wanted { plan.now.until ≡ Some width }
+    requires begun { CanGoOn plan.now shard (shard_header (counts_revived (view document.now)) mark.now plan.now shard) kept made started.now }
+    requires some { started.now ≢ [] }
+    requires countable { S.failed table.old < 2 ^ 63 }
+    ensures whole { OnOk result (WritesRestUntil (view document.now) mark.now plan.now shard kept made started.now
+        (S.held table.old) (S.held table.new)) }
+    ensures part { OnErr result (BeginsRestUntil (view document.now) mark.now plan.now shard kept made started.now
+        (S.held table.old) (S.held table.new)) }
+    ensures causes { IfErr result (HasCause (view document.now) plan.now) }
+    ensures failures { S.failed table.new ≡ S.failed table.old + sink_failures result }
+{
+    a_run_exists();
+    the_run_is_one();
     let mut settings = Vec::new(alloc);
+    finish_setting(
+        rt, alloc, plan, shard, mark, width, made, started, document, workers, progress, table,
+    )?;
     write_settings(
         rt,
         alloc,
@@ -100,7 +176,8 @@ pub fn write_rest_until<S: Sink, P: Progress>(
         shard,
         mark,
         width,
-        begun,
+        kept,
+        made + 1,
         document,
         workers,
         progress,
@@ -109,8 +186,52 @@ pub fn write_rest_until<S: Sink, P: Progress>(
     )
 }
 
-/// Writes that rest, where the intervals are to be so many hundredths wide at most, and adds what is told of each setting that
-/// is made.
+/// Makes the runs that a setting needs behind those that are made of it, and writes their lines.
+fn finish_setting<S: Sink, P: Progress>(
+    rt: &(impl Threads + Sync),
+    alloc: Global,
+    plan: &Plan,
+    shard: Shard,
+    mark: &str,
+    width: u64,
+    made: usize,
+    started: &[RunMetadata],
+    document: &Value,
+    workers: Workers,
+    progress: &mut P,
+    table: &mut S,
+) -> Result<(), Fault>
+    requires asked { IsAskedFor plan.now }
+    requires judged { AreAccepted (view document.now) plan.now }
+    requires shard { IsShard shard }
+    requires most { width ≤ 100 }
+    requires some { made < settings_in plan.now shard }
+    requires open_yet { AreTooFew width (seed_count plan.now.seeds) started.now }
+    requires countable { S.failed table.old < 2 ^ 63 }
+    ensures whole { OnOk result (FinishesSetting (view document.now) plan.now (sweep_key mark.now plan.now) width (first_setting plan.now shard + made) started.now
+        (S.held table.old) (S.held table.new)) }
+    ensures part { OnErr result (BeginsWide (view document.now) plan.now width started.now
+        (setting_course plan.now (sweep_key mark.now plan.now) (first_setting plan.now shard + made) started.now (S.held table.old)) (S.held table.new)) }
+    ensures causes { IfErr result (HasCause (view document.now) plan.now) }
+    ensures failures { S.failed table.new ≡ S.failed table.old + sink_failures result }
+{
+    let count = plan.settings();
+    let first = shard.first(count);
+    let number = first + made;
+    let key = sweep_key(alloc, plan, mark)?;
+    let mut part = ShardProgress {
+        whole: progress,
+        before: first.saturating_mul(plan.runs_of_setting()),
+        all: (shard.past(count) - first).saturating_mul(plan.runs_of_setting()),
+    };
+    make_setting(
+        rt, alloc, plan, &key, width, document, workers, number, started, &mut part, table,
+    )?;
+    Ok(())
+}
+
+/// Writes the table of a shard behind so many bytes and settings, where the intervals are to be so many hundredths wide at most, and
+/// adds what is told of each setting that is made.
 pub(crate) fn write_settings<S: Sink, P: Progress>(
     rt: &(impl Threads + Sync),
     alloc: Global,
@@ -118,7 +239,8 @@ pub(crate) fn write_settings<S: Sink, P: Progress>(
     shard: Shard,
     mark: &str,
     width: u64,
-    begun: BegunSettings,
+    kept: usize,
+    made: usize,
     document: &Value,
     workers: Workers,
     progress: &mut P,
@@ -129,20 +251,20 @@ pub(crate) fn write_settings<S: Sink, P: Progress>(
     requires judged { AreAccepted (view document.now) plan.now }
     requires shard { IsShard shard }
     requires most { width ≤ 100 }
-    requires few { begun.settings ≤ settings_in plan.now shard }
+    requires few { made ≤ settings_in plan.now shard }
     requires fresh { settings.old.items ≡ [] }
     requires countable { S.failed table.old < 2 ^ 63 }
     ensures whole { OnOk result (HasSettings (view document.now) plan.now width
-        (rest_settings (view document.now) mark.now plan.now shard begun.kept begun.settings) (S.held table.old) (S.held table.new)
-        (settings_in plan.now shard - begun.settings) settings.new.items) }
+        (rest_settings (view document.now) mark.now plan.now shard kept made) (S.held table.old) (S.held table.new)
+        (settings_in plan.now shard - made) settings.new.items) }
     ensures part { OnErr result (BeginsSettings (view document.now) plan.now width
-        (rest_settings (view document.now) mark.now plan.now shard begun.kept begun.settings) (S.held table.old) (S.held table.new)) }
+        (rest_settings (view document.now) mark.now plan.now shard kept made) (S.held table.old) (S.held table.new)) }
     ensures causes { IfErr result (HasCause (view document.now) plan.now) }
     ensures failures { S.failed table.new ≡ S.failed table.old + sink_failures result }
 {
     let count = plan.settings();
     let first = shard.first(count);
-    let from = first + begun.settings;
+    let from = first + made;
     let till = shard.past(count);
     let mut part = ShardProgress {
         whole: progress,
@@ -157,7 +279,7 @@ pub(crate) fn write_settings<S: Sink, P: Progress>(
         plan,
         shard,
         mark,
-        begun.kept,
+        kept,
         counts_revived(document),
         table,
     )?;

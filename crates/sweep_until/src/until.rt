@@ -6,21 +6,22 @@ ghost use Rattle.run_output.specs.Written.{sink_failures};
 ghost use Rattle.sweep.specs.Judged.{AreAccepted};
 ghost use Rattle.sweep.specs.Runs.{IsAskedFor};
 ghost use Rattle.sweep.specs.Table.{Course, HasCause};
-ghost use Rattle.sweep_until.specs.Until.{BeginsSettings, BeginsUntil, BeginsWide, GoesOn, HasSettings, HasEnded, MakesSetting, MakesUntil, Stretch, setting_course};
+ghost use Rattle.figures.specs.Notes.{Note};
+ghost use Rattle.sweep_until.specs.Kept.{AreKept};
+ghost use Rattle.sweep_until.specs.Until.{AreTooFew, BeginsSettings, BeginsUntil, BeginsWide, GoesOn, HasSettings, HasEnded, MakesSetting, MakesUntil, Stretch, setting_course};
 
-use crate::begun::BegunSettings;
 use crate::lots::make_lot;
 use crate::runs::SettingRuns;
 use crate::setting_shards::write_settings;
 use base::{Fault, Memory};
-use figures::SettingSummary;
+use figures::{RunMetadata, SettingSummary};
 use scenario::Workers;
 use sequential_run::{a_run_exists, the_run_is_one};
 use shards::Shard;
 use std::alloc::Global;
 use std::marker::Sync;
 use std::thread::Threads;
-use sweep::{LotSize, Progress, SECOND_OF_WORK, first_run, next_lot};
+use sweep::{Gather, LotSize, Progress, SECOND_OF_WORK, first_run, next_lot};
 use sweep_plan::Plan;
 use toml::Value;
 use trace::Sink;
@@ -76,7 +77,8 @@ pub fn sweep_until<S: Sink, P: Progress>(
         Shard::whole(),
         mark,
         width,
-        BegunSettings::nothing(),
+        0,
+        0,
         document,
         workers,
         progress,
@@ -121,7 +123,17 @@ pub(crate) fn make_settings<S: Sink, P: Progress>(
     the_run_is_one();
     for number in first..past {
         let setting = make_setting(
-            rt, alloc, plan, key, width, document, workers, number, progress, table,
+            rt,
+            alloc,
+            plan,
+            key,
+            width,
+            document,
+            workers,
+            number,
+            &[],
+            progress,
+            table,
         )?;
         push_setting(settings, setting)?;
     }
@@ -129,15 +141,19 @@ pub(crate) fn make_settings<S: Sink, P: Progress>(
 }
 
 /// Adds what is told of a setting.
-fn push_setting(settings: &mut Vec<SettingSummary>, setting: SettingSummary) -> Result<(), Memory>
+pub(crate) fn push_setting(
+    settings: &mut Vec<SettingSummary>,
+    setting: SettingSummary,
+) -> Result<(), Memory>
     ensures { OnOk result (settings.new.items ≡ settings.old.items ++ setting ∷ []) }
 {
     settings.push(setting)?;
     Ok(())
 }
 
-/// Makes the runs of the setting of this number, writes their lines, and gives what is told of it.
-fn make_setting<S: Sink, P: Progress>(
+/// Makes the runs of the setting of this number, behind those that were made of it before, which are too few; writes their lines, and
+/// gives what is told of the setting.
+pub(crate) fn make_setting<S: Sink, P: Progress>(
     rt: &(impl Threads + Sync),
     alloc: Global,
     plan: &Plan,
@@ -146,6 +162,7 @@ fn make_setting<S: Sink, P: Progress>(
     document: &Value,
     workers: Workers,
     number: usize,
+    before: &[RunMetadata],
     progress: &mut P,
     table: &mut S,
 ) -> Result<SettingSummary, Fault>
@@ -153,22 +170,35 @@ fn make_setting<S: Sink, P: Progress>(
     requires judged { AreAccepted (view document.now) plan.now }
     requires most { width ≤ 100 }
     requires within { number < setting_count plan.now.swept_keys }
+    requires open_yet { AreTooFew width (seed_count plan.now.seeds) before.now }
     requires countable { S.failed table.old < 2 ^ 63 }
-    ensures whole { IfOk result (MakesSetting (view document.now) plan.now key.now width number (S.held table.old) (S.held table.new)) }
-    ensures part { OnErr result (BeginsWide (view document.now) plan.now width (setting_course plan.now key.now number (S.held table.old)) (S.held table.new)) }
+    ensures whole { IfOk result (MakesSetting (view document.now) plan.now key.now width number before.now (S.held table.old) (S.held table.new)) }
+    ensures part { OnErr result (BeginsWide (view document.now) plan.now width before.now (setting_course plan.now key.now number before.now (S.held table.old)) (S.held table.new)) }
     ensures causes { IfErr result (HasCause (view document.now) plan.now) }
     ensures failures { S.failed table.new ≡ S.failed table.old + sink_failures result }
 {
     the_run_is_one();
     let first = first_run(plan, number);
     let past = first + plan.runs_of_setting();
-    let mut runs = SettingRuns::new(alloc);
+    let from = first + before.len();
+    let mut runs = kept_of(alloc, before)?;
     make_runs_of(
-        rt, alloc, plan, key, width, document, workers, first, past, progress, &mut runs, table,
+        rt, alloc, plan, key, width, document, workers, from, past, progress, &mut runs, table,
     )?;
     progress.runs_made(past, plan.runs());
     let setting = runs.into_summary()?;
     Ok(setting)
+}
+
+/// What a setting keeps of runs that were made before.
+fn kept_of(alloc: Global, before: &[RunMetadata]) -> Result<SettingRuns, Memory>
+    ensures { IfOk result (AreKept before.now) }
+{
+    let mut runs = SettingRuns::new(alloc);
+    for note in before {
+        runs.add(alloc, note)?;
+    }
+    Ok(runs)
 }
 
 /// Makes runs of a setting from one number to before another, until the interval is narrow enough, and writes their lines.
@@ -192,10 +222,10 @@ fn make_runs_of<S: Sink, P: Progress>(
     requires some { first < past }
     requires within { past ≤ run_count plan.now }
     requires countable { S.failed table.old < 2 ^ 63 }
-    ensures whole { OnOk result ((course : Course) → course.key ≡ key.now → GoesOn (view document.now) plan.now width course (S.held table.old) runs.old first
-        → HasEnded (view document.now) plan.now width course (S.held table.new) runs.new first past) }
-    ensures part { OnErr result ((course : Course) → course.key ≡ key.now → past ≤ course.till → GoesOn (view document.now) plan.now width course (S.held table.old) runs.old first
-        → BeginsWide (view document.now) plan.now width course (S.held table.new)) }
+    ensures whole { OnOk result ((before : List Note) (course : Course) → course.key ≡ key.now → GoesOn (view document.now) plan.now width before course (S.held table.old) runs.old first
+        → HasEnded (view document.now) plan.now width before course (S.held table.new) runs.new first past) }
+    ensures part { OnErr result ((before : List Note) (course : Course) → course.key ≡ key.now → past ≤ course.till → GoesOn (view document.now) plan.now width before course (S.held table.old) runs.old first
+        → BeginsWide (view document.now) plan.now width before course (S.held table.new)) }
     ensures causes { IfErr result (HasCause (view document.now) plan.now) }
     ensures failures { S.failed table.new ≡ S.failed table.old + sink_failures result }
 {

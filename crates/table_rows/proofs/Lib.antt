@@ -6,4 +6,6 @@ pub mod OneLine
 pub mod OneSetting
 pub mod Read
 pub mod SettingsOf
+pub mod OpenRows
 pub mod MadeLines
+mod Written

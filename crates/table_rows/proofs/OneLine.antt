@@ -1,5 +1,5 @@
 -- The first line of a text.
-use Rattle.std.proofs.Common.{◌≡◌, ◌∙◌, ℕ, List, [], ◌∷◌, ◌++◌, lit<, refl, sym, ap, append_assoc}
+use Rattle.std.proofs.Common.{◌≡◌, ◌∙◌, ℕ, List, [], ◌∷◌, ◌++◌, lit<, refl, sym, ap, subst, append_assoc}
 use Rattle.std.specs.Prelude.{Option, Some, None}
 use Rattle.std.specs.Borrow.{Bor}
 use Rattle.std.specs.Option.{MatchOption}
@@ -82,3 +82,7 @@ module _ (text : List ℕ) (line : HasLine text) where
 
   pub note_there : (word : List ℕ) → word ≡ note_text one.note → IsNoteWord word one.note
   note_there word same = record { written = sym same; small = line.1.sound.small }
+
+-- a line that was read, whose note is gathered
+pub gathered_so : (text left : List ℕ) (note : Note) → ReadsLine text left (λ n. n ≡ note) → (Gathers : Note → Type 0) → Gathers note → ReadsLine text left Gathers
+gathered_so text left note reads Gathers here = record { begins = reads.begins; gathered = subst Gathers (sym reads.gathered) here }

@@ -1,5 +1,6 @@
 pub mod Items
 pub mod Lines
 pub mod Settings
+pub mod Open
 pub mod Refused
 pub mod Made

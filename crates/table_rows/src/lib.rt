@@ -3,10 +3,13 @@
 
 mod by_settings;
 mod fault;
+pub mod laws;
 mod lines;
+mod opened;
 mod settings_of;
 
 pub use by_settings::{read_setting, read_settings};
 pub use fault::LineFault;
 pub use lines::{read_line, read_lines};
+pub use opened::open_rows;
 pub use settings_of::{StandingSettings, are_settings_of, settings_of_runs};

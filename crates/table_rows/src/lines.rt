@@ -23,6 +23,26 @@ pub fn read_line<'a, G: Gather>(
         (λ note. (each : ℕ) (notes : List Note) → G.has gathering.old each notes → G.has gathering.new each (notes ++ note ∷ []))) }
     ensures refused { IfErr result (Refuses (HasLine text.entry.now)) }
 {
+    let (note, left) = match read_note(alloc, text) {
+        Ok(read) => read,
+        Err(fault) => return Err(fault),
+    };
+    match gathering.add(alloc, &note) {
+        Ok(()) => Ok(left),
+        Err(Memory) => Err(LineFault::Memory),
+    }
+}
+
+/// The note of the first line of a text, and what is left of the text. Whether its checksum is right isn't looked at.
+///
+/// Faults: `Torn` where the text begins with no line; `Memory`.
+pub(crate) fn read_note<'a>(
+    alloc: Global,
+    text: &'a str,
+) -> Result<(RunMetadata, &'a str), LineFault>
+    ensures read { IfOk result (λ x. ReadsLine text.entry.now x.1.now (λ note. note ≡ x.0)) }
+    ensures refused { IfErr result (Refuses (HasLine text.entry.now)) }
+{
     let Some(noted) = behind_sum(text) else {
         return Err(LineFault::Torn);
     };
@@ -32,14 +52,10 @@ pub fn read_line<'a, G: Gather>(
     let Some((_body, left)) = rest.split_once('\n') else {
         return Err(LineFault::Torn);
     };
-    let note = match RunMetadata::read(alloc, word) {
-        Ok(note) => note,
-        Err(MetadataFault::Word) => return Err(LineFault::Torn),
-        Err(MetadataFault::Memory) => return Err(LineFault::Memory),
-    };
-    match gathering.add(alloc, &note) {
-        Ok(()) => Ok(left),
-        Err(Memory) => Err(LineFault::Memory),
+    match RunMetadata::read(alloc, word) {
+        Ok(note) => Ok((note, left)),
+        Err(MetadataFault::Word) => Err(LineFault::Torn),
+        Err(MetadataFault::Memory) => Err(LineFault::Memory),
     }
 }
 

@@ -105,7 +105,7 @@ fn behind_setting<'a>(
 }
 
 /// What a text has before what is left of it.
-fn before<'a>(text: &'a str, left: &str) -> &'a [u8]
+pub(crate) fn before<'a>(text: &'a str, left: &str) -> &'a [u8]
     requires { length left.now ≤ length text.now }
     ensures { result.now ≡ take (length text.entry.now - length left.now) text.entry.now }
 {

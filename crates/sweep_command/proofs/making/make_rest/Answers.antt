@@ -1,24 +1,30 @@
 -- what is left of the runs of a shard, by whether there is a width
 use Rattle.std.proofs.Common.{◌∙◌, ap, is_some, subst, sym}
 use Rattle.toml.specs.View.{view}
-use Rattle.sweep_command.specs.Runs.{BeginsRunsBehind, FitShard, WritesRunsBehind}
+use Rattle.sweep.specs.Shards.{shard_header}
+use Rattle.sweep.specs.Table.{counts_revived}
+use Rattle.sweep_command.specs.Runs.{BeginsRunsBehind, FitShard, WritesRunsBehind, standing}
 use Rattle.sweep_command.proofs.Ways.{done_by, err_by, few_rest_begun, few_rest_made, rest_begun, rest_made}
 use Rattle.sweep_command.proofs.making.make_rest.Goals as goal
 
 pub write_rest_until-requires-clause-wanted : goal.write_rest_until-requires-clause-wanted
 write_rest_until-requires-clause-wanted g c _ _ = ap is_some (sym c.until.ensures.same ∙ c.in-Some.is)
 
-pub write_rest_until-requires-clause-few : goal.write_rest_until-requires-clause-few
-write_rest_until-requires-clause-few g c _ _ = subst (λ until. FitShard until c.args.plan.now c.args.shard c.args.count) (sym c.until.ensures.same ∙ c.in-Some.is) c.requires.few
+pub write_rest_until-requires-clause-begun : goal.write_rest_until-requires-clause-begun
+write_rest_until-requires-clause-begun g c _ _ =
+    let header = shard_header (counts_revived (view c.args.document.now)) c.args.mark.now c.args.plan.now c.args.shard in
+    subst (λ until. FitShard until c.args.plan.now c.args.shard header c.args.kept (standing c.args.count c.args.started.now)) (sym c.until.ensures.same ∙ c.in-Some.is) c.requires.few
 
 pub write_rest-requires-clause-few : goal.write_rest-requires-clause-few
-write_rest-requires-clause-few g c _ _ = subst (λ until. FitShard until c.args.plan.now c.args.shard c.args.count) (sym c.until.ensures.same ∙ c.in-None.is) c.requires.few
+write_rest-requires-clause-few g c _ _ =
+    let header = shard_header (counts_revived (view c.args.document.now)) c.args.mark.now c.args.plan.now c.args.shard in
+    subst (λ until. FitShard until c.args.plan.now c.args.shard header c.args.kept (standing c.args.count c.args.started.now)) (sym c.until.ensures.same ∙ c.in-None.is) c.requires.few
 
 pub returns-in-Some-clause-whole : goal.returns-in-Some-clause-whole
 returns-in-Some-clause-whole g c =
     let held = g.S.Sink.held in
     let is = sym c.until.ensures.same ∙ c.in-Some.is in
-    done_by (λ until. WritesRunsBehind until (view c.args.document.now) c.args.mark.now c.args.plan.now c.args.shard c.args.kept c.args.count
+    done_by (λ until. WritesRunsBehind until (view c.args.document.now) c.args.mark.now c.args.plan.now c.args.shard c.args.kept (standing c.args.count c.args.started.now)
     (held c.args.table.now) (held c.write_rest_until.new.table))
     _ _ c.write_rest_until.result is c.write_rest_until.ensures.whole (few_rest_made _ _ _ _ _ _ _ _ _ is)
 
@@ -26,20 +32,20 @@ pub returns-in-Some-clause-part : goal.returns-in-Some-clause-part
 returns-in-Some-clause-part g c =
     let held = g.S.Sink.held in
     let is = sym c.until.ensures.same ∙ c.in-Some.is in
-    err_by (λ until. BeginsRunsBehind until (view c.args.document.now) c.args.mark.now c.args.plan.now c.args.shard c.args.kept c.args.count
+    err_by (λ until. BeginsRunsBehind until (view c.args.document.now) c.args.mark.now c.args.plan.now c.args.shard c.args.kept (standing c.args.count c.args.started.now)
     (held c.args.table.now) (held c.write_rest_until.new.table))
     _ _ c.write_rest_until.result is c.write_rest_until.ensures.part (few_rest_begun _ _ _ _ _ _ _ _ _ is)
 
 pub returns-in-None-clause-whole : goal.returns-in-None-clause-whole
 returns-in-None-clause-whole g c =
     let held = g.S.Sink.held in
-    done_by (λ until. WritesRunsBehind until (view c.args.document.now) c.args.mark.now c.args.plan.now c.args.shard c.args.kept c.args.count
+    done_by (λ until. WritesRunsBehind until (view c.args.document.now) c.args.mark.now c.args.plan.now c.args.shard c.args.kept (standing c.args.count c.args.started.now)
     (held c.args.table.now) (held c.write_rest.new.table))
     _ _ c.write_rest.result (sym c.until.ensures.same ∙ c.in-None.is) c.write_rest.ensures.whole (rest_made _ _ _ _ _ _ _ _)
 
 pub returns-in-None-clause-part : goal.returns-in-None-clause-part
 returns-in-None-clause-part g c =
     let held = g.S.Sink.held in
-    err_by (λ until. BeginsRunsBehind until (view c.args.document.now) c.args.mark.now c.args.plan.now c.args.shard c.args.kept c.args.count
+    err_by (λ until. BeginsRunsBehind until (view c.args.document.now) c.args.mark.now c.args.plan.now c.args.shard c.args.kept (standing c.args.count c.args.started.now)
     (held c.args.table.now) (held c.write_rest.new.table))
     _ _ c.write_rest.result (sym c.until.ensures.same ∙ c.in-None.is) c.write_rest.ensures.part (rest_begun _ _ _ _ _ _ _ _)

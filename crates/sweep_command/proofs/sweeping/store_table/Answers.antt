@@ -4,6 +4,7 @@ use Rattle.toml.specs.View.{view}
 use Rattle.scenario_files.proofs.Held.{each_ok, told_done, told_failed, each_err_with}
 use Rattle.sweep_output.proofs.Counted.{one_closed}
 use Rattle.sweep_command.proofs.Refused.{is_caused}
+use Rattle.sweep_command.specs.Runs.{standing}
 use Rattle.sweep_command.proofs.Tables.{stood_few, table_begun, table_stored}
 use Rattle.sweep_command.proofs.sweeping.store_table.Goals as goal
 
@@ -11,7 +12,8 @@ pub fill_table-made-requires-clause-few : goal.fill_table-made-requires-clause-f
 fill_table-made-requires-clause-few g c _ _ =
     let words = c.args.words.now in
     let marked = c.args.prepared.now.marked in
-    stood_few (view marked.document) (string_bytes marked.mark) words (g.F.Files.known c.args.files.now words.table.now) c.args.stood.kept c.args.stood.count c.requires.stood
+    stood_few (view marked.document) (string_bytes marked.mark) words (g.F.Files.known c.args.files.now words.table.now) c.args.stood.now.kept (standing c.args.stood.now.count c.args.stood.now.started.items)
+    c.requires.asked c.requires.stood
 
 pub returns-clause-done : goal.returns-clause-done
 returns-clause-done g c =

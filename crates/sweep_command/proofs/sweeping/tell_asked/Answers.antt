@@ -1,11 +1,16 @@
 -- what is asked for is the shard, where one is named, and else the whole
 use Rattle.std.proofs.Common.{string_bytes, subst}
+use Rattle.toml.specs.View.{view}
 use Rattle.sweep_command.specs.Outcomes.{FitResumed}
+use Rattle.sweep_command.specs.Runs.{standing}
 use Rattle.sweep_command.proofs.Tables.{shard_begun, shard_told, whole_begun, whole_told}
 use Rattle.sweep_command.proofs.sweeping.tell_asked.Goals as goal
 
 pub tell_shard-requires-clause-few : goal.tell_shard-requires-clause-few
-tell_shard-requires-clause-few g c _ _ = subst (λ p. FitResumed c.args.words.now p c.args.stood.count) c.in-Some.is c.requires.few
+tell_shard-requires-clause-few g c _ _ =
+    let marked = c.args.prepared.now.marked in
+    let stood = c.args.stood.now in
+    subst (λ p. FitResumed (view marked.document) (string_bytes marked.mark) c.args.words.now p stood.kept (standing stood.count stood.started.items)) c.in-Some.is c.requires.few
 
 pub returns-in-Some-clause-whole : goal.returns-in-Some-clause-whole
 returns-in-Some-clause-whole g c =

@@ -1,4 +1,4 @@
-use Rattle.std.proofs.Common.{◌∙◌, ◌+◌, refl, subst, arith, rules}
+use Rattle.std.proofs.Common.{◌∙◌, ◌+◌, ◌++◌, refl, subst, arith, rules}
 use Rattle.std.specs.List.{AllZip}
 use Rattle.toml.specs.View.{view}
 use Rattle.sweep_plan.specs.Sweep.{run_count}
@@ -8,6 +8,7 @@ use Rattle.sweep.proofs.Numbers.{is_next, none_left}
 use Rattle.sweep.proofs.Sharing.{within_all}
 use Rattle.sweep.proofs.Steps.{cause_fails_none, cause_handed, line_part, line_whole}
 use Rattle.sweep_until.specs.Kept.{AreKept}
+use Rattle.sweep_until.proofs.Counted.{kept_behind}
 use Rattle.sweep_until.proofs.Wide.{begins_next, begins_so, ended_before, goes_next, goes_on, up_till}
 use Rattle.sweep_until.proofs.lots.make_lot.Goals as goal
 
@@ -21,21 +22,21 @@ loop-made-init g c =
       low = omega arith;
       within = omega (arith, c.requires.some);
       left = subst (λ l. AllZip R l c.into_iter-made-iterator.result.rest.items) c.requires.shared.whole (search rules);
-      goes = λ course keyed goes. goes;
+      goes = λ before course keyed goes. goes;
       same = refl;
     }
 
 pub returns-in_err-lot-clause-part : goal.returns-in_err-lot-clause-part
 returns-in_err-lot-clause-part g c =
     on_err c.from_residual.result
-    (λ course keyed high goes. begins_so (view c.args.document.now) c.args.plan.now c.args.width course (g.S.Sink.held c.args.table.now) c.args.runs.now c.args.from
+    (λ before course keyed high goes. begins_so (view c.args.document.now) c.args.plan.now c.args.width before course (g.S.Sink.held c.args.table.now) c.args.runs.now c.args.from
     (omega (arith, high, c.requires.some)) goes.gone)
 
 pub returns-in_err-run-clause-part : goal.returns-in_err-run-clause-part
 returns-in_err-run-clause-part g c =
     on_err c.from_residual-in_err-run.result
-    (λ course keyed high before. begins_so (view c.args.document.now) c.args.plan.now c.args.width course (g.S.Sink.held c.loop-made.table) c.loop-made.runs c.loop-made.past
-    (omega (arith, high, c.loop-made.invariant.within)) (c.loop-made.invariant.goes course keyed before).gone)
+    (λ before course keyed high goes. begins_so (view c.args.document.now) c.args.plan.now c.args.width before course (g.S.Sink.held c.loop-made.table) c.loop-made.runs c.loop-made.past
+    (omega (arith, high, c.loop-made.invariant.within)) (c.loop-made.invariant.goes before course keyed goes).gone)
 
 pub returns-in_err-run-clause-causes : goal.returns-in_err-run-clause-causes
 returns-in_err-run-clause-causes g c =
@@ -69,9 +70,9 @@ returns-in_err-write_line-clause-part g c =
     let new = g.S.Sink.held c.write_line.new.table in
     let next = is_next R number till c.in-Some.made c.next.new.self.rest.items _ c.in-Some.ensures.steps.0 c.loop-made.invariant.left in
     let is : IsMadeRun tree plan c.args.key.now number c.in_ok-run.run' = subst (R number) c.in_ok-run.was next.here in
-    on_err c.from_residual-in_err-write_line.result (λ course keyed high before.
-    let goes = c.loop-made.invariant.goes course keyed before in
-    begins_next tree plan c.the_run_is_one.ensures c.requires.judged c.args.width course mid new c.loop-made.runs number
+    on_err c.from_residual-in_err-write_line.result (λ before course keyed high begun.
+    let goes = c.loop-made.invariant.goes before course keyed begun in
+    begins_next tree plan c.the_run_is_one.ensures c.requires.judged c.args.width before course mid new c.loop-made.runs number
     (omega (arith, next.low, c.requires.within)) (omega (arith, high, next.low)) goes
     (line_part tree plan c.args.key.now number c.in_ok-run.run' is (up_till course (number + 1)) keyed mid new (omega arith) c.in_err-write_line.ensures.part
     (ended_before tree plan course mid _ number (number + 1) goes.gone.come).lines))
@@ -85,7 +86,7 @@ loop-made-preserved g c =
     let number = c.loop-made.past in
     let mid = g.S.Sink.held c.loop-made.table in
     let new = g.S.Sink.held c.write_line.new.table in
-    let before = c.loop-made.runs in
+    let kept = c.loop-made.runs in
     let after = c.write_line.new.gathering in
     let next = is_next R number till c.in-Some.made c.next.new.self.rest.items _ c.in-Some.ensures.steps.0 c.loop-made.invariant.left in
     let is : IsMadeRun tree plan c.args.key.now number c.in_ok-run.run' = subst (R number) c.in_ok-run.was next.here in
@@ -93,17 +94,17 @@ loop-made-preserved g c =
       low = omega (arith, c.loop-made.invariant.low);
       within = omega (arith, next.low);
       left = next.rest;
-      goes = λ course keyed begun.
-          let goes = c.loop-made.invariant.goes course keyed begun in
-          let come = line_whole tree plan c.args.key.now number c.in_ok-run.run' is course keyed mid new (λ notes. AreKept notes before) (λ notes. AreKept notes after) c.in_ok-write_line.ensures.whole
-          (λ notes kept. c.in_ok-write_line.ensures.gathered 0 notes kept) goes.gone.come in
-          goes_on tree plan c.args.width course new after (number + 1) c.is_narrow.result c.is_narrow.ensures c.if-is_narrow.false
-          (goes_next tree plan c.the_run_is_one.ensures c.requires.judged c.args.width course mid new before after number (omega (arith, next.low, c.requires.within)) goes come);
+      goes = λ before course keyed begun.
+          let goes = c.loop-made.invariant.goes before course keyed begun in
+          let come = line_whole tree plan c.args.key.now number c.in_ok-run.run' is course keyed mid new (λ notes. AreKept (before ++ notes) kept) (λ notes. AreKept (before ++ notes) after)
+          c.in_ok-write_line.ensures.whole (kept_behind kept after c.in_ok-run.run'.note before (c.in_ok-write_line.ensures.gathered 0)) goes.gone.come in
+          goes_on tree plan c.args.width before course new after (number + 1) c.is_narrow.result c.is_narrow.ensures c.if-is_narrow.false
+          (goes_next tree plan c.the_run_is_one.ensures c.requires.judged c.args.width before course mid new kept after number (omega (arith, next.low, c.requires.within)) goes come);
       same = search rules;
     }
 
 pub returns-then-is_narrow-clause-whole : goal.returns-then-is_narrow-clause-whole
-returns-then-is_narrow-clause-whole g c = λ course keyed begun.
+returns-then-is_narrow-clause-whole g c = λ before course keyed begun.
     let tree = view c.args.document.now in
     let plan = c.args.plan.now in
     let R = IsMadeOf tree plan c.args.key.now in
@@ -111,14 +112,14 @@ returns-then-is_narrow-clause-whole g c = λ course keyed begun.
     let number = c.loop-made.past in
     let mid = g.S.Sink.held c.loop-made.table in
     let new = g.S.Sink.held c.write_line.new.table in
-    let before = c.loop-made.runs in
+    let kept = c.loop-made.runs in
     let after = c.write_line.new.gathering in
     let next = is_next R number till c.in-Some.made c.next.new.self.rest.items _ c.in-Some.ensures.steps.0 c.loop-made.invariant.left in
     let is : IsMadeRun tree plan c.args.key.now number c.in_ok-run.run' = subst (R number) c.in_ok-run.was next.here in
-    let goes = c.loop-made.invariant.goes course keyed begun in
-    goes_next tree plan c.the_run_is_one.ensures c.requires.judged c.args.width course mid new before after number (omega (arith, next.low, c.requires.within)) goes
-    (line_whole tree plan c.args.key.now number c.in_ok-run.run' is course keyed mid new (λ notes. AreKept notes before) (λ notes. AreKept notes after) c.in_ok-write_line.ensures.whole
-    (λ notes kept. c.in_ok-write_line.ensures.gathered 0 notes kept) goes.gone.come)
+    let goes = c.loop-made.invariant.goes before course keyed begun in
+    goes_next tree plan c.the_run_is_one.ensures c.requires.judged c.args.width before course mid new kept after number (omega (arith, next.low, c.requires.within)) goes
+    (line_whole tree plan c.args.key.now number c.in_ok-run.run' is course keyed mid new (λ notes. AreKept (before ++ notes) kept) (λ notes. AreKept (before ++ notes) after)
+    c.in_ok-write_line.ensures.whole (kept_behind kept after c.in_ok-run.run'.note before (c.in_ok-write_line.ensures.gathered 0)) goes.gone.come)
 
 pub returns-then-is_narrow-clause-bounded : goal.returns-then-is_narrow-clause-bounded
 returns-then-is_narrow-clause-bounded g c =
@@ -129,7 +130,7 @@ returns-then-is_narrow-clause-bounded g c =
     omega (arith, next.low)
 
 pub returns-clause-whole : goal.returns-clause-whole
-returns-clause-whole g c = λ course keyed before. (c.loop-made.invariant.goes course keyed before).gone
+returns-clause-whole g c = λ before course keyed goes. (c.loop-made.invariant.goes before course keyed goes).gone
 
 pub returns-clause-further : goal.returns-clause-further
 returns-clause-further g c =

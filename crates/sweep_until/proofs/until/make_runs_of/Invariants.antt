@@ -1,5 +1,6 @@
-use Rattle.std.proofs.Common.{◌≡◌, ◌-◌, ◌≤◌}
+use Rattle.std.proofs.Common.{◌≡◌, ◌-◌, ◌≤◌, List}
 use Rattle.toml.specs.View.{view}
+use Rattle.figures.specs.Notes.{Note}
 use Rattle.sweep.specs.Table.{Course}
 use Rattle.sweep_until.specs.Until.{GoesOn}
 use Rattle.sweep_until.proofs.until.make_runs_of.Given as goal
@@ -9,8 +10,8 @@ abbrev pub invariant-loop-next : goal.invariant-loop-next
 invariant-loop-next g l = record {
   low : l.first ≤ l.next;
   within : l.next ≤ l.past;
-  goes : (course : Course) → course.key ≡ l.key → GoesOn (view l.document) l.plan l.width course (g.S.Sink.held l.fn.table) l.fn.runs l.first
-      → GoesOn (view l.document) l.plan l.width course (g.S.Sink.held l.table) l.runs l.next;
+  goes : (before : List Note) (course : Course) → course.key ≡ l.key → GoesOn (view l.document) l.plan l.width before course (g.S.Sink.held l.fn.table) l.fn.runs l.first
+      → GoesOn (view l.document) l.plan l.width before course (g.S.Sink.held l.table) l.runs l.next;
   same : g.S.Sink.failed l.table ≡ g.S.Sink.failed l.fn.table;
 }
 
