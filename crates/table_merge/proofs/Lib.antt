@@ -6,3 +6,4 @@ pub mod Reading
 pub mod Puts
 pub mod Whole
 pub mod Genuine
+pub mod Parts

@@ -239,21 +239,21 @@ turn_mapped {X = X} f settings tables =
 -- ---- two kinds of things of the same tables
 
 module _ {X Y : Type 0} (R : X → Y → Type 0) where
-  zipped_take : (n : ℕ) (xs : List X) (ys : List Y) → AllZip R xs ys → AllZip R (take n xs) (take n ys)
+  pub zipped_take : (n : ℕ) (xs : List X) (ys : List Y) → AllZip R xs ys → AllZip R (take n xs) (take n ys)
   zipped_take zero xs ys all = tt
   zipped_take (suc n) [] [] all = tt
   zipped_take (suc n) [] (y ∷ ys) all = absurd all
   zipped_take (suc n) (x ∷ xs) [] all = absurd all
   zipped_take (suc n) (x ∷ xs) (y ∷ ys) all = (all.0, zipped_take n xs ys all.1)
 
-  zipped_drop : (n : ℕ) (xs : List X) (ys : List Y) → AllZip R xs ys → AllZip R (drop n xs) (drop n ys)
+  pub zipped_drop : (n : ℕ) (xs : List X) (ys : List Y) → AllZip R xs ys → AllZip R (drop n xs) (drop n ys)
   zipped_drop zero xs ys all = all
   zipped_drop (suc n) [] [] all = tt
   zipped_drop (suc n) [] (y ∷ ys) all = absurd all
   zipped_drop (suc n) (x ∷ xs) [] all = absurd all
   zipped_drop (suc n) (x ∷ xs) (y ∷ ys) all = zipped_drop n xs ys all.1
 
-  zipped_append : (xs zs : List X) (ys ws : List Y) → AllZip R xs ys → AllZip R zs ws → AllZip R (xs ++ zs) (ys ++ ws)
+  pub zipped_append : (xs zs : List X) (ys ws : List Y) → AllZip R xs ys → AllZip R zs ws → AllZip R (xs ++ zs) (ys ++ ws)
   zipped_append [] zs [] ws a b = b
   zipped_append [] zs (y ∷ ys) ws a b = absurd a
   zipped_append (x ∷ xs) zs [] ws a b = absurd a
