@@ -25,53 +25,38 @@ import tempfile
 import time
 from pathlib import Path
 
-TOP = Path(__file__).resolve().parent.parent
-BUILT = TOP / 'crates' / 'swimsim' / 'out' / 'swimsim'
-sys.path.append(str(TOP / 'tests' / 'model'))
+TESTS = Path(__file__).resolve().parent.parent / 'tests'
+sys.path += [str(TESTS / folder) for folder in ('model', 'harness')]
 
 import model  # noqa: E402
+from harness import BUILT, TOP  # noqa: E402
 from scenarios import NEWEST, document_of, judge  # noqa: E402
+from tables import head, item, table  # noqa: E402
 
-# every member pings one other each second; both clusters have it
-COMMON = '''version = 1
-seed = 1
-end = {end}
-[swim]
-period = 1000
-timeout = 300
-spread = 1000
-[[group]]
-name = "n"
-count = {count}
-'''
-
-QUIET_LINK = '''[link]
-delay = 1
-jitter = 4
-'''
-
+QUIET_LINK = table('link', delay=1, jitter=4)
 # two of a hundred messages are lost, and they take up to 40 ms
-BUSY_LINK = '''[link]
-delay = 10
-jitter = 30
-loss = 20000
-'''
+BUSY_LINK = table('link', delay=10, jitter=30, loss=20000)
+
+
+def cluster(members, end, version=1, period=1000, timeout=300):
+    """One group, in which every member pings one other each period."""
+    return head(end, version, period=period, timeout=timeout, spread=period) + item('group', name='n', count=members)
 
 
 def quiet_cluster(members, end):
     """Nothing goes wrong, so no update rides on any message."""
-    return COMMON.format(end=end, count=members) + QUIET_LINK
+    return cluster(members, end) + QUIET_LINK
 
 
 def busy_cluster(members, end):
     """One member of 32 joins later, one of 32 crashes, and one of 16 is slow for a third of the time."""
     joining = members // 32
-    text = COMMON.format(end=end, count=members - joining) + BUSY_LINK
-    text += f'[[group]]\nname = "j"\ncount = {joining}\nstart = {end // 5}\ncontact = "n-0"\n'
+    text = cluster(members - joining, end) + BUSY_LINK
+    text += item('group', name='j', count=joining, start=end // 5, contact='n-0')
     for index in range(1, members - joining, 32):
-        text += f'[[crash]]\nmember = "n-{index}"\nat = {end // 4}\n'
+        text += item('crash', member=f'n-{index}', at=end // 4)
     for index in range(2, members - joining, 16):
-        text += f'[[slow]]\nmember = "n-{index}"\nfrom = {end // 3}\nuntil = {2 * end // 3}\nextra = 400\n'
+        text += item('slow', member=f'n-{index}', from_=end // 3, until=2 * end // 3, extra=400)
     return text
 
 

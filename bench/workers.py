@@ -26,7 +26,7 @@ import tempfile
 from contextlib import nullcontext
 from pathlib import Path
 
-from run import BUILT, COMMON, TOP, busy_cluster, measure, quiet_cluster
+from run import BUILT, TOP, busy_cluster, cluster, item, measure, quiet_cluster, table
 from surroundings import NoGroup, busy_loops, on_one_processor, quota
 
 EXAMPLES = TOP / 'examples'
@@ -39,13 +39,12 @@ LOOPS_BESIDE_ONE_PROCESSOR = 4
 
 def sites(members, end):
     """Four sites: a message takes a tick inside, a hundred from site to site."""
-    text = COMMON.format(end=end, count=members // 4).replace('version = 1', 'version = 2')
-    text += '[link]\ndelay = 100\njitter = 1\n'
+    text = cluster(members // 4, end, version=2) + table('link', delay=100, jitter=1)
     for name in 'xyz':
-        text += f'[[group]]\nname = "{name}"\ncount = {members // 4}\n'
+        text += item('group', name=name, count=members // 4)
     for place, name in enumerate('nxyz'):
-        text += f'[[path]]\nfrom = "{name}"\nto = "{name}"\ndelay = 1\n'
-        text += f'[[crash]]\nmember = "{name}-{place + 1}"\nat = {end // 8 * (place + 1)}\n'
+        text += item('path', from_=name, to=name, delay=1)
+        text += item('crash', member=f'{name}-{place + 1}', at=end // 8 * (place + 1))
     return text
 
 
@@ -55,8 +54,7 @@ def large(text):
 
 def window_a_tick(end):
     """64 members, of whom one pings in each tick."""
-    text = COMMON.format(end=end, count=64).replace('period = 1000', 'period = 64')
-    return text.replace('timeout = 300', 'timeout = 16').replace('spread = 1000', 'spread = 64') + '[link]\ndelay = 1\n'
+    return cluster(64, end, period=64, timeout=16) + table('link', delay=1)
 
 
 def dealt(members, parts):

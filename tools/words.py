@@ -2,7 +2,7 @@
 
 The last section of docs/GLOSSARY.md has a table of them: a row has the retired words with commas between them, what to write
 in their place, and where they may still stand. That is a document's name, `help` for what the program prints of its
-words and its manual's page, or `names` for public names of crates. Words in backquotes and in blocks of code are those of formats and count for
+words and its manual's page, `pages` for pages and messages, or `names` for public names of crates. Words in backquotes and in blocks of code are those of formats and count for
 nothing, nor do names of files.
 """
 
@@ -21,6 +21,10 @@ DOCUMENTS = ['README.md', 'CHANGELOG.md',
 MANUAL = 'man/swimsim.1'
 # the crates whose texts are what --help prints
 OF_HELP = ('arguments', 'command_line')
+# the crates whose texts stand on pages, in messages and in what explain prints
+OF_PAGES = ('drawing', 'series', 'member_timelines', 'run_settings', 'run_summary', 'run_spread', 'false_deaths', 'run_page',
+            'sweep_cells', 'sweep_keys', 'sweep_times', 'sweep_page', 'sweep_output', 'goals', 'advice', 'item_reasons',
+            'word_reasons', 'reasons', 'diagnostic_text', 'meaning_text', 'warnings')
 
 # a row of the table: the words, what to write, where they may still stand, and the pattern of the words
 Retired = namedtuple('Retired', 'words instead still pattern')
@@ -31,6 +35,8 @@ FENCE = re.compile(r'^```.*?^```', re.M | re.S)
 CODE = re.compile(r'`[^`]*`')
 PUBLIC = re.compile(r'^\s*pub (?:fn|struct|enum|trait) (\w+)', re.M)
 STRING = re.compile(r'"((?:[^"\\]|\\.)*)"')
+# what is no word in a text: markup, and what is put in its place
+MARKUP = re.compile(r'<[^<>]*>|\{[^{}]*\}')
 
 
 def pattern_of(words):
@@ -65,9 +71,21 @@ def texts():
         for path in sorted((CRATES / crate / 'src').rglob('*.rt')):
             code = ('' if line.lstrip().startswith(('//', 'ghost ')) else line for line in path.read_text().splitlines())
             yield 'help', str(path.relative_to(TOP)), '\n'.join(' ; '.join(STRING.findall(line)) for line in code)
+    for crate in OF_PAGES:
+        for path in sorted((CRATES / crate / 'src').rglob('*.rt')):
+            if not path.stem.endswith('tests'):
+                yield 'pages', str(path.relative_to(TOP)), '\n'.join(map(sentences, path.read_text().splitlines()))
     for path in sorted(CRATES.glob('*/src/**/*.rt')):
         names = (PUBLIC.match(line) for line in path.read_text().splitlines())
         yield 'names', str(path.relative_to(TOP)), '\n'.join(spaced(name[1]) if name else '' for name in names)
+
+
+def sentences(line):
+    """The texts of several words in a line of code, without markup."""
+    if line.lstrip().startswith(('//', 'ghost ')):
+        return ''
+    texts = (MARKUP.sub(' * ', text) for text in STRING.findall(line))
+    return ' ; '.join(text for text in texts if ' ' in text.strip(' *'))
 
 
 def spaced(name):

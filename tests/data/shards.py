@@ -108,6 +108,11 @@ def expect_refused(program, wanted):
         expect('table', program.held('t.csv'), b'an older table\n')
 
 
+def beside_the_first(line, *names):
+    """The first piece joined with each of these tables, of which this line is reported."""
+    return [(['1.csv', f'{name}.csv'], f'piece {name}.csv {line}') for name in names]
+
+
 def check_refused(program, sweep):
     """Joins what isn't the pieces of one sweep: each is told by its line, and the table stays as it was."""
     options, _ = keep_halves(program, sweep)
@@ -123,13 +128,9 @@ def check_refused(program, sweep):
     expect_refused(program, [
         (['1.csv'], 'piece 2 missing'),
         (['2.csv', '2.csv'], 'piece 2.csv twice'),
-        (['1.csv', 'torn.csv'], 'piece torn.csv torn'),
-        (['1.csv', 'short.csv'], 'piece short.csv torn'),
-        (['1.csv', 'swapped.csv'], 'piece swapped.csv torn'),
-        (['1.csv', 'doubled.csv'], 'piece doubled.csv torn'),
-        (['1.csv', 'mixed.csv'], 'piece mixed.csv torn'),
-        (['1.csv', 'older.csv'], f'piece older.csv {OLDER}'),
-        (['1.csv', 'other.csv'], 'piece other.csv of another sweep'),
+        *beside_the_first('torn', 'torn', 'short', 'swapped', 'doubled', 'mixed'),
+        *beside_the_first(OLDER, 'older'),
+        *beside_the_first('of another sweep', 'other'),
         (['1.csv', 's.toml'], 'no piece s.toml'),
         (['all.csv', 'all.csv'], 'piece all.csv twice'),
         (['all.csv', '1.csv', '2.csv'], 'piece 1.csv of another sweep'),
@@ -154,14 +155,9 @@ def check_widths_refused(program, sweep):
     expect_refused(program, [
         (['1.csv'], 'piece 2 missing'),
         (['2.csv', '1.csv', '2.csv'], 'piece 2.csv twice'),
-        (['1.csv', 'torn.csv'], 'piece torn.csv torn'),
         (['short.csv', '1.csv'], 'piece short.csv torn'),
-        (['1.csv', 'long.csv'], 'piece long.csv torn'),
-        (['1.csv', 'more.csv'], 'piece more.csv torn'),
-        (['1.csv', 'none.csv'], 'piece none.csv torn'),
-        (['1.csv', 'wider.csv'], 'piece wider.csv of another sweep'),
-        (['1.csv', 'whole.csv'], 'piece whole.csv of another sweep'),
-        (['1.csv', 'widest.csv'], 'piece widest.csv of another sweep'),
+        *beside_the_first('torn', 'torn', 'long', 'more', 'none'),
+        *beside_the_first('of another sweep', 'wider', 'whole', 'widest'),
         (['widest.csv'], 'no piece widest.csv'),
     ])
 

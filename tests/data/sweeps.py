@@ -11,6 +11,7 @@ from model_sweep_times import spread_of
 from model_sweeps import Together, answer_text, cases_of, cases_text, swept, table_of
 from program import Case, DATA, Wrong, expect, expect_ran
 from scenarios import document_of
+from tables import head, item, table
 from worked import text_of
 
 FOLDER = DATA / 'sweeps'
@@ -18,18 +19,7 @@ FOLDER = DATA / 'sweeps'
 NAME = '<b>\u202elmot.\u200b\x7f'
 # runs of 60 periods: with 2 members each is short, with LONG members each is more than a second of work as a sweep counts it
 LONG = 1024
-UNEVEN = '''version = 2
-seed = 1
-end = 60000
-[swim]
-period = 1000
-timeout = 500
-[link]
-delay = 10
-[[group]]
-name = "n"
-count = 2
-'''
+UNEVEN = head(60000, version=2, timeout=500) + table('link', delay=10) + item('group', name='n', count=2)
 WORKERS = ([], ['--workers', '1'], ['--workers', '2'], ['--workers', '3'], ['--workers', '64'])
 
 

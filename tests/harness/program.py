@@ -7,22 +7,12 @@ from collections import namedtuple
 from pathlib import Path
 
 from harness import TESTS, call
+from tables import head, item, table
 
 DATA = TESTS / 'data'
 
 # two members, three ticks
-TWO_MEMBERS = '''version = 1
-seed = 7
-end = 3
-[swim]
-period = 1000
-timeout = 300
-[link]
-delay = 1
-[[group]]
-name = "n"
-count = 2
-'''
+TWO_MEMBERS = head(3, seed=7) + table('link', delay=1) + item('group', name='n', count=2)
 
 # a case: what it is called, the function that makes it, and what that takes beside the program
 Case = namedtuple('Case', 'name check arguments')

@@ -35,53 +35,16 @@ from pathlib import Path
 
 import paths  # noqa: F401 (puts the folders of what follows on the path)
 from harness import call, end, first_line, parser_of, program_at
-from hasty import HASTY, LONG, far
+from hasty import LONG, far, hasty
 from stand_in import NO_COMPILER, StandIn
+from tables import head, item, table
 
-SCENARIO = '''version = 1
-seed = 5
-end = 12000
-[swim]
-period = 1000
-timeout = 300
-[link]
-delay = 10
-jitter = 5
-loss = 50000
-[[group]]
-name = "n"
-count = 4
-[[group]]
-name = "j"
-count = 1
-start = 500
-contact = "n-0"
-[[crash]]
-member = "n-3"
-at = 2500
-[[slow]]
-member = "n-1"
-from = 3000
-until = 6000
-extra = 1200
-'''
+SCENARIO = (head(12000, seed=5) + table('link', delay=10, jitter=5, loss=50000)
+            + item('group', name='n', count=4) + item('group', name='j', count=1, start=500, contact='n-0')
+            + item('crash', member='n-3', at=2500) + item('slow', member='n-1', from_=3000, until=6000, extra=1200))
 
 # two sites so far apart that each has windows of its own that are long enough for a thread
-FAR = HASTY.format(end=4000) + '''[[group]]
-name = "n"
-count = 32
-[[group]]
-name = "m"
-count = 32
-[[path]]
-from = "n"
-to = "m"
-delay = 1000
-[[path]]
-from = "m"
-to = "n"
-delay = 1000
-'''
+FAR = hasty(4000, ('n', 32), ('m', 32)) + ''.join(item('path', from_=one, to=other, delay=1000) for one, other in ('nm', 'mn'))
 
 MEMORY = b'swimsim: memory\n'
 NO_MEMORY = b'swimsim: run F1\n'
@@ -166,23 +129,36 @@ def ended(words, folder, wanted, older=None):
     return whole
 
 
-def refuse_each(words, stand_in, what='', numbers=None, older=None, kind='a', **names):
-    """Refuses each allocation of the program or what else is of the kind, or those of these numbers; answers how many went
-    well and how many wrong."""
-    told = words[1] + what
-    whole, spared, well, wrong = ended(words, stand_in.folder, (0, b''), older), 0, 0, 0
-    for number, left in refused(words, stand_in, kind, numbers or itertools.count(1), older, **names):
-        spared += left == whole
-        if left == whole or is_refusal(left, whole, older):
+def judged(refusals, whole, is_well, about):
+    """How many refusals the program could do without, how many it answered well, and how many wrong, which are printed."""
+    spared = well = wrong = 0
+    for number, left in refusals:
+        if left == whole:
+            spared += 1
+        elif is_well(left):
             well += 1
         else:
             wrong += 1
-            print(f'{told}, {KINDS[kind]} {number}: status {left[0]}, {left[2]!r}')
+            print(f'{about} {number}: status {left[0]}, {left[2]!r}')
         if wrong == MANY:
-            print(f'{told}: no more are tried')
+            print(f'{about}: no more are tried')
             break
-    print(f'{told}: {well + wrong} times {KINDS[kind]} refused in turn; {spared} could be done without')
-    return well, wrong
+    return spared, well, wrong
+
+
+def is_fault(left, line):
+    """Whether a run ended with status 5 and this line, and left its files empty."""
+    return left[:3] == (5, b'', line) and not any(left[3:])
+
+
+def refuse_each(words, stand_in, what='', numbers=None, older=None, kind='a', **names):
+    """Refuses each allocation of the program or what else is of the kind, or those of these numbers; answers how many went
+    well and how many wrong."""
+    told, whole = words[1] + what, ended(words, stand_in.folder, (0, b''), older)
+    refusals = refused(words, stand_in, kind, numbers or itertools.count(1), older, **names)
+    spared, well, wrong = judged(refusals, whole, lambda left: is_refusal(left, whole, older), f'{told}, {KINDS[kind]}')
+    print(f'{told}: {spared + well + wrong} times {KINDS[kind]} refused in turn; {spared} could be done without')
+    return spared + well, wrong
 
 
 def refuse_among_several(program, stand_in):
@@ -203,15 +179,9 @@ def refuse_among_several(program, stand_in):
 def refuse_starts(words, stand_in, least):
     """Refuses the start of each thread, of which the run needs so many at least; answers how many went well and how
     many wrong. A sort of many rows starts threads too, and does without them."""
-    whole, needed, spared, wrong = ended(words, stand_in.folder, (0, b'')), 0, 0, 0
-    for number, left in refused(words, stand_in, 's', itertools.count(1), **stand_in.processors(3)):
-        if left[:3] == (5, b'', NOT_STARTED) and not any(left[3:]):
-            needed += 1
-        elif left == whole:
-            spared += 1
-        else:
-            wrong += 1
-            print(f'{words[1]}, thread {number}: status {left[0]}, {left[2]!r}')
+    whole = ended(words, stand_in.folder, (0, b''))
+    refusals = refused(words, stand_in, 's', itertools.count(1), **stand_in.processors(3))
+    spared, needed, wrong = judged(refusals, whole, lambda left: is_fault(left, NOT_STARTED), f'{words[1]}, thread')
     if needed < least:
         print(f'{words[1]}: fewer than {least} threads are needed')
         wrong += 1
@@ -221,20 +191,15 @@ def refuse_starts(words, stand_in, least):
 
 def refuse_after_write(words, stand_in):
     """Refuses allocations that come after a write has failed; answers how many went well and how many wrong."""
-    whole, spared, well, wrong = ended(words, stand_in.folder, (5, NOT_WRITTEN)), 0, 0, 0
+    whole = ended(words, stand_in.folder, (5, NOT_WRITTEN))
     numbers = itertools.chain(range(1, NEXT), itertools.count(NEXT, 100))
-    for number, left in refused(words, stand_in, 'w', numbers, **stand_in.processors(3)):
-        spared += left == whole
-        if left == whole or (left[:3] == (5, b'', NO_MEMORY) and not any(left[3:])):
-            well += 1
-        else:
-            wrong += 1
-            print(f'{words[1]}, allocation {number} after a failed write: status {left[0]}, {left[2]!r}')
-    if well == spared:
-        print(f'{words[1]}: no memory that was refused after a failed write was told')
+    refusals, about = refused(words, stand_in, 'w', numbers, **stand_in.processors(3)), f'{words[1]}, after a failed write allocation'
+    spared, well, wrong = judged(refusals, whole, lambda left: is_fault(left, NO_MEMORY), about)
+    if not well:
+        print(f'{words[1]}: no memory that was refused after a failed write was reported')
         wrong += 1
-    print(f'{words[1]}: {well + wrong} allocations after a failed write refused in turn; {spared} could be done without')
-    return well, wrong
+    print(f'{words[1]}: {spared + well + wrong} allocations after a failed write refused in turn; {spared} could be done without')
+    return spared + well, wrong
 
 
 def main():

@@ -3,28 +3,13 @@
 from model_links import Draws
 from model_text import rows_in
 from program import Case, Wrong, expect_ran
+from tables import head, item, table
 from worked import scenario_of
 
 SEEDS = range(64)
 
 # the words that PCG's C code publishes for seed 42 on stream 54
 PUBLISHED = (0xa15c02b7, 0x7b47f409, 0xba1d3330, 0x83d2f293, 0xbfa4784b, 0xcbed606e)
-
-TEXT = '''version = {version}
-seed = {seed}
-end = 1100
-[swim]
-period = 1000
-timeout = 300
-spread = {spread}
-[link]
-delay = 10
-jitter = {jitter}
-loss = {loss}
-[[group]]
-name = "n"
-count = 2
-{more}'''
 
 
 def first(rows, what, member):
@@ -51,7 +36,8 @@ def check(program, sent, spread, loss, jitter, more):
     on."""
     for seed in SEEDS:
         version = 2 if 'cut' in more else 1
-        text = TEXT.format(version=version, seed=seed, spread=spread, loss=loss, jitter=jitter, more=more)
+        text = (head(1100, version, seed, spread=spread) + table('link', delay=10, jitter=jitter, loss=loss)
+                + item('group', name='n', count=2) + more)
         program.keep('s.toml', text)
         ran = program.call(['run', 's.toml', '--trace', 't.csv'])
         rows = rows_in(scenario_of(text), (program.held('t.csv') or b'').decode())

@@ -98,12 +98,12 @@ def hostile(size):
     yield 'JSON', b' \n' * 100000 + b'[ {"seed": 1}]', b'the text is JSON', 20
     yield 'no UTF-8 at all', b'\xff\xfe\x00a', b'the byte 0xff', 20
     yield 'a byte 0', b'a = "\x00"\n', b'error[rule 1]', 20
-    yield 'an empty text', b'', b'1 mistake\n', 20
+    yield 'an empty text', b'', b'1 error\n', 20
     yield 'no last line feed', b'version', b'error[rule 1]', 20
-    yield '10,000 entries of 4,096 members', large + crashes, b'10000 mistakes, 9950 of them not shown', 10
+    yield '10,000 entries of 4,096 members', large + crashes, b'10000 errors, 9950 of them not shown', 10
     keys = b''.join(b'k%d = 1\n' % i for i in range(100000))
-    yield '100,000 unknown keys', HEAD + keys + GROUP, b'100000 mistakes', 20
-    yield 'a great comment', b'#' + b'x' * size + b'\n', b'1 mistake\n', 300
+    yield '100,000 unknown keys', HEAD + keys + GROUP, b'100000 errors', 20
+    yield 'a great comment', b'#' + b'x' * size + b'\n', b'1 error\n', 300
     yield 'great nonsense', b'\x7f' * size, b'error[rule 1]', 300
     yield 'a great list', HEAD + b'x = [' + b'1,' * (size // 2) + b']\n' + GROUP, b'unknown list `x`', 300
 

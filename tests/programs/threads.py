@@ -30,7 +30,7 @@ from sweeps import LONG, UNEVEN
 
 # a run of 1.3 million rows, whose text has 54 MB. A row takes at least 40 bytes of memory: they are 53 MB where all of
 # them wait there.
-MANY_ROWS = far(4, 64, 2_600_000, 100).replace('period = 100\ntimeout = 30', 'period = 1000\ntimeout = 300')
+MANY_ROWS = far(4, 64, 2_600_000, 100, period=1000, timeout=300)
 LEAST_ROWS, MOST_MEMORY = 1_300_000, 40_000_000
 
 # of a trace that is cut off: more rows come behind it than may be on the way

@@ -5,7 +5,7 @@ import threading
 from contextlib import contextmanager
 
 from harness import NOT_WRITTEN, call, first_line
-from hasty import far
+from hasty import far, hasty
 from program import Case, DATA, expect, expect_ran
 from worked import text_of
 
@@ -24,18 +24,7 @@ WAYS_OF_SITES = (['--workers', '2'], ['--workers', '3'], ['--workers', '5'])
 STEP = 32
 
 # a trace that is longer than what a pipe holds
-LONG = '''version = 1
-seed = 3
-end = 12000
-[swim]
-period = 100
-timeout = 30
-[link]
-delay = 2
-[[group]]
-name = "n"
-count = 64
-'''
+LONG = hasty(12000, ('n', 64))
 
 
 def of(name, ending):

@@ -6,9 +6,9 @@ swimsim simulates clusters of the SWIM membership protocol. Its commands:
 
   init     prints a scenario to begin with, with a comment on each key
   check    reads a scenario, and prints how many members it has
-  explain  tells what a scenario means, or all diagnostics of one that is refused
+  explain  prints what a scenario means, or all errors of one that is refused
   run      runs a scenario, and writes its trace
-  sweep    runs a scenario by many seeds and swept_keys, and writes a table
+  sweep    runs a scenario by many seeds and settings, and writes a table
   join     puts the shards of a sweep together
   page     makes a sweep's page of the shards of its table
 

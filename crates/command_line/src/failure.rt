@@ -142,7 +142,7 @@ fn write_swept_keys<W: fmt::Write>(f: &mut fmt::Formatter<W>, swept_keys: &str) 
     if swept_keys.is_empty() {
         return Ok(());
     }
-    write!(f, " with {settings}")
+    write!(f, " with {swept_keys}")
 }
 
 /// Writes why files aren't the shards of one sweep.

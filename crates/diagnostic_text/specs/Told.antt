@@ -40,9 +40,9 @@ AreBlocks (m ∷ ms) text = (words : List ℕ) × (rest : List ℕ) × (text ≡
 -- how many diagnostics there are, and how many of them aren't shown
 abbrev pub count_line : ℕ → List ℕ
 count_line count =
-    if count == 1 then codes "1 mistake\n"
-    else if nat_le count 50 then decimal count ++ codes " mistakes\n"
-    else decimal count ++ codes " mistakes, " ++ decimal (count - 50) ++ codes " of them not shown\n"
+    if count == 1 then codes "1 error\n"
+    else if nat_le count 50 then decimal count ++ codes " errors\n"
+    else decimal count ++ codes " errors, " ++ decimal (count - 50) ++ codes " of them not shown\n"
 
 -- the text has words on each diagnostic that is shown, and then tells how many there are
 pub record TellsLines (rule : ℕ) (text : List ℕ) : Type 0 where

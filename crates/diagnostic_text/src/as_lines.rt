@@ -63,13 +63,13 @@ fn push_count(lines: &mut String, count: usize) -> Result<(), AllocError>
     ensures { OnOk result (string_bytes lines.new ≡ string_bytes lines.old ++ count_line count) }
 {
     if count == 1 {
-        return lines.push_str("1 mistake\n");
+        return lines.push_str("1 error\n");
     }
     if count <= MOST {
-        return write!(lines, "{count} mistakes\n");
+        return write!(lines, "{count} errors\n");
     }
     let more = count - MOST;
-    write!(lines, "{count} mistakes, {more} of them not shown\n")
+    write!(lines, "{count} errors, {more} of them not shown\n")
 }
 
 /// The words on a diagnostic: what is wrong, where, the line, and what helps.

@@ -199,7 +199,7 @@ fn alias_note(context: &Context<'_>, home: Home, alias: Alias) -> Result<String,
     match alias {
         Alias::Key { .. } | Alias::Tables => String::from_str(
             context.alloc,
-            "docs/MEMBERLIST.md has memberlist's names beside these",
+            "docs/MEMBERLIST.md lists memberlist's names next to these",
         ),
         Alias::End | Alias::Until => keys_note(context, home, "has", false),
     }

@@ -6,12 +6,12 @@ use Rattle.reasons.specs.declared.runs.RunReason.TheVariants.{Rule, Setting, Mem
 
 -- what tells all mistakes of a file
 abbrev pub explain_text : List ℕ → List ℕ
-explain_text name = codes "for all mistakes and what mends them: swimsim explain " ++ shown_name name
+explain_text name = codes "for all errors and how to fix them: swimsim explain " ++ shown_name name
 
 -- the file is accepted without the values of a setting
 abbrev pub set_text : List ℕ → List ℕ
 set_text name = codes "without these values the scenario is accepted; write them into a copy of " ++ shown_name name
-    ++ codes ", and swimsim explain tells what is wrong"
+    ++ codes ", and swimsim explain prints what is wrong"
 
 -- what is wrong with the scenario or the run
 abbrev pub run_reason_text : RunReason → List ℕ

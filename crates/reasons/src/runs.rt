@@ -49,7 +49,7 @@ impl Display for RunReason<'_> {
 fn write_explain<W: Write>(f: &mut Formatter<W>, name: &str) -> fmt::Result
     ensures { WritesOnOk W.write_str_gives f.old result (explain_text name.now) f.new }
 {
-    f.write_str("for all mistakes and what mends them: swimsim explain ")?;
+    f.write_str("for all errors and how to fix them: swimsim explain ")?;
     write_name(f, name)
 }
 
@@ -59,5 +59,5 @@ fn write_set<W: Write>(f: &mut Formatter<W>, name: &str) -> fmt::Result
 {
     f.write_str("without these values the scenario is accepted; write them into a copy of ")?;
     write_name(f, name)?;
-    f.write_str(", and swimsim explain tells what is wrong")
+    f.write_str(", and swimsim explain prints what is wrong")
 }

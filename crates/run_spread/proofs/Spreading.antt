@@ -8,7 +8,7 @@ use Rattle.std.proofs.lemmas.List.Sums.{fold-append, sum_by_push, count_by-le-le
 use Rattle.scenario.specs.Setup.{Setup, member_count, name_of}
 use Rattle.trace.specs.declared.row.What.TheVariants as what
 use Rattle.trace.specs.declared.row.Row.{Row}
-use Rattle.figures.specs.Cases.{rank, at_rank}
+use Rattle.figures.specs.Settings.{rank, at_rank}
 use Rattle.series.specs.declared.spread.Spread.{Spread}
 use Rattle.series.specs.Watched.{watched, places}
 use Rattle.series.specs.Stories.{IsSpreadOf}

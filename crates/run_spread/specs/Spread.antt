@@ -7,7 +7,7 @@ use Rattle.scenario.specs.Setup.{Setup, member_count, name_of, leave_of}
 use Rattle.trace.specs.declared.row.What.{What}
 use Rattle.trace.specs.declared.row.What.TheVariants as what
 use Rattle.trace.specs.declared.row.Row.{Row}
-use Rattle.figures.specs.Cases.{rank, at_rank}
+use Rattle.figures.specs.Settings.{rank, at_rank}
 use Rattle.series.specs.Watched.{at_by, crashes, crashed, watched}
 use Rattle.series.specs.Stories.{heard}
 use Rattle.drawing.specs.Axes.{axis_up, axis_across}

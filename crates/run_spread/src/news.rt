@@ -4,7 +4,7 @@ ghost use Rattle.std.specs.Option.{is_some, option_to_list};
 ghost use Rattle.std.specs.Ordering.{nat_cmp};
 ghost use Rattle.std.specs.List.Sorted.{IsPermutation, IsSorted};
 ghost use Rattle.scenario.specs.Setup.{member_count};
-ghost use Rattle.figures.specs.Cases.{rank, at_rank};
+ghost use Rattle.figures.specs.Settings.{rank, at_rank};
 ghost use Rattle.series.specs.Watched.{at_by, crashes, crashed};
 ghost use Rattle.member_timelines.specs.Run.{IsTold};
 ghost use Rattle.run_spread.specs.Spread.{learned, stays, staying, time_of_one, times, last_learned, last_of, longest, reached, shares};

@@ -132,10 +132,10 @@ fn push_speed_words(text: &mut String) -> Result<(), AllocError>
     ensures { OnOk result (string_bytes text.new ≡ string_bytes text.old ++ speed_words) }
 {
     text.push_str(
-        "<p class=\"soft\">Each dot is a swept: the further left, the faster; the lower, the \
+        "<p class=\"soft\">Each dot is a setting: the further left, the faster; the lower, the \
          safer. Up: the share of runs with a false death, with its 95&nbsp;% interval as a bar. A \
          larger dot sends more messages. The numbered dots, joined by a line, are on the front: no \
-         other swept is as good in both and better in one.</p>",
+         other setting is as good in both and better in one.</p>",
     )
 }
 
@@ -145,9 +145,9 @@ fn push_messages_words(text: &mut String) -> Result<(), AllocError>
     ensures { OnOk result (string_bytes text.new ≡ string_bytes text.old ++ messages_words) }
 {
     text.push_str(
-        "<p class=\"soft\">Each dot is a swept: the further left, the fewer messages; the lower, \
+        "<p class=\"soft\">Each dot is a setting: the further left, the fewer messages; the lower, \
          the safer. Up: the share of runs with a false death, with its 95&nbsp;% interval as a bar. \
-         The numbered dots, joined by a line, are on the front: no other swept is as good in both \
+         The numbered dots, joined by a line, are on the front: no other setting is as good in both \
          and better in one.</p>",
     )
 }
@@ -257,10 +257,10 @@ fn plane_words(crashed: bool) -> &'static str
 {
     if crashed {
         "Across: the median time until a crash is first confirmed. Up: the share of runs with a \
-         false death. The table beneath has the swept_keys on the front."
+         false death. The table beneath has the settings on the front."
     } else {
         "Across: messages per member. Up: the share of runs with a false death. The table beneath \
-         has the swept_keys on the front."
+         has the settings on the front."
     }
 }
 
@@ -312,8 +312,8 @@ fn push_heads(text: &mut String) -> Result<(), AllocError>
 {
     text.push_str(
         "<details><summary>The front in numbers</summary><div class=\"wide\"><table>\
-         <caption>The swept_keys on the front</caption><thead><tr><th scope=\"col\">number</th>\
-         <th scope=\"col\">swept</th><th scope=\"col\">confirmed, median</th>\
+         <caption>The settings on the front</caption><thead><tr><th scope=\"col\">number</th>\
+         <th scope=\"col\">setting</th><th scope=\"col\">confirmed, median</th>\
          <th scope=\"col\">runs with a false death</th><th scope=\"col\">their share</th>\
          <th scope=\"col\">95&nbsp;% interval</th><th scope=\"col\">false deaths per run</th>\
          <th scope=\"col\">messages per member per 1,000 ticks</th></tr></thead><tbody>",

@@ -156,7 +156,7 @@ fn push_best(
 {
     push_markup(
         text,
-        "<p class=\"lead\">Yes. Of the swept_keys that are shown to meet all of this, the best \
+        "<p class=\"lead\">Yes. Of the settings that are shown to meet all of this, the best \
          is</p><ol class=\"answers\">",
     )?;
     push_item_at(alloc, text, plan, settings, crashed, place)?;
@@ -224,7 +224,7 @@ fn push_open(
 {
     push_markup(
         text,
-        "<p class=\"lead\">No swept is shown to meet all of this yet. These may; so many more runs \
+        "<p class=\"lead\">No setting is shown to meet all of this yet. These may; so many more runs \
          of each would decide, if its share of runs with a false death stays as it is:</p>\
          <ol class=\"answers\">",
     )?;

@@ -146,7 +146,7 @@ fn push_speed_opening(text: &mut String) -> Result<(), AllocError>
     ensures { OnOk result (string_bytes text.new ≡ string_bytes text.old ++ speed_opening) }
 {
     text.push_str(
-        "<p class=\"lead\">These swept_keys confirm half of their crashes, and no other swept beats \
+        "<p class=\"lead\">These settings confirm half of their crashes, and no other setting beats \
          them: none is at least as fast and at least as safe, and better in one of the two. The \
          further down, the slower and the safer.</p>",
     )
@@ -158,8 +158,8 @@ fn push_messages_opening(text: &mut String) -> Result<(), AllocError>
     ensures { OnOk result (string_bytes text.new ≡ string_bytes text.old ++ messages_opening) }
 {
     text.push_str(
-        "<p class=\"lead\">No run has a crash, so swept_keys are compared by their false deaths and \
-         their messages. No other swept beats these: none sends at most as many messages and is \
+        "<p class=\"lead\">No run has a crash, so settings are compared by their false deaths and \
+         their messages. No other setting beats these: none sends at most as many messages and is \
          at least as safe, and is better in one of the two. The further down, the more messages \
          and the safer.</p>",
     )

@@ -47,8 +47,8 @@ fn push_table_words(text: &mut String) -> Result<(), AllocError>
 {
     text.push_str(
         "<p class=\"soft\">Times are in ticks since the crash, over all crashes of all runs; a dash \
-         stands where too few crashes were detected. Starred swept_keys are on the front.</p>\
-         <div class=\"wide\"><table><caption>All swept_keys</caption><thead><tr>\
+         stands where too few crashes were detected. Starred settings are on the front.</p>\
+         <div class=\"wide\"><table><caption>All settings</caption><thead><tr>\
          <th scope=\"col\">number</th>",
     )
 }

@@ -32,7 +32,7 @@ fn push_heads(text: &mut String) -> Result<(), AllocError>
     text.push_str(
         "<details><summary>These times in numbers</summary><div class=\"wide\"><table>\
          <caption>How many crashes were first confirmed when</caption><thead><tr>\
-         <th scope=\"col\">swept</th><th scope=\"col\">ticks until first confirmed</th>\
+         <th scope=\"col\">setting</th><th scope=\"col\">ticks until first confirmed</th>\
          <th scope=\"col\">crashes</th></tr></thead><tbody>",
     )
 }

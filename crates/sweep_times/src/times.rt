@@ -73,7 +73,7 @@ fn push_words(text: &mut String) -> Result<(), AllocError>
     ensures { OnOk result (string_bytes text.new ≡ string_bytes text.old ++ times_words) }
 {
     text.push_str(
-        "<p class=\"soft\">For each of the fastest swept_keys on the front, at most 12: how many crashes of all its \
+        "<p class=\"soft\">For each of the fastest settings on the front, at most 12: how many crashes of all its \
          runs were first confirmed after how many ticks. A bar is as wide as the span of ticks that it counts, and all charts reach as \
          far as the latest of these times; the upright rule is the median.</p>",
     )

@@ -1,6 +1,6 @@
 use Rattle.std.proofs.Common.{◌≡◌, ◌+◌, ◌-◌, ◌<◌, length, ap, sym, ◌∙◌, arith}
 use Rattle.std.proofs.lemmas.List.Sorted.{length_permutation, IsNonDecreasingBy-from_sort}
-use Rattle.figures.specs.Cases.{at_rank}
+use Rattle.figures.specs.Settings.{at_rank}
 use Rattle.figures.proofs.RanksOfTimes.{time_of_rank, no_time_of_rank}
 use Rattle.run_spread.proofs.news.time_at.Goals as goal
 

@@ -1,5 +1,5 @@
 use Rattle.std.proofs.Common.{◌≡◌, ap, ◌∙◌, arith}
-use Rattle.figures.specs.Cases.{rank, at_rank}
+use Rattle.figures.specs.Settings.{rank, at_rank}
 use Rattle.run_spread.proofs.news.time_of_share.Goals as goal
 
 pub returns : goal.returns
