@@ -1,4 +1,5 @@
-"""Sweeps of tests/data/sweeps in pieces: each piece as the model gives it, and all of them joined as the whole."""
+"""Sweeps of tests/data/sweeps in pieces: each piece as the model gives it, and all of them joined as the whole; and tables
+of some of their seeds, joined."""
 
 import json
 import random
@@ -148,7 +149,7 @@ def check_refused(program, sweep):
         (['2.csv', '2.csv'], 'piece 2.csv twice'),
         *beside_the_first('torn', 'torn', 'short', 'swapped', 'doubled', 'mixed'),
         *beside_the_first(OLDER, 'older'),
-        *beside_the_first('of another sweep', 'other'),
+        (['1.csv', 'other.csv'], 'piece other.csv of another sweep'),
         (['1.csv', 's.toml'], 'no piece s.toml'),
         (['all.csv', 'all.csv'], 'piece all.csv twice'),
         (['all.csv', '1.csv', '2.csv'], 'piece 1.csv of another sweep'),
@@ -175,7 +176,9 @@ def check_widths_refused(program, sweep):
         (['2.csv', '1.csv', '2.csv'], 'piece 2.csv twice'),
         (['short.csv', '1.csv'], 'piece short.csv torn'),
         *beside_the_first('torn', 'torn', 'long', 'more', 'none'),
-        *beside_the_first('of another sweep', 'wider', 'whole', 'widest'),
+        (['1.csv', 'wider.csv'], 'piece wider.csv of another sweep'),
+        (['1.csv', 'whole.csv'], 'piece whole.csv of another sweep'),
+        *beside_the_first('of another sweep', 'widest'),
         (['widest.csv'], 'no piece widest.csv'),
     ])
 
@@ -210,6 +213,100 @@ def check_told(program, sweep, count):
         expect('older page', program.held('q.html'), b'an older page\n')
 
 
+def first_and_last(sweep):
+    """The first and the last seed of a sweep."""
+    first, _, last = sweep['seeds'].partition('..')
+    return int(first), int(last)
+
+
+def with_range(options, first, last):
+    """The options with these seeds in place of theirs."""
+    place = options.index('--seeds')
+    return [*options[:place + 1], f'{first}..{last}', *options[place + 2:]]
+
+
+def cut_seeds(sweep, count):
+    """Ranges that follow one another and have all seeds of a sweep, so many, or one for each seed."""
+    first, last = first_and_last(sweep)
+    all_seeds = last + 1 - first
+    count = min(count, all_seeds)
+    ends = [first + all_seeds * number // count for number in range(count + 1)]
+    return [(low, high - 1) for low, high in zip(ends, ends[1:])]
+
+
+def check_seeds(program, sweep, count):
+    """Makes a table of each range of a sweep's seeds, and joins them in some order: that is what the whole sweep makes."""
+    options, _ = words_of(sweep)
+    wants = [word for want in sweep.get('want', ['out<=0.1']) for word in ('--want', want)]
+    program.keep('s.toml', text_of(DATA / sweep['base']))
+    names = []
+    for low, high in cut_seeds(sweep, count):
+        names.append(f'seeds-{low}.csv')
+        ran = program.call(['sweep', 's.toml', '--table', names[-1], *with_range(options, low, high)])
+        expect('status', ran.status, 0)
+    random.Random(count).shuffle(names)
+    for told in (wants, [*wants, '--jsonl'], []):
+        whole = program.call(['sweep', 's.toml', '--table', 'w.csv', '--page', 'w.html', *options, *told])
+        ran = program.call(['join', *names, '--table', 't.csv', '--page', 'p.html', '--name', 's.toml', *told])
+        expect_ran(ran, 0, whole.out, b'', ' '.join(['join', *told]))
+        expect('table', program.held('t.csv'), program.held('w.csv'))
+        expect('page', program.held('p.html'), program.held('w.html'))
+    program.call(['sweep', 's.toml', '--table', 'w.csv', '--page', 'w.html', *options])
+    expect_ran(program.call(['page', *names, '--out', 'q.html', '--name', 's.toml']), 0, b'', b'', 'page')
+    expect('page alone', program.held('q.html'), program.held('w.html'))
+    # the joined table is one as any other
+    told = program.call(['join', 'w.csv', '--table', 'x.csv']).out
+    expect_ran(program.call(['join', 't.csv', '--table', 'again.csv']), 0, told, b'', 'again')
+    expect('table again', program.held('again.csv'), program.held('w.csv'))
+
+
+def check_seeds_refused(program):
+    """Joins tables whose seeds don't follow one another, or that aren't of one sweep: each is told by its line."""
+    text = text_of(DATA / 'sweeps' / 'three-members.toml')
+    program.keep('s.toml', text)
+    program.keep('other.toml', text + '# another text\n')
+    program.keep('t.csv', 'an older table\n')
+    made = {
+        'a.csv': ['s.toml', '--seeds', '1..3'],
+        'b.csv': ['s.toml', '--seeds', '4..6'],
+        'c.csv': ['s.toml', '--seeds', '3..5'],
+        'd.csv': ['s.toml', '--seeds', '8..9'],
+        'keys.csv': ['s.toml', '--seeds', '4..6', '--set', 'swim.period=200,250'],
+        'text.csv': ['other.toml', '--seeds', '4..6'],
+        'own.csv': ['s.toml'],
+        'wide.csv': ['s.toml', '--seeds', '1..3', '--until', '90'],
+        'wide-more.csv': ['s.toml', '--seeds', '4..6', '--until', '90'],
+        'half.csv': ['s.toml', '--seeds', '4..6', '--shard', '1/2'],
+    }
+    for name, words in made.items():
+        expect('status', program.call(['sweep', words[0], '--table', name, *words[1:]]).status, 0)
+    torn = program.held('b.csv')
+    program.keep('torn.csv', torn[:-1])
+    program.keep('older.csv', without_checksums(torn))
+    header, *lines = torn.splitlines(keepends=True)
+    program.keep('swapped.csv', b''.join([header, *lines[1::-1], *lines[2:]]))
+    expect_refused(program, [
+        (['a.csv', 'c.csv'], 'piece c.csv twice'),
+        (['c.csv', 'b.csv', 'a.csv'], 'piece b.csv twice'),
+        (['a.csv', 'a.csv'], 'piece a.csv twice'),
+        (['d.csv', 'a.csv'], 'piece d.csv of another sweep'),
+        (['b.csv', 'd.csv', 'a.csv'], 'piece d.csv of another sweep'),
+        (['a.csv', 'keys.csv'], 'piece keys.csv of another sweep'),
+        (['a.csv', 'text.csv'], 'piece text.csv of another sweep'),
+        (['a.csv', 'own.csv'], 'piece own.csv of another sweep'),
+        (['own.csv', 'a.csv'], 'piece a.csv of another sweep'),
+        (['own.csv', 'own.csv'], 'piece own.csv twice'),
+        (['a.csv', 'wide-more.csv'], 'piece wide-more.csv of another sweep'),
+        (['wide.csv', 'wide-more.csv'], 'piece wide-more.csv of another sweep'),
+        (['a.csv', 'half.csv'], 'piece half.csv of another sweep'),
+        (['half.csv', 'a.csv'], 'piece a.csv of another sweep'),
+        (['a.csv', 's.toml'], 'no piece s.toml'),
+        (['a.csv', 'torn.csv'], 'piece torn.csv torn'),
+        (['a.csv', 'swapped.csv'], 'piece swapped.csv torn'),
+        (['a.csv', 'older.csv'], f'piece older.csv {OLDER}'),
+    ])
+
+
 def cases():
     """Each sweep of the list, in each number of pieces."""
     listed = json.loads((FOLDER / 'sweeps.json').read_text())
@@ -218,6 +315,11 @@ def cases():
             yield Case(f'pieces: {sweep["about"]}, {count}', check, (sweep, count))
         for count in (1, 3):
             yield Case(f'pieces: {sweep["about"]}, all that is told of {count}', check_told, (sweep, count))
+    for sweep in listed:
+        if 'until' not in sweep and 'seeds' in sweep and len(cut_seeds(sweep, 2)) > 1:
+            for count in (2, 3, 61):
+                yield Case(f'more seeds: {sweep["about"]}, {count} tables', check_seeds, (sweep, count))
+    yield Case('more seeds: what join refuses', check_seeds_refused, ())
     narrow, wider = [sweep for sweep in listed if 'until' in sweep][:2]
     yield Case('pieces: what join refuses', check_refused, (listed[0],))
     yield Case('pieces: what join refuses where there is a width', check_widths_refused, (narrow,))

@@ -12,7 +12,9 @@ use Rattle.command_line.specs.declared.failure.Failure.TheVariants as failing
 use Rattle.scenario_files.specs.Shelves.{Shelf, IsUnread}
 use Rattle.shard_merge.specs.declared.fault.JoinFault.{JoinFault}
 use Rattle.shard_merge.specs.declared.fault.JoinFault.TheVariants as fault
-use Rattle.join_command.specs.Outcomes.{FailsToGather, FailsToStore, FailsToStoreAsked, FailsToStoreBoth, FailsToStorePage, IsWant, JoinFails, PageFails, shard_failure}
+use Rattle.table_merge.specs.declared.fault.MergeFault.{MergeFault}
+use Rattle.table_merge.specs.declared.fault.MergeFault.TheVariants as merge
+use Rattle.join_command.specs.Outcomes.{FailsToGather, FailsToStore, FailsToStoreAsked, FailsToStoreBoth, FailsToStorePage, IsWant, JoinFails, PageFails, merge_failure, shard_failure}
 
 -- the failures by which either may end
 abbrev pub EndsJoin : Failure → Type 0
@@ -32,6 +34,12 @@ by_fault names otherwise (fault.Missing number) = tt
 by_fault names otherwise fault.Write = tt
 by_fault names otherwise fault.Memory = tt
 
+by_merging : (names : List (Bor Text)) (otherwise : Bor Text) (f : MergeFault) → EndsJoin (merge_failure names otherwise f)
+by_merging names otherwise (merge.Shards cause) = by_fault names otherwise cause
+by_merging names otherwise (merge.Overlap at other) = tt
+by_merging names otherwise (merge.Gap below above) = tt
+by_merging names otherwise merge.TooMany = tt
+
 by_reading : (known : KnownFile) (file : Text) (f : Failure) → IsUnread known file f → EndsJoin f
 by_reading known file (failing.File name) h = tt
 by_reading known file failing.Memory h = tt
@@ -49,7 +57,7 @@ by_reading known file failing.Output h = absurd h
 
 by_gathering : (before : Shelf) (names : List (Bor Text)) (otherwise : Bor Text) (f : Failure) → FailsToGather before names otherwise f → EndsJoin f
 by_gathering before names otherwise f (inl read) = by_reading (before read.1.now) read.1.now f read.3
-by_gathering before names otherwise f (inr shards) = subst EndsJoin (sym shards.2.1) (by_fault names otherwise shards.2.0)
+by_gathering before names otherwise f (inr shards) = subst EndsJoin (sym shards.2.1) (by_merging names otherwise shards.2.0)
 
 by_storing : (Refused : Type 0) (before after : Shelf) (making : Making) (source name : Text) (text : List ℕ) (f : Failure) → FailsToStore Refused before after making source name text f → EndsJoin f
 by_storing Refused before after making source name text (failing.File told) h = tt

@@ -1,6 +1,6 @@
 -- Texts that the files hold, one more at a time, and a file that was not read.
 use Rattle.std.proofs.Common.{◌≡◌, ◌<◌, ◌+◌, ℕ, List, [], ◌∷◌, ◌++◌, ◌⊎◌, ◌≤◌, inl, inr, get_or, length, take, arith, sym, subst}
-use Rattle.std.specs.Prelude.{Vec, Some, None, slice_get}
+use Rattle.std.specs.Prelude.{OnOk, Result, Ok, Err, Vec, Some, None, slice_get}
 use Rattle.std.specs.Borrow.{Bor}
 use Rattle.std.specs.List.{AllZip}
 use Rattle.std.specs.declared.alloc.Global.{Global}
@@ -12,6 +12,11 @@ use Rattle.command_line.specs.declared.failure.Failure.{Failure}
 use Rattle.command_line.specs.declared.failure.Failure.TheVariants.{Memory}
 use Rattle.scenario_files.specs.Shelves.{Shelf, IsUnread}
 use Rattle.join_command.specs.Outcomes.{FailsToRead, HoldTexts}
+
+-- what is said of a success, and what follows from that
+pub on_ok_then : {T E : Type 0} (A B : Type 0) (r : Result T E) → OnOk r A → (A → B) → OnOk r B
+on_ok_then A B (Ok x) a turn = turn a
+on_ok_then A B (Err e) a turn = tt
 
 zip_push : {A B : Type 0} (R : A → B → Type 0) (xs : List A) (ys : List B) (x : A) (y : B) → AllZip R xs ys → R x y → AllZip R (xs ++ x ∷ []) (ys ++ y ∷ [])
 zip_push R [] [] x y all here = (here, tt)

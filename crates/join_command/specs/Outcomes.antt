@@ -17,10 +17,12 @@ use Rattle.command_line.specs.declared.paging.PageWords.{PageWords}
 use Rattle.command_line.specs.declared.failure.Failure.{Failure}
 use Rattle.command_line.specs.declared.failure.Failure.TheVariants.{File, Shards, Run, Memory}
 use Rattle.command_line.specs.declared.failure.ShardFault.TheVariants as shard
-use Rattle.shard_merge.specs.Joined.{Joins}
-use Rattle.shard_merge.specs.Reasons.{IsReason}
 use Rattle.shard_merge.specs.declared.fault.JoinFault.{JoinFault}
 use Rattle.shard_merge.specs.declared.fault.JoinFault.TheVariants as fault
+use Rattle.table_merge.specs.Merged.{Joins}
+use Rattle.table_merge.specs.Reasons.{IsReason}
+use Rattle.table_merge.specs.declared.fault.MergeFault.{MergeFault}
+use Rattle.table_merge.specs.declared.fault.MergeFault.TheVariants as merge
 use Rattle.scenario_files.specs.Shelves.{Shelf, IsRefused, IsUnread, HoldsBeginning}
 
 -- the name at a place among these; the other one where there is none
@@ -128,9 +130,16 @@ shard_failure names otherwise (fault.Missing number) = Shards (shard.Missing num
 shard_failure names otherwise fault.Write = Memory
 shard_failure names otherwise fault.Memory = Memory
 
--- the texts aren't the shards of one sweep, and this is why; or memory was refused
+-- and by which it is told why their seeds don't follow one another: by the file whose seeds another has, or by the one behind a gap
+abbrev pub merge_failure : List (Bor Text) → Bor Text → MergeFault → Failure
+merge_failure names otherwise (merge.Shards cause) = shard_failure names otherwise cause
+merge_failure names otherwise (merge.Overlap at other) = Shards (shard.Doubled (name_at names otherwise at))
+merge_failure names otherwise (merge.Gap below above) = Shards (shard.Other (name_at names otherwise above))
+merge_failure names otherwise merge.TooMany = Shards (shard.Other (name_at names otherwise 1))
+
+-- the texts aren't tables of one sweep, and this is why; or memory was refused
 abbrev pub RefusesShards : List (Bor Text) → Bor Text → List (Vec ℕ Global) → Failure → Type 0
-RefusesShards names otherwise texts failure = (f : JoinFault) × (failure ≡ shard_failure names otherwise f) × IsReason texts f
+RefusesShards names otherwise texts failure = (f : MergeFault) × (failure ≡ merge_failure names otherwise f) × IsReason texts f
 
 -- reading a file failed, or putting the texts together
 abbrev pub FailsToGather : Shelf → List (Bor Text) → Bor Text → Failure → Type 0

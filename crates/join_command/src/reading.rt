@@ -1,14 +1,15 @@
 //! The shards in files, put together.
 ghost use Rattle.std.specs.Prelude.{◌≡◌, ◌<◌, ◌^◌, All, IfOk, IfErr};
 ghost use Rattle.goals.specs.Wants.{HasFewRuns};
-ghost use Rattle.shard_merge.specs.Joined.{Joins};
-ghost use Rattle.join_command.specs.Outcomes.{FailsToGather, FailsToRead, GathersSettings, HoldTexts, RefusesShards, name_at, shard_failure};
+ghost use Rattle.table_merge.specs.Merged.{Joins};
+ghost use Rattle.join_command.specs.Outcomes.{FailsToGather, FailsToRead, GathersSettings, HoldTexts, RefusesShards, merge_failure, name_at, shard_failure};
 
 use command_line::{Failure, ShardFault};
 use files::Files;
 use scenario_files::load_bytes;
-use shard_merge::{JoinFault, Joined, join};
+use shard_merge::{JoinFault, Joined};
 use std::alloc::Global;
+use table_merge::{MergeFault, join};
 use trace::Sink;
 
 /// Puts the shards in the files of these names together: the table of the whole goes to the sink, and what the settings came to
@@ -75,8 +76,25 @@ fn join_texts<'a, S: Sink>(
     }
 }
 
-/// The failure that a fault is told by. A table in memory fails by want of that, and one that is thrown away never.
-fn failure_of<'a>(names: &[&'a str], otherwise: &'a str, fault: JoinFault) -> Failure<'a>
+/// The failure by which it is told why tables weren't put together. The line below it says more of seeds.
+fn failure_of<'a>(names: &[&'a str], otherwise: &'a str, fault: MergeFault) -> Failure<'a>
+    ensures { result ≡ merge_failure names.now otherwise.entry fault }
+{
+    match fault {
+        MergeFault::Shards(cause) => shard_failure(names, otherwise, cause),
+        MergeFault::Overlap(place, _) => {
+            Failure::Shards(ShardFault::Doubled(name_at(names, otherwise, place)))
+        }
+        MergeFault::Gap(_, place) => {
+            Failure::Shards(ShardFault::Other(name_at(names, otherwise, place)))
+        }
+        MergeFault::TooMany => Failure::Shards(ShardFault::Other(name_at(names, otherwise, 1))),
+    }
+}
+
+/// The failure by which it is told why files aren't the shards of one sweep. A table in memory fails by want of that, and one that
+/// is thrown away never.
+fn shard_failure<'a>(names: &[&'a str], otherwise: &'a str, fault: JoinFault) -> Failure<'a>
     ensures { result ≡ shard_failure names.now otherwise.entry fault }
 {
     match fault {

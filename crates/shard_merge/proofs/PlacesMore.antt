@@ -9,12 +9,13 @@ use Rattle.sweep_plan.specs.Sweep.{Sweep}
 use Rattle.figures.specs.Lines.{header_line}
 use Rattle.shards.specs.declared.shard.Shard.{Shard}
 use Rattle.shards.specs.Names.{head_cell}
+use Rattle.sweep.specs.Shards.{shard_header}
 use Rattle.sweep.specs.Table.{names_of}
 use Rattle.shard_merge.specs.declared.fault.JoinFault.{JoinFault}
 use Rattle.shard_merge.specs.declared.fault.JoinFault.TheVariants as fault
 use Rattle.sweep.specs.Sums.{IsOlder, sweep_key}
 use Rattle.shard_merge.specs.Among.{IsAmongTexts, shard_at}
-use Rattle.shard_merge.specs.Reasons.{AreIts, ArePlaces, BeginsAs, IsBehind, IsDoubled, IsFirst, IsMissing, IsOlderAt, IsNoShard, IsOfSink, IsOther, IsReason, IsTextAt, IsTorn, RefusesPlace, RefusesText}
+use Rattle.shard_merge.specs.Reasons.{AreIts, ArePlaces, BeginsAs, IsBehind, IsDoubled, IsFirst, IsMissing, IsOlderAt, IsNoShard, IsOfSink, IsOther, IsReason, IsTextAt, IsTorn, RefusesLines, RefusesPlace, RefusesText}
 use Rattle.shard_merge.proofs.SameSweep.{same_heads}
 
 -- a text begins as one shard of a sweep
@@ -100,6 +101,9 @@ of_sink texts (fault.Missing number) h = absurd h
 
 pub memory_reason : (texts : List (Vec ℕ Global)) (f : JoinFault) → f ≡ fault.Memory → IsReason texts f
 memory_reason texts f is = subst (IsReason texts) (sym is) tt
+
+pub memory_lines : (text header : List ℕ) (place : ℕ) (f : JoinFault) → f ≡ fault.Memory → RefusesLines text header place f
+memory_lines text header place f is = subst (RefusesLines text header place) (sym is) tt
 
 module _ (texts : List (Vec ℕ Global)) (mark : List ℕ) (revived : Bool) (sweep : Sweep) (p : Shard) (first : IsFirst texts mark revived sweep p) where
   -- a text that isn't a shard of the sweep
@@ -193,6 +197,20 @@ module _ (texts : List (Vec ℕ Global)) (mark : List ℕ) (revived : Bool) (swe
             begins = record { asked = its.asked; marked = its.marked; sound = its.sound; rest = rest; written = behind.written };
             older = older;
           }
+
+    -- one whose lines can't be read
+    pub lines_reason : (number place : ℕ) (text : List ℕ) → get_or places number None ≡ Some place → IsTextAt texts place text → (f : JoinFault)
+        → RefusesLines text (shard_header revived mark sweep (shard_at number p.of)) place f → IsReason texts f
+    lines_reason number place text found there (fault.Older at) h =
+        subst (IsOlderAt texts) (sym h.0) (of_before number place h.1.0 (record { found = found; text = text; there = there; written = h.1.1 }) h.1.2)
+    lines_reason number place text found there (fault.Torn at) h =
+        torn number place h.1.0 (record { found = found; text = text; there = there; written = h.1.1 }) at h.0 (λ its. h.1.2 its.encoded)
+    lines_reason number place text found there fault.Memory h = tt
+    lines_reason number place text found there fault.Write h = absurd h
+    lines_reason number place text found there (fault.NoShard at) h = absurd h
+    lines_reason number place text found there (fault.Other at) h = absurd h
+    lines_reason number place text found there (fault.Doubled at) h = absurd h
+    lines_reason number place text found there (fault.Missing n) h = absurd h
 
     -- the text of a shard begins with its first line
     pub begins_there : (number place : ℕ) (text : List ℕ) → get_or places number None ≡ Some place → IsTextAt texts place text

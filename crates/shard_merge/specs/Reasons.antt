@@ -133,10 +133,23 @@ RefusesText text mark revived sweep of place (fault.Other at) = (at ≡ place) �
 RefusesText text mark revived sweep of place fault.Memory = Unit {0}
 RefusesText text mark revived sweep of place _ = ⊥
 
+-- behind its first line, which is this, the text of this place has a line without a checksum, or isn't UTF-8
+abbrev pub RefusesLines : List ℕ → List ℕ → ℕ → JoinFault → Type 0
+RefusesLines text header place (fault.Older at) = (at ≡ place) × ((rest : List ℕ) × (text ≡ header ++ rest) × IsOlder rest)
+RefusesLines text header place (fault.Torn at) = (at ≡ place) × ((rest : List ℕ) × (text ≡ header ++ rest) × ¬ (IsUtf8 rest))
+RefusesLines text header place fault.Memory = Unit {0}
+RefusesLines text header place _ = ⊥
+
 -- the shard of this number has a place already
 abbrev pub RefusesPlace : List (Option ℕ) → ℕ → ℕ → JoinFault → Type 0
 RefusesPlace places number place (fault.Doubled at) = (at ≡ place) × ((earlier : ℕ) × (get_or places number None ≡ Some earlier))
 RefusesPlace places number place _ = ⊥
+
+-- the first text begins as no shard, or memory was refused
+abbrev pub HasNoHead : JoinFault → Type 0
+HasNoHead (fault.NoShard place) = Unit {0}
+HasNoHead fault.Memory = Unit {0}
+HasNoHead _ = ⊥
 
 -- memory was refused, or the table failed
 abbrev pub IsOfSink : JoinFault → Type 0

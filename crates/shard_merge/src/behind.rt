@@ -1,8 +1,9 @@
 //! What stands behind the first line of a shard.
-ghost use Rattle.std.specs.Prelude.{◌≡◌, ◌<◌, ◌≤◌, IfOk, IfErr, length};
+ghost use Rattle.std.specs.Prelude.{◌≡◌, ◌<◌, ◌≤◌, ◌++◌, IfOk, IfErr, length};
 ghost use Rattle.shards.specs.Shards.{IsShard};
+ghost use Rattle.sweep.specs.Shards.{shard_header};
 ghost use Rattle.shard_merge.specs.Among.{shard_at};
-ghost use Rattle.shard_merge.specs.Reasons.{ArePlaces, IsBehind, IsFirst, IsReason};
+ghost use Rattle.shard_merge.specs.Reasons.{ArePlaces, BeginsAs, IsBehind, IsFirst, IsReason, RefusesLines};
 
 use crate::fault::JoinFault;
 use crate::head::{Head, header_of};
@@ -38,18 +39,35 @@ pub(crate) fn lines_behind<'a>(
     let Some(place) = place_of_run(places, number) else {
         return Err(JoinFault::Missing(number as u64 + 1));
     };
-    let header = header_of(alloc, head, shard_at(number, head.shard.of))?;
-    let Some(rest) = text_at(texts, place).strip_prefix(header.as_slice()) else {
-        return Err(JoinFault::Other(place));
+    let shard = shard_at(number, head.shard.of);
+    let lines = lines_at(alloc, text_at(texts, place), head, shard, place)?;
+    Ok(Behind { place, lines })
+}
+
+/// What stands behind the first line of a text that begins as this shard of the sweep; the text is that of this place.
+pub fn lines_at<'a>(
+    alloc: Global,
+    text: &'a [u8],
+    head: &Head<'_>,
+    shard: Shard,
+    place: usize,
+) -> Result<&'a str, JoinFault>
+    requires begins { BeginsAs text.now head.now.mark.now head.now.revived head.now.plan shard }
+    ensures there { IfOk result (λ lines. text.entry.now ≡ shard_header head.now.revived head.now.mark.now head.now.plan shard ++ lines.now) }
+    ensures refused { IfErr result (RefusesLines text.entry.now (shard_header head.now.revived head.now.mark.now head.now.plan shard) place) }
+{
+    let header = header_of(alloc, head, shard)?;
+    let Some(rest) = text.strip_prefix(header.as_slice()) else {
+        unreachable!()
     };
     let older = is_older(alloc, rest)?;
     if older {
         return Err(JoinFault::Older(place));
     }
-    let Ok(lines) = from_utf8(rest) else {
-        return Err(JoinFault::Torn(place));
-    };
-    Ok(Behind { place, lines })
+    match from_utf8(rest) {
+        Ok(lines) => Ok(lines),
+        Err(_) => Err(JoinFault::Torn(place)),
+    }
 }
 
 /// The shard of this number, counted from 0, of so many.

@@ -22,20 +22,20 @@ use trace::Put;
 
 /// What the name of a shard tells.
 #[derive(Drop)]
-pub(crate) struct Head<'a> {
+pub struct Head<'a> {
     /// Which shard it is.
-    pub(crate) shard: Shard,
+    pub shard: Shard,
     /// The mark of the scenario's text.
-    pub(crate) mark: &'a str,
+    pub mark: &'a str,
     /// The sweep.
-    pub(crate) plan: Plan,
+    pub plan: Plan,
     /// Whether its tables tell of members that were taken for alive again.
-    pub(crate) revived: bool,
+    pub revived: bool,
 }
 
 /// What the first line of a text tells, where that is the first line of a shard whose table tells, or doesn't, of members
 /// that were taken for alive again.
-pub(crate) fn head_of<'a>(
+pub fn head_of<'a>(
     alloc: Global,
     text: &'a str,
     revived: bool,
@@ -103,7 +103,7 @@ fn parts_of_name<'a>(text: &'a str) -> Option<(&'a str, &'a str)>
 }
 
 /// Whether a text begins with the first line of this shard of the sweep.
-pub(crate) fn begins_as(
+pub fn begins_as(
     alloc: Global,
     text: &[u8],
     head: &Head<'_>,
@@ -137,7 +137,7 @@ pub(crate) fn header_of(alloc: Global, head: &Head<'_>, shard: Shard) -> Result<
 }
 
 /// The number of the shard that a text says that it is.
-pub(crate) fn number_of(text: &str) -> Option<u64>
+pub fn number_of(text: &str) -> Option<u64>
     ensures some { IfSome result (λ number. 1 ≤ number) }
     ensures only { IfSome result (λ number. (mark : List ℕ) (revived : Bool) (sweep : Sweep) (p : Part) → BeginsAs text.now mark revived sweep p → p.number ≡ number) }
     ensures none { IsNone result → BeginsAsNone text.now }
@@ -153,7 +153,7 @@ pub(crate) fn number_of(text: &str) -> Option<u64>
 
 /// The sweep that these words ask for: the range of its seeds, or a dash, the width of its settings' intervals where it has one,
 /// and its swept keys.
-fn read_plan(alloc: Global, words: &str) -> Result<Plan, PlanFault>
+pub fn read_plan(alloc: Global, words: &str) -> Result<Plan, PlanFault>
     ensures asked { IfOk result IsAskedFor }
     ensures only { IfOk result (λ plan. (sweep : Sweep) → IsAskedFor sweep → words.now ≡ plan_text sweep → plan ≡ sweep) }
     ensures refused { IfErr result (λ fault. fault ≡ unread.Words → (sweep : Sweep) → IsAskedFor sweep → ¬ (words.now ≡ plan_text sweep)) }

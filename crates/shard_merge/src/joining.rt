@@ -5,7 +5,7 @@ ghost use Rattle.goals.specs.Wants.{HasFewRuns};
 ghost use Rattle.shards.specs.Shards.{whole};
 ghost use Rattle.sweep.specs.Shards.{shard_header};
 ghost use Rattle.shard_merge.specs.Joined.{Joins, JoinsBehind, JoinsShard};
-ghost use Rattle.shard_merge.specs.Reasons.{ArePlaces, IsFirst, IsOfSink, IsReason};
+ghost use Rattle.shard_merge.specs.Reasons.{ArePlaces, HasNoHead, IsFirst, IsOfSink, IsReason};
 
 use crate::behind::{lines_behind, shard_at};
 use crate::fault::JoinFault;
@@ -112,9 +112,10 @@ fn join_shard<S: Sink>(
 }
 
 /// What the first text tells; there must be one.
-fn first_head<'a>(alloc: Global, texts: &'a [Vec<u8>]) -> Result<Head<'a>, JoinFault>
+pub fn first_head<'a>(alloc: Global, texts: &'a [Vec<u8>]) -> Result<Head<'a>, JoinFault>
     ensures first { IfOk result (λ head. IsFirst texts.entry.now head.mark.now head.revived head.plan head.shard) }
     ensures refused { IfErr result (IsReason texts.entry.now) }
+    ensures early { IfErr result HasNoHead }
 {
     if texts.is_empty() {
         return Err(JoinFault::NoShard(0));
@@ -133,7 +134,7 @@ fn first_head<'a>(alloc: Global, texts: &'a [Vec<u8>]) -> Result<Head<'a>, JoinF
 }
 
 /// Puts the first line of the table.
-fn put_header<S: Sink>(alloc: Global, head: &Head<'_>, table: &mut S) -> Result<(), JoinFault>
+pub fn put_header<S: Sink>(alloc: Global, head: &Head<'_>, table: &mut S) -> Result<(), JoinFault>
     requires { S.failed table.old < 2 ^ 63 }
     ensures whole { OnOk result (Appends (S.held table.old) (S.held table.new) (shard_header head.now.revived head.now.mark.now head.now.plan whole)) }
     ensures same { OnOk result (S.failed table.new ≡ S.failed table.old) }
@@ -161,7 +162,7 @@ fn put_lines<S: Sink>(lines: &str, table: &mut S) -> Result<(), JoinFault>
 }
 
 /// Has the table hand on what it took.
-fn flush<S: Sink>(table: &mut S) -> Result<(), JoinFault>
+pub fn flush<S: Sink>(table: &mut S) -> Result<(), JoinFault>
     requires { S.failed table.old < 2 ^ 63 }
     ensures same { Keeps (S.held table.old) (S.held table.new) }
     ensures refused { IfErr result IsOfSink }

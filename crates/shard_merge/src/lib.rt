@@ -9,5 +9,8 @@ pub mod laws;
 mod places;
 mod told;
 
+pub use behind::lines_at;
 pub use fault::JoinFault;
-pub use joining::{Joined, join};
+pub use head::{Head, begins_as, head_of, number_of, read_plan};
+pub use joining::{Joined, first_head, flush, join, put_header};
+pub use places::text_at;

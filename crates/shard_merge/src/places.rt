@@ -97,7 +97,7 @@ pub(crate) fn place_of_run(places: &[Option<usize>], number: usize) -> Option<us
 }
 
 /// The text at a place.
-pub(crate) fn text_at<'a>(texts: &'a [Vec<u8>], place: usize) -> &'a [u8]
+pub fn text_at<'a>(texts: &'a [Vec<u8>], place: usize) -> &'a [u8]
     requires { place < length texts.now }
     ensures { IsTextAt texts.entry.now place result.now }
 {

@@ -1,5 +1,6 @@
-use Rattle.std.proofs.Common.{ap, inl, inr, is_some, rules, subst}
-use Rattle.shard_merge.specs.Reasons.{BeginsAs, BeginsAsNone}
+use Rattle.std.proofs.Common.{◌∙◌, ap, inl, inr, is_some, rules, subst, sym}
+use Rattle.figures.proofs.Handing.{handed}
+use Rattle.shard_merge.specs.Reasons.{BeginsAs, BeginsAsNone, HasNoHead}
 use Rattle.shard_merge.proofs.Heads.{neither}
 use Rattle.shard_merge.proofs.joining.first_head.Goals as goal
 
@@ -32,3 +33,11 @@ returns-in-Some-2-clause-first c =
       there = c.text_at-bytes.ensures;
       begins = subst (λ t. BeginsAs t head.mark.now head.revived head.plan head.shard) same (rw c.in-Some-2.is at c.in_ok-head-2.ensures.found);
     }
+
+pub returns-in_err-head-clause-early : goal.returns-in_err-head-clause-early
+returns-in_err-head-clause-early c =
+    handed c.from_residual.result _ _ c.from_residual.ensures.1 (λ e same. subst HasNoHead (sym (same ∙ c.in_err-head.ensures.memory)) tt)
+
+pub returns-in_err-head-2-clause-early : goal.returns-in_err-head-2-clause-early
+returns-in_err-head-2-clause-early c =
+    handed c.from_residual-in_err-head-2.result _ _ c.from_residual-in_err-head-2.ensures.1 (λ e same. subst HasNoHead (sym (same ∙ c.in_err-head-2.ensures.memory)) tt)

@@ -1,0 +1,14 @@
+//! The tables of a sweep put together: all its shards, or tables of it with seeds that follow one another.
+#![tactic(auto)]
+
+mod fault;
+mod finding;
+mod joining;
+pub mod laws;
+mod lines;
+mod merging;
+mod ordering;
+mod plans;
+
+pub use fault::MergeFault;
+pub use joining::join;

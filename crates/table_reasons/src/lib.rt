@@ -1,0 +1,9 @@
+//! Why tables aren't joined, and what to do.
+#![tactic(auto)]
+
+mod finding;
+mod reason;
+mod told;
+
+pub use finding::table_reason;
+pub use reason::TableReason;

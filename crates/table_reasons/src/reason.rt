@@ -1,0 +1,107 @@
+//! A reason for which tables aren't joined.
+ghost use Rattle.std.specs.Prelude.{Some};
+ghost use Rattle.std.specs.Fmt.{WritesOnOk};
+ghost use Rattle.table_reasons.specs.Words.{one_text, range_text, reason_text, two_text};
+
+use shown_names::write_name;
+use std::fmt;
+use std::fmt::{Display, Formatter, Write};
+
+/// Why tables of these names aren't joined.
+#[derive(Clone, Copy, Debug, PartialEq, Eq)]
+pub enum TableReason<'a> {
+    /// It is a shard, while another is a whole table, or has other seeds.
+    Shard(&'a str),
+    /// They are of two scenario texts.
+    Scenarios(&'a str, &'a str),
+    /// They have other settings, or another width.
+    Settings(&'a str, &'a str),
+    /// It was made with a width.
+    Width(&'a str),
+    /// It was made without seeds.
+    NoSeeds(&'a str),
+    /// Both have the seeds from one to another.
+    Shared(&'a str, &'a str, u64, u64),
+    /// No table has the seeds from one to another, which lie between theirs.
+    Missing(&'a str, &'a str, u64, u64),
+}
+
+impl Display for TableReason<'_> {
+    ghost output = { λ reason. Some (reason_text reason) };
+
+    fn fmt<W: Write>(&self, f: &mut Formatter<W>) -> fmt::Result {
+        match self {
+            TableReason::Shard(name) => write_one(
+                f,
+                name,
+                " is a shard; join the shards of each range of seeds first, and then the tables",
+            ),
+            TableReason::Scenarios(name, other) => write_two(
+                f,
+                name,
+                other,
+                " are of two scenario texts; make both of one text, byte for byte",
+            ),
+            TableReason::Settings(name, other) => write_two(
+                f,
+                name,
+                other,
+                " have other words of --set or --until; make both with the same",
+            ),
+            TableReason::Width(name) => write_one(
+                f,
+                name,
+                " was made with --until, so it can't get more seeds; make one table with all seeds",
+            ),
+            TableReason::NoSeeds(name) => write_one(
+                f,
+                name,
+                " was made without --seeds; make it with a range of seeds",
+            ),
+            TableReason::Shared(name, other, first, last) => {
+                write_two(f, name, other, " both have the seeds ")?;
+                write_range(
+                    f,
+                    *first,
+                    *last,
+                    "; leave one of them out, or make it with other seeds",
+                )
+            }
+            TableReason::Missing(name, other, first, last) => {
+                write_two(f, name, other, " leave out the seeds ")?;
+                write_range(
+                    f,
+                    *first,
+                    *last,
+                    "; make a table with these, and join it too",
+                )
+            }
+        }
+    }
+}
+
+/// Writes what is told of a name.
+fn write_one<W: Write>(f: &mut Formatter<W>, name: &str, what: &str) -> fmt::Result
+    ensures { WritesOnOk W.write_str_gives f.old result (one_text name.now what.now) f.new }
+{
+    write_name(f, name)?;
+    f.write_str(what)
+}
+
+/// Writes what is told of two names.
+fn write_two<W: Write>(f: &mut Formatter<W>, name: &str, other: &str, what: &str) -> fmt::Result
+    ensures { WritesOnOk W.write_str_gives f.old result (two_text name.now other.now what.now) f.new }
+{
+    write_name(f, name)?;
+    f.write_str(" and ")?;
+    write_name(f, other)?;
+    f.write_str(what)
+}
+
+/// Writes a range of seeds, and what comes behind it.
+fn write_range<W: Write>(f: &mut Formatter<W>, first: u64, last: u64, behind: &str) -> fmt::Result
+    ensures { WritesOnOk W.write_str_gives f.old result (range_text first last behind.now) f.new }
+{
+    write!(f, "{first}..{last}")?;
+    f.write_str(behind)
+}
