@@ -16,6 +16,15 @@ COUNTS = (1, 2, 3, 7, 61)
 # what is told of a table whose lines have no checksums
 OLDER = 'of an earlier version: make it again, or read it with that version'
 
+# what to do with tables that aren't joined
+UNLIKE = 'have other words of --set or --until; make both with the same'
+SHARD = 'is a shard; join the shards of each range of seeds first, and then the tables'
+SHARED = 'leave one of them out, or make it with other seeds'
+MISSING = 'make a table with these, and join it too'
+WIDTH = "was made with --until, so it can't get more seeds; make one table with all seeds"
+NO_SEEDS = 'was made without --seeds; make it with a range of seeds'
+TEXTS = 'are of two scenario texts; make both of one text, byte for byte'
+
 
 def check(program, sweep, count):
     """Makes all pieces of a sweep, joins them in some order, and compares both."""
@@ -120,10 +129,11 @@ def keep_halves(program, sweep):
 
 
 def expect_refused(program, wanted):
-    """Joins pieces of these names: each is told by its line, and the table stays as it was."""
-    for names, line in wanted:
+    """Joins pieces of these names: each is told by its line, and maybe what to do by another, and the table stays as it was."""
+    for names, *lines in wanted:
         ran = program.call(['join', *names, '--table', 't.csv'])
-        expect_ran(ran, 3, b'', f'swimsim: {line}\n'.encode(), ' '.join(names))
+        told = ''.join(f'{line}\n' for line in lines)
+        expect_ran(ran, 3, b'', f'swimsim: {told}'.encode(), ' '.join(names))
         expect('table', program.held('t.csv'), b'an older table\n')
 
 
@@ -149,11 +159,11 @@ def check_refused(program, sweep):
         (['2.csv', '2.csv'], 'piece 2.csv twice'),
         *beside_the_first('torn', 'torn', 'short', 'swapped', 'doubled', 'mixed'),
         *beside_the_first(OLDER, 'older'),
-        (['1.csv', 'other.csv'], 'piece other.csv of another sweep'),
+        (['1.csv', 'other.csv'], 'piece other.csv of another sweep', f'1.csv and other.csv {UNLIKE}'),
         (['1.csv', 's.toml'], 'no piece s.toml'),
-        (['all.csv', 'all.csv'], 'piece all.csv twice'),
-        (['all.csv', '1.csv', '2.csv'], 'piece 1.csv of another sweep'),
-        (['1.csv', '2.csv', 'all.csv'], 'piece all.csv of another sweep'),
+        (['all.csv', 'all.csv'], 'piece all.csv twice', f'all.csv and all.csv both have the seeds {sweep["seeds"]}; {SHARED}'),
+        (['all.csv', '1.csv', '2.csv'], 'piece 1.csv of another sweep', f'1.csv {SHARD}'),
+        (['1.csv', '2.csv', 'all.csv'], 'piece all.csv of another sweep', f'1.csv {SHARD}'),
         (['plain.csv'], 'no piece plain.csv'),
     ])
 
@@ -176,8 +186,8 @@ def check_widths_refused(program, sweep):
         (['2.csv', '1.csv', '2.csv'], 'piece 2.csv twice'),
         (['short.csv', '1.csv'], 'piece short.csv torn'),
         *beside_the_first('torn', 'torn', 'long', 'more', 'none'),
-        (['1.csv', 'wider.csv'], 'piece wider.csv of another sweep'),
-        (['1.csv', 'whole.csv'], 'piece whole.csv of another sweep'),
+        (['1.csv', 'wider.csv'], 'piece wider.csv of another sweep', f'1.csv and wider.csv {UNLIKE}'),
+        (['1.csv', 'whole.csv'], 'piece whole.csv of another sweep', f'1.csv and whole.csv {UNLIKE}'),
         *beside_the_first('of another sweep', 'widest'),
         (['widest.csv'], 'no piece widest.csv'),
     ])
@@ -286,20 +296,20 @@ def check_seeds_refused(program):
     header, *lines = torn.splitlines(keepends=True)
     program.keep('swapped.csv', b''.join([header, *lines[1::-1], *lines[2:]]))
     expect_refused(program, [
-        (['a.csv', 'c.csv'], 'piece c.csv twice'),
-        (['c.csv', 'b.csv', 'a.csv'], 'piece b.csv twice'),
-        (['a.csv', 'a.csv'], 'piece a.csv twice'),
-        (['d.csv', 'a.csv'], 'piece d.csv of another sweep'),
-        (['b.csv', 'd.csv', 'a.csv'], 'piece d.csv of another sweep'),
-        (['a.csv', 'keys.csv'], 'piece keys.csv of another sweep'),
-        (['a.csv', 'text.csv'], 'piece text.csv of another sweep'),
-        (['a.csv', 'own.csv'], 'piece own.csv of another sweep'),
-        (['own.csv', 'a.csv'], 'piece a.csv of another sweep'),
+        (['a.csv', 'c.csv'], 'piece c.csv twice', f'a.csv and c.csv both have the seeds 3..3; {SHARED}'),
+        (['c.csv', 'b.csv', 'a.csv'], 'piece b.csv twice', f'c.csv and b.csv both have the seeds 4..5; {SHARED}'),
+        (['a.csv', 'a.csv'], 'piece a.csv twice', f'a.csv and a.csv both have the seeds 1..3; {SHARED}'),
+        (['d.csv', 'a.csv'], 'piece d.csv of another sweep', f'a.csv and d.csv leave out the seeds 4..7; {MISSING}'),
+        (['b.csv', 'd.csv', 'a.csv'], 'piece d.csv of another sweep', f'b.csv and d.csv leave out the seeds 7..7; {MISSING}'),
+        (['a.csv', 'keys.csv'], 'piece keys.csv of another sweep', f'a.csv and keys.csv {UNLIKE}'),
+        (['a.csv', 'text.csv'], 'piece text.csv of another sweep', f'a.csv and text.csv {TEXTS}'),
+        (['a.csv', 'own.csv'], 'piece own.csv of another sweep', f'own.csv {NO_SEEDS}'),
+        (['own.csv', 'a.csv'], 'piece a.csv of another sweep', f'own.csv {NO_SEEDS}'),
         (['own.csv', 'own.csv'], 'piece own.csv twice'),
-        (['a.csv', 'wide-more.csv'], 'piece wide-more.csv of another sweep'),
-        (['wide.csv', 'wide-more.csv'], 'piece wide-more.csv of another sweep'),
-        (['a.csv', 'half.csv'], 'piece half.csv of another sweep'),
-        (['half.csv', 'a.csv'], 'piece a.csv of another sweep'),
+        (['a.csv', 'wide-more.csv'], 'piece wide-more.csv of another sweep', f'wide-more.csv {WIDTH}'),
+        (['wide.csv', 'wide-more.csv'], 'piece wide-more.csv of another sweep', f'wide.csv {WIDTH}'),
+        (['a.csv', 'half.csv'], 'piece half.csv of another sweep', f'half.csv {SHARD}'),
+        (['half.csv', 'a.csv'], 'piece a.csv of another sweep', f'half.csv {SHARD}'),
         (['a.csv', 's.toml'], 'no piece s.toml'),
         (['a.csv', 'torn.csv'], 'piece torn.csv torn'),
         (['a.csv', 'swapped.csv'], 'piece swapped.csv torn'),

@@ -8,6 +8,7 @@ mod names;
 mod runs;
 mod scenarios;
 mod surroundings;
+mod tables;
 mod telling;
 
 pub use surroundings::Surroundings;

@@ -6,8 +6,9 @@ use crate::help::SHORT_HELP;
 use crate::runs::run_reason;
 use crate::scenarios::first_diagnostic;
 use crate::surroundings::Surroundings;
+use crate::tables::table_lines;
 use base::Memory;
-use command_line::{Asked, Failure, parse};
+use command_line::{Asked, Failure, ShardFault, parse};
 use files::Files;
 use item_reasons::item_reason;
 use reasons::RunReason;
@@ -38,6 +39,9 @@ pub(crate) fn lines_below<'a, S: AsStr, F: Files, A: Surroundings>(
             scenario_lines(alloc, words, *rule, files)
         }
         Failure::NoItem { key } => item_lines(alloc, words, key.as_str(), files),
+        Failure::Shards(ShardFault::Other(_) | ShardFault::Doubled(_)) => {
+            table_lines(alloc, words, files)
+        }
         _ => run_lines(alloc, failure),
     }
 }
@@ -91,7 +95,7 @@ fn scenario_lines<S: AsStr, F: Files>(
     };
     let mut lines = first_diagnostic(alloc, name, rule, files)?;
     let reason = if lines.is_empty() {
-        RunReason::Swept(name)
+        RunReason::Setting(name)
     } else {
         RunReason::Rule(name)
     };
