@@ -1,4 +1,4 @@
-//! The arguments of commands, by the few kinds that there are, and what `clap` found of them.
+//! The arguments of commands by their kinds, and what `clap` found of them.
 #![tactic(auto)]
 
 mod numbers;

@@ -1,5 +1,4 @@
-//! What every crate of swimsim speaks of: moments, members, the keys of events, the limits and the
-//! faults. In `specs/` a cluster of any deterministic machine, its next step and its run.
+//! Moments, members, keys of events, limits and faults, which every crate uses.
 #![tactic(auto)]
 
 mod beats;

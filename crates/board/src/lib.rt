@@ -1,4 +1,4 @@
-//! A board: a shared object on which items lie until somebody takes them, each of them once.
+//! A board: a shared object from which each item is taken as often as it was put there.
 //!
 //! A board is made together with all its seats ([`Board::new`]). Each thread has a seat of its own, from which it
 //! deals items and takes them, the first one dealt first. A seat keeps account, in proofs alone, of what was

@@ -1,5 +1,4 @@
-//! The program: it does what the words of a command line ask for, over files and writers that are
-//! handed in, and answers the exit status.
+//! The program: runs the command that the words ask for, over given files and writers, and returns the exit status.
 #![tactic(auto)]
 
 mod processors;

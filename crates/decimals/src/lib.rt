@@ -1,4 +1,4 @@
-//! Numbers in words: which whole number a word is in decimal.
+//! Decimal numbers in words of a command line.
 #![tactic(auto)]
 
 ghost use Rattle.std.specs.Prelude.{◌≡◌, ℕ, ◌<◌, ◌≤◌, ◌^◌, IfSome, IsNone};

@@ -1,4 +1,4 @@
-//! The diagnostics of a scenario text in words: as lines for people, and as JSON.
+//! Diagnostics as lines for people, and as JSON.
 #![tactic(auto)]
 
 mod aliases;

@@ -1,4 +1,4 @@
-//! All diagnostics of a scenario text: of each the rule that it breaks, its cause, and where it stands.
+//! All errors of a scenario text: the broken rule, the cause and the place of each.
 #![tactic(auto)]
 
 mod cause;

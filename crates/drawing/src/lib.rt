@@ -1,6 +1,7 @@
-//! Drawing: heads of pages, texts escaped, numbers grouped, lengths of time, axes with round ticks, and shapes as inline SVG. Shapes
-//! are drawn in the units of the data, and stretched over the room that a page gives them; words
-//! stand beside them as HTML, so that they stay as large as the reader's text.
+//! Drawing: page heads, escaped texts, numbers, lengths of time, axes and shapes as inline SVG.
+//!
+//! Shapes are drawn in the units of the data, and stretched over the room that a page gives them; words stand beside them as
+//! HTML, so that they stay as large as the reader's text.
 #![tactic(auto)]
 
 mod axis;

@@ -1,4 +1,4 @@
-//! How false deaths came about, in words, as a part of a run's page.
+//! A run's page: how each false death came about, in words.
 #![tactic(auto)]
 
 mod accusers;

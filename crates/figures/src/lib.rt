@@ -1,4 +1,4 @@
-//! The figures of one run, and of a setting: of many runs that belong together.
+//! The figures of one run, and of all runs of a setting.
 #![tactic(auto)]
 
 mod columns;

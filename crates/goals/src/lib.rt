@@ -1,4 +1,4 @@
-//! What the settings of a sweep answer: which of them no other beats, which meet what is wanted, and which of these is best.
+//! Which settings of a sweep meet its goals, which is best, and which are on the front.
 #![tactic(auto)]
 
 mod bounds;

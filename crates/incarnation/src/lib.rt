@@ -1,5 +1,4 @@
-//! Claims about members, and which claim overrides which, by the incarnation number that each comes
-//! with (SWIM, section 4.2).
+//! Claims about members, and which claim overrides which by its incarnation number (SWIM, section 4.2).
 #![tactic(auto)]
 
 ghost use Rattle.std.specs.Prelude.{ℕ, ◌≡◌, ◌≢◌, ◌+◌, ◌<◌, ◌↔◌, ◌⊎◌, IsTrue, true};

@@ -1,4 +1,4 @@
-//! Why the key of an item means no item of a scenario, or more than one, and what to write.
+//! Why a key like `pause.node-7.until` names no item of a scenario, or several, and what to write.
 #![tactic(auto)]
 
 mod items;

@@ -1,5 +1,4 @@
-//! The commands `join` and `page`: the shards of a sweep in files, and the files that take the table of the whole and a page
-//! of its settings.
+//! The commands `join` and `page`: shards in files become one table, or a page.
 #![tactic(auto)]
 
 mod joining;

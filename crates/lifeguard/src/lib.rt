@@ -1,5 +1,4 @@
-//! The parts of Lifeguard (Dadgar, Phillips, Currey) that a member keeps for itself: its local
-//! health, its probe, and the probes of others that it passes on and owes an answer for.
+//! Local health, the current probe, and relayed probes (Lifeguard).
 #![tactic(auto)]
 
 mod health;

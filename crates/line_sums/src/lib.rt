@@ -1,4 +1,4 @@
-//! The checksum of a line, and a line with its checksum before it.
+//! A line of a table with its checksum before it.
 #![tactic(auto)]
 
 mod cutting;

@@ -1,5 +1,4 @@
-//! The links of a scenario: whether and when a message arrives. What is sent while a link is cut is
-//! lost.
+//! The links of a scenario: whether and when a message arrives. What is sent over a link that is cut is lost.
 #![tactic(auto)]
 
 pub mod laws;

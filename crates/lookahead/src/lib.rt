@@ -1,5 +1,4 @@
-//! How long a message needs at least from each part of a cluster to each: the least lengths of walks of
-//! links from part to part.
+//! The least time that a message needs from each part of a cluster to each other part.
 #![tactic(auto)]
 
 mod direct;

@@ -1,7 +1,7 @@
-//! The windows of a part in the rounds of a run: how far each goes, which is no further than anything can come to the part,
-//! what it gives for each other part, and why the rows of all are the run's. Besides, what all threads of a run have in
-//! common: whom they tell of their parts (`Gate`), which of several faults is answered (`first_fault`), and, in `proofs/`,
-//! that a part may go from thread to thread.
+//! The windows of a parallel run: each part's bound in each round, and why all batches are the run's rows.
+//!
+//! Besides, what all threads of a run have in common: the hook that sees each window (`Gate`), which of several faults is
+//! reported (`first_fault`), and, in `proofs/`, that a part may go from thread to thread.
 #![tactic(auto)]
 
 mod bounds;

@@ -1,5 +1,4 @@
-//! What a scenario means in numbers: how long its suspicions last, how its times grow with bad
-//! health, how far its news can spread, how long its answers take, and what a quiet run of it costs.
+//! What a scenario means in numbers: suspicion times, growth with bad health, reach of news, costs of a quiet run.
 #![tactic(auto)]
 
 mod groups;

@@ -1,4 +1,4 @@
-//! What a scenario means, in lines: its figures, what of its script happens, and what it is warned of.
+//! What `explain` prints of an accepted scenario: figures, events and warnings, as lines.
 #![tactic(auto)]
 
 mod calls;

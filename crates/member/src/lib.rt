@@ -1,4 +1,4 @@
-//! What a member makes of an event: SWIM with Lifeguard, one event at a time.
+//! The step: how a member handles one event, by SWIM with Lifeguard or by memberlist's rules.
 #![tactic(auto)]
 
 mod acks;

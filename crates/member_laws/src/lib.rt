@@ -1,4 +1,4 @@
-//! What holds of a member by the definition of its step, in the words of the protocol.
+//! Laws of a member's step, in the words of the protocol.
 #![tactic(auto)]
 
 mod laws;

@@ -1,5 +1,4 @@
-//! A run, as its page tells of it, and its figures of members: a lane for each that was accused, and the
-//! table of false deaths.
+//! A run's page: the lane of each member that was accused, and the table of false deaths.
 #![tactic(auto)]
 
 mod chosen;

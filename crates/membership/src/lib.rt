@@ -1,5 +1,4 @@
-//! What a member holds of the others: for each that it knows, the claim that it believes, with its
-//! incarnation number (SWIM, section 4.2).
+//! A member's table: the claim and the incarnation number of each member that it knows.
 #![tactic(auto)]
 
 mod candidates;

@@ -1,5 +1,4 @@
-//! How a run is shared among threads: by parts of its members where their rounds are worth it, and
-//! else by one thread that simulates and one that writes.
+//! Which parts a run is divided into, and whether several threads pay.
 #![tactic(auto)]
 
 mod choosing;

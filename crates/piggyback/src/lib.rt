@@ -1,6 +1,4 @@
-//! The buffer of updates that ride on the protocol's messages: those sent fewer times first, each
-//! only so often (SWIM, section 4.1), and a suspicion of the receiver before all others (Lifeguard's
-//! Buddy System).
+//! The buffer of updates that messages carry (SWIM, section 4.1), and Lifeguard's Buddy System.
 #![tactic(auto)]
 
 ghost use Rattle.std.specs.Prelude.{◌≡◌, ℕ, ◌≤◌, ◌==◌, ◌↔◌, IsTrue, IsSome, IfSome, IsOk, IfOk, OnOk, OnErr, IsOkAnd, vec_len, count_by};

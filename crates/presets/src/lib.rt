@@ -1,4 +1,4 @@
-//! Scenarios to begin with: by memberlist's defaults, and by those of the format.
+//! The scenarios that `init` prints: memberlist's defaults, and those of the papers.
 #![tactic(auto)]
 
 mod preset;

@@ -1,5 +1,4 @@
-//! Whom a member probes next, by rounds over all that it knows (SWIM, section 4.3), and whom it asks
-//! to probe on its behalf (SWIM, section 3.1).
+//! Which member is probed next (SWIM, section 4.3), and which members help (section 3.1).
 #![tactic(auto)]
 
 ghost use Rattle.std.specs.Prelude.{◌≡◌, ◌==◌, IfOk, OnOk, OnErr, ◌<◌, ◌^◌, All, position};

@@ -1,5 +1,4 @@
-//! Why what users ask for isn't done, in a line for them: what is wrong with the words of a command line, with a file or
-//! with a run, and what to do.
+//! Why a command fails, in one line for users: what is wrong, and what to do.
 #![tactic(auto)]
 
 mod files;

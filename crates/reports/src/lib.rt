@@ -1,5 +1,4 @@
-//! The report of a run: counts, firsts, lasts, leasts and greatests over the rows of its trace, as
-//! a text.
+//! The report of a run: counts and latencies over its rows, as text.
 #![tactic(auto)]
 
 mod counts;

@@ -1,5 +1,4 @@
-//! What stands of the table of a shard that was cut off, where its settings have as many runs as make their intervals narrow
-//! enough: the notes of their lines say which of them are whole, and how far the next one has come.
+//! The whole settings and runs in the table of a shard with `--until` that was interrupted.
 #![tactic(auto)]
 
 mod begun;

@@ -1,5 +1,4 @@
-//! The command `run`: the run of the scenario of a file, by whatever simulates it, and the files that take its
-//! trace, its report and its page.
+//! The command `run`: reads the scenario, makes the run, and writes the trace, the report and the page.
 #![tactic(auto)]
 
 mod nowhere;

@@ -1,4 +1,4 @@
-//! What a run writes, on its way into the sinks: its trace, and the report on that.
+//! What a run writes into its sinks: the trace, then the report.
 #![tactic(auto)]
 
 mod ending;

@@ -1,4 +1,4 @@
-//! The page of a run: one HTML file that shows what happened, with no script and nothing from elsewhere.
+//! The page of a run: one HTML file that shows what happened, without scripts.
 #![tactic(auto)]
 
 mod health;

@@ -1,4 +1,4 @@
-//! Runs of a scenario that tell how far they have come.
+//! Runs that print their progress.
 #![tactic(auto)]
 
 mod running;

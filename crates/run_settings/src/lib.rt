@@ -1,5 +1,4 @@
-//! The figure of a run's page that shows what was run: the scenario's numbers and switches, its groups
-//! and its paths, and what it has happen.
+//! A run's page: the scenario's numbers and switches, groups, paths and events.
 #![tactic(auto)]
 
 mod events;

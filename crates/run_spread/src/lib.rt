@@ -1,4 +1,4 @@
-//! How the news of crashes spread, as a figure of a run's page.
+//! A run's page: how the news of crashes spread.
 #![tactic(auto)]
 
 mod news;

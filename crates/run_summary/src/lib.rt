@@ -1,4 +1,4 @@
-//! What happened in a run, in a few words and figures.
+//! A run's page: what happened, in a few words and numbers.
 #![tactic(auto)]
 
 mod summary;

@@ -1,4 +1,4 @@
-//! A scenario, as its text says it, and how its members are divided into parts.
+//! A scenario as values, and the division of its members into parts.
 #![tactic(auto)]
 
 mod division;

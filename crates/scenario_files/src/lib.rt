@@ -1,4 +1,4 @@
-//! What the file of a scenario holds, and the checks of a run that goes by it.
+//! What a scenario's file holds, and the checks of the run that it asks for.
 #![tactic(auto)]
 
 mod checks;

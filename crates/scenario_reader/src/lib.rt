@@ -1,4 +1,4 @@
-//! The scenario text: reads it, or refuses it by the least broken rule.
+//! Reads a scenario text, or refuses it by the lowest rule that it breaks.
 #![tactic(auto)]
 
 mod additions;

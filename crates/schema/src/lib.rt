@@ -1,5 +1,6 @@
-//! The keys of a scenario text, as data: which tables a document has, of what kind and range their
-//! values are, and what those values say. What they mean together is not known here.
+//! The tables and keys of a scenario text, as data: kinds, ranges, defaults.
+//!
+//! What the values mean together is the readers' business.
 #![tactic(auto)]
 
 mod schema;

@@ -1,5 +1,4 @@
-//! The series of a run: what a page shows of it, gathered as its rows come, in memory that grows
-//! with the members and not with the rows.
+//! What a run's page shows, gathered as rows come, in memory that grows with members and not with rows.
 #![tactic(auto)]
 
 mod accusers;

@@ -1,4 +1,4 @@
-//! The shards of a sweep put together: the table of the whole, and the summaries of its settings.
+//! The shards of a sweep put together: the table of the whole, and the lines of its settings.
 #![tactic(auto)]
 
 mod behind;

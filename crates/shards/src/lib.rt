@@ -1,4 +1,4 @@
-//! A sweep in shards: which runs a shard has, and by which words a shard tells which it is of which sweep.
+//! A sweep in shards: which runs a shard has, and the name of its table.
 #![tactic(auto)]
 
 mod name;

@@ -1,5 +1,4 @@
-//! What a line shows of a name: what would end the line or isn't seen is escaped, so that a line stays one line and names
-//! that differ look different.
+//! How a line shows a name: characters that end the line or are invisible are escaped.
 #![tactic(auto)]
 
 mod names;

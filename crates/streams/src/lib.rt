@@ -1,4 +1,4 @@
-//! A member's stream of draws: numbers below a bound, losses and shuffles, over words of its own.
+//! A member's stream of random numbers: draws below a bound, losses and shuffles.
 #![tactic(auto)]
 
 ghost use Rattle.std.specs.Prelude.{◌≡◌, ◌≤◌, ◌<◌, IsPermutation};

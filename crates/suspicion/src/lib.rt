@@ -1,5 +1,4 @@
-//! Suspicions and their timers: a suspicion lasts long while one member alone accuses, and less with
-//! each further accuser (SWIM, section 4.2; Lifeguard's LHA-Suspicion).
+//! Suspicions and their timers: each further accuser shortens a suspicion (SWIM, section 4.2; Lifeguard's LHA-Suspicion).
 #![tactic(auto)]
 
 mod accusers;

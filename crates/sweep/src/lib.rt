@@ -1,5 +1,4 @@
-//! Many runs of one scenario: each setting of a sweep with each seed, side by side, a table that tells of each run
-//! in a line, and a text that tells of each setting in one.
+//! Runs each setting of a sweep with each seed; writes the table and the settings' lines.
 #![tactic(auto)]
 
 mod begun;

@@ -1,6 +1,6 @@
-//! What the figures of a sweep's page share: times, shares and settings as words, cells of tables,
-//! and paths corner by corner. What appends fails only where memory is refused; the text then has
-//! some beginning of what was to come.
+//! A sweep's page: what its figures share, such as times, shares and settings as words.
+//!
+//! What appends fails only where memory is refused; the text then has some beginning of what was to come.
 #![tactic(auto)]
 
 mod cells;

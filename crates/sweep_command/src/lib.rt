@@ -1,4 +1,4 @@
-//! The command `sweep`: many runs of the scenario of a file, and the file that takes their table.
+//! The command `sweep`: the runs of a scenario file with several settings, and the file with their table.
 #![tactic(auto)]
 
 mod checks;

@@ -1,5 +1,4 @@
-//! What each key that is set changes: a figure for each key of a sweep, with a plot of each
-//! statistic over its values, a line for each choice of the other keys, and the same in numbers.
+//! A sweep's page: what each key that is set changes, as plots and in numbers.
 #![tactic(auto)]
 
 mod charts;

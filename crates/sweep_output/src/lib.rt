@@ -1,4 +1,4 @@
-//! What is told of the settings of a sweep: their lines or their objects, and the page of them.
+//! The output of a sweep's settings: lines, JSON objects and the page.
 #![tactic(auto)]
 
 mod figures_told;

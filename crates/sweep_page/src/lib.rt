@@ -1,5 +1,4 @@
-//! The page of a sweep: one HTML file that answers what is wanted of a setting and shows the trade-off
-//! of all, with no script and nothing from elsewhere.
+//! The page of a sweep: one HTML file that answers the goal and shows the trade-off, without scripts.
 #![tactic(auto)]
 
 mod front;

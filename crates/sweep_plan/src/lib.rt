@@ -1,5 +1,4 @@
-//! Many runs of one scenario: which keys of its text are set to which values, by which words that is
-//! asked for, and the scenario of each setting.
+//! The plan of a sweep: its keys, values, settings and seeds, and the scenario of each setting.
 #![tactic(auto)]
 
 mod axes;

@@ -1,5 +1,4 @@
-//! How the times until a crash was first confirmed spread: for each setting on the front of a sweep a
-//! chart with a bar for each bin of ticks, all over one axis, and the same in numbers.
+//! A sweep's page: how long crashes took to be found, for each setting on the front.
 #![tactic(auto)]
 
 mod bars;

@@ -1,5 +1,4 @@
-//! Many runs of one scenario, of each setting only as many as make the 95 % interval of its share of runs in which members were
-//! thrown out narrow enough.
+//! A sweep in which each setting gets seeds only until the interval of its share of runs with a false death is narrow enough.
 #![tactic(auto)]
 
 mod lots;

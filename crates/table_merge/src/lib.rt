@@ -1,4 +1,4 @@
-//! The tables of a sweep put together: all its shards, or tables of it with seeds that follow one another.
+//! The tables of a sweep put together: all its shards, or tables with adjacent seeds.
 #![tactic(auto)]
 
 mod fault;

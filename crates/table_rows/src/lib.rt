@@ -1,4 +1,4 @@
-//! The lines of a sweep's table, each with its checksum and the note of its run before it, and how they are read.
+//! The lines of a sweep's table, with checksum and metadata: how they are written and read.
 #![tactic(auto)]
 
 mod by_settings;

@@ -1,7 +1,8 @@
-//! What the inside alone can show, in three kinds: of the pieces below a run (queues, the board, draws, events that
-//! nobody sends), of parts and how far they may run, worked out by hand, and of whole runs and sweeps (runs that are
-//! told to gates, sinks that fail or want flushing, and what no command makes). What the program's words and bytes show
-//! stands as data under `tests/`.
+//! Tests of what the inside alone can show.
+//!
+//! There are three kinds: of the pieces below a run (queues, the board, draws, events that nobody sends), of parts and how far
+//! they may run, worked out by hand, and of whole runs and sweeps (runs with gates, sinks that fail or want flushing, and what
+//! no command makes). What the program's words and bytes show stands as data under `tests/`.
 #![tactic(auto)]
 
 #[cfg(test)]

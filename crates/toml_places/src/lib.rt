@@ -1,6 +1,7 @@
-//! Where the keys, values, headers and items of a TOML document stand in its text. A document is read
-//! into places that are found by a path of keys and of numbers of items; each has its range of bytes,
-//! which lies in the text, and a byte has its line and column.
+//! Where the keys, values, headers and items of a TOML document stand in its text.
+//!
+//! A document is read into places that are found by a path of keys and of numbers of items; each has its range of bytes, which
+//! lies in the text, and a byte has its line and column.
 #![tactic(auto)]
 
 mod keys;

@@ -1,5 +1,4 @@
-//! The parts of a divided cluster in which a run begins, and one turn of them: how far their next windows may
-//! go, and what becomes of what these gave.
+//! One turn over the parts of a divided cluster, on one thread.
 #![tactic(auto)]
 
 mod bounds;

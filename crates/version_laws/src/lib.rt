@@ -1,5 +1,4 @@
-//! What it changes that a text of the format's version 1 is given another version, stated over the
-//! definitions alone.
+//! Laws: what changes when a text of version 1 gets another version number.
 #![tactic(auto)]
 
 mod laws;

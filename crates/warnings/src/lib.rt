@@ -1,4 +1,4 @@
-//! What in a scenario is lawful, and yet hardly meant: warnings, each with its condition.
+//! Warnings about scenarios that are valid but probably not intended, each with its condition.
 #![tactic(auto)]
 
 mod about;

@@ -1,6 +1,6 @@
-//! Steps that may be taken before their turn: which they are, and what a cluster that goes on by such
-//! steps, or by windows of its parts, is to the run that always takes the least event. And a part of a
-//! cluster, which runs its window, and a whole cluster that runs by any list of choices.
+//! The windows of a cluster's parts: which events a part may handle early, and why the run stays the same.
+//!
+//! Besides: a part of a cluster, which runs its window, and a whole cluster that runs by any list of choices.
 #![tactic(auto)]
 
 mod bounded;

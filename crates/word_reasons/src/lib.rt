@@ -1,4 +1,4 @@
-//! Why the words of a command line ask for nothing: which word is wrong, and how.
+//! Why the words of a command line are refused: which word is wrong, and what to write.
 #![tactic(auto)]
 
 mod guesses;

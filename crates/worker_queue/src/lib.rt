@@ -1,4 +1,4 @@
-//! The events that pend at a worker: a set with unique keys, of which the least leaves first.
+//! The pending events of a part: a queue with unique keys that gives the least first.
 #![tactic(auto)]
 
 mod falling;
