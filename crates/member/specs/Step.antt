@@ -1,5 +1,5 @@
 -- What a member makes of an event, by cases on the event and the member's phase (SWIM, sections 3 and 4; Lifeguard).
-use Rattle.std.specs.Prelude.{ℕ, ◌+◌, ◌-◌, ◌*◌, ◌^◌, count_by, ◌&&◌, Bool, true, false, not, max, nat_eq, nat_lt, if◌then◌else◌, List, [], map, length, filter, Option, Some, None}
+use Rattle.std.specs.Prelude.{ℕ, ◌+◌, ◌*◌, ◌^◌, count_by, ◌&&◌, Bool, true, false, not, max, nat_eq, nat_lt, if◌then◌else◌, List, [], map, length, filter, Option, Some, None}
 use Rattle.std.specs.List.{range_with_len}
 use Rattle.std.specs.Option.{option_map_or}
 use Rattle.std.specs.FinMap.{get, empty, len}

@@ -66,6 +66,7 @@ impl Member {
     /// Makes an event, for a moment or for the end of a pause of its receiver that covers it. CounterOverflow where the
     /// member's number stands at its limit.
     #[tactic(auto, using(crate::proofs::CounterOverflow::overflow_event), unfolding(crate::specs::Effects::with_event))]
+    #[inline(always)]
     pub(crate) fn make_event(
         &mut self,
         effects: &mut Effects,
@@ -95,6 +96,7 @@ impl Member {
 
     /// Sets a timer of the member's own, so many ticks from now.
     #[tactic(auto, unfolding(crate::specs::Effects::with_timer))]
+    #[inline(always)]
     pub(crate) fn set_timer(
         &mut self,
         effects: &mut Effects,

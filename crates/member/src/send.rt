@@ -20,6 +20,7 @@ use trace::What;
 
 impl Member {
     /// When a message to a member arrives, if it does.
+    #[inline(always)]
     fn arrival(&mut self, here: &Here, to: MemberId) -> Option<Moment>
         requires to { IsMember here.now to }
         requires known { KnowsMembers here.now self.old }
@@ -31,6 +32,7 @@ impl Member {
     }
 
     /// A message arrives, or is lost.
+    #[inline(always)]
     fn send_off(
         &mut self,
         effects: &mut Effects,
@@ -50,6 +52,7 @@ impl Member {
     }
 
     /// Tells of a message, which arrives or is lost.
+    #[inline(always)]
     pub(crate) fn post(
         &mut self,
         effects: &mut Effects,
@@ -70,6 +73,7 @@ impl Member {
 
     /// Sends a message: its row, and its arrival unless it is lost.
     #[tactic(auto, unfolding(crate::specs::Send::posted))]
+    #[inline(always)]
     pub(crate) fn send(
         &mut self,
         effects: &mut Effects,
@@ -98,6 +102,7 @@ impl Member {
     }
 
     /// The updates that a message takes along, the buddy first where there is one.
+    #[inline(always)]
     pub(crate) fn pick(&mut self, here: &Here, buddy: Option<Update>) -> Result<Updates, StepError>
         requires { KnowsMembers here.now self.old }
         ensures updates { IfOk result (λ updates. updates ≡ carried here.now.scenario.now buddy (state_of self.old)) }
@@ -107,6 +112,16 @@ impl Member {
         if buddy.is_none() && self.buffer.is_empty() {
             return Ok(Updates::of(Vec::new(here.alloc)));
         }
+        self.pick_some(here, buddy)
+    }
+
+    /// The same, where there may be some.
+    fn pick_some(&mut self, here: &Here, buddy: Option<Update>) -> Result<Updates, StepError>
+        requires { KnowsMembers here.now self.old }
+        ensures updates { IfOk result (λ updates. updates ≡ carried here.now.scenario.now buddy (state_of self.old)) }
+        ensures state { IsMade result (state_of self.new) (with_picks here.now.scenario.now buddy (state_of self.old)) }
+        ensures kept { OnOk result (KnowsMembers here.now self.new) }
+    {
         let swim = here.scenario.swim();
         let limit = swim.lambda * u64::from(digits(self.live_members(here)));
         let updates = self.buffer.pick(swim.carry as usize, limit, buddy)?;

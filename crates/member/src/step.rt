@@ -2,6 +2,7 @@
 ghost use Rattle.std.specs.Prelude.{◌≡◌, ◌++◌, [], OnOk, IfErr, IsErrOf};
 ghost use Rattle.std.specs.Option.{option_map_or};
 ghost use Rattle.member.specs.declared.event.Effects.{Effects as Made};
+ghost use Rattle.member.specs.declared.event.Event.{Event as OneEvent};
 ghost use Rattle.scenario.specs.Setup.{member_count};
 ghost use Rattle.member.specs.Here.{IsSoundSetting, HoldsMembers};
 ghost use Rattle.member.specs.Makes.{KnowsMembers, Makes};
@@ -18,7 +19,7 @@ use crate::event_kind::EventKind;
 use crate::here::Here;
 use crate::member::{Member, Phase};
 use crate::step_error::StepError;
-use base::Profile;
+use base::{Key, Profile};
 use links::Links;
 use scenario::Scenario;
 use std::alloc::Global;
@@ -202,6 +203,27 @@ impl Member {
         }
     }
 
+    /// Handles an event, and appends to `out` what it makes.
+    #[tactic(auto, unfolding(crate::specs::Step::step))]
+    fn append_made(
+        &mut self,
+        out: &mut Effects,
+        here: &Here,
+        content: &EventKind,
+    ) -> Result<(), StepError>
+        requires known { KnowsMembers here.now self.old }
+        requires names { MentionsMembers (member_count here.now.scenario.now) content.now }
+        ensures ok { let event : OneEvent = record { key = here.now.key; content = content.now } in
+            OnOk result (Steps here.now.scenario.now event self.old self.new out.old out.new) }
+        ensures overflow { IsErrOf result StepError.CounterOverflow → IsOverflowed (step here.now.scenario.now here.now.key content.now (state_of self.old)).state }
+        ensures within { OnOk result (¬ (IsOverflowed (state_of self.new))) }
+        ensures kept { OnOk result (KnowsMembers here.now self.new) }
+    {
+        let before = set_aside(here.alloc, out);
+        self.handle(out, here, content)?;
+        put_before(before, out)
+    }
+
     /// Handles an event of the member's own: its state is that of the step after it, and the events and
     /// the rows that the step makes are appended to `out`.
     ///
@@ -224,16 +246,25 @@ impl Member {
         ensures within { OnOk result (¬ (IsOverflowed (state_of self.new))) }
         ensures kept { OnOk result (HoldsMembers scenario.now event.key.to (state_of self.new)) }
     {
-        let Event { key, content } = event;
+        // Part by part: as one block of bytes, right after its parts were written, the key would wait for these writes.
+        let Key {
+            at,
+            to,
+            from,
+            number,
+        } = event.key;
         let here = Here {
             alloc,
-            key,
+            key: Key {
+                at,
+                to,
+                from,
+                number,
+            },
             scenario,
             links,
         };
-        let before = set_aside(alloc, out);
-        self.handle(out, &here, &content)?;
-        put_before(before, out)
+        self.append_made(out, &here, &event.content)
     }
 }
 

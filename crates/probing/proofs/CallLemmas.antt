@@ -1,10 +1,9 @@
 -- What a call leaves, over the list and the mark that the code reaches.
-use Rattle.std.proofs.Common.{◌≡◌, ◌≢◌, ℕ, ◌+◌, ◌-◌, ◌^◌, ◌<◌, ◌≤◌, ◌==◌, Bool, true, false, nat_lt, if◌then◌else◌, List, [], ◌∷◌, length, get_or, Option, Some, position, insert, remove, refl, sym, ap, ◌∙◌, arith}
+use Rattle.std.proofs.Common.{◌≡◌, ◌≢◌, ℕ, ◌+◌, ◌-◌, ◌^◌, ◌<◌, ◌≤◌, ◌==◌, Bool, true, false, nat_lt, if◌then◌else◌, List, [], ◌∷◌, length, slice_get, Option, Some, position, insert, remove, refl, sym, ap, ◌∙◌, arith}
 use Rattle.std.specs.List.{All}
 use Rattle.std.specs.List.Sorted.{IsPermutation}
 use Rattle.std.proofs.lemmas.Bool.{ne_eqb, eq-eqb}
 use Rattle.std.proofs.lemmas.Bool.Decides.{nat_tests}
-use Rattle.std.proofs.lemmas.Option.{slice_get_read}
 use Rattle.std.proofs.lemmas.List.Edits.{length-insert, length-remove}
 use Rattle.std.proofs.lemmas.List.Elements.{All-head, All-tail}
 use Rattle.std.proofs.lemmas.List.Quantifiers.{position-Some}
@@ -64,12 +63,11 @@ ready_within words xs mark sound before =
 
 -- then the member at the mark is the answer
 pub next_from_ready : (words words' : Words) (order : ProbeOrder) (members : List ℕ) (mark member : ℕ) → 0 < length order.members
-    → IsReady words order words' members mark → member ≡ get_or members mark member
+    → IsReady words order words' members mark → slice_get members mark ≡ Some member
     → (Some member, record { members = members; mark = mark + 1 }, words') ≡ next_of words order
 unfolding next_of
-next_from_ready words words' order members mark member some ready is =
+next_from_ready words words' order members mark member some ready read =
     let full : (length order.members == 0) ≡ false = ne_eqb (length order.members) 0 (omega arith) in
-    let read = slice_get_read members (length members) mark member refl ready.within is in
     rw full (
     ap (λ (o : Option ℕ). (o, record { members = members; mark = mark + 1 }, words')) (sym read)
     ∙ ap probed_at ready.is

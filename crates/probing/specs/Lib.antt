@@ -1,4 +1,5 @@
 pub use Rattle.streams.specs.Draw
 pub mod ProbeOrder
+pub mod Ahead
 pub mod Rounds
 pub mod Samples

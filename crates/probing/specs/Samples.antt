@@ -1,5 +1,5 @@
 -- Whom one chooses among those whom one knows, where some fit (memberlist's rules). A call that draws gives the rest of the words too.
-use Rattle.std.specs.Prelude.{◌≡◌, ℕ, zero, suc, ◌*◌, ◌==◌, ◌&&◌, Bool, true, false, not, nat_lt, if◌then◌else◌, List, [], ◌∷◌, ◌++◌, length, slice_index_or}
+use Rattle.std.specs.Prelude.{ℕ, zero, suc, ◌*◌, ◌==◌, ◌&&◌, Bool, false, not, nat_lt, if◌then◌else◌, List, [], ◌∷◌, ◌++◌, length, slice_index_or}
 use Rattle.std.specs.List.{list_any}
 use Rattle.streams.specs.Draw.{Words, below_of}
 use Rattle.membership.specs.declared.candidates.Candidate.{Candidate}

@@ -1,7 +1,7 @@
 //! Which member is probed next (SWIM, section 4.3), and which members help (section 3.1).
 #![tactic(auto)]
 
-ghost use Rattle.std.specs.Prelude.{◌≡◌, ◌==◌, IfOk, OnOk, OnErr, ◌<◌, ◌^◌, All, position};
+ghost use Rattle.std.specs.Prelude.{◌≡◌, ◌==◌, Some, IfOk, OnOk, OnErr, ◌+◌, ◌-◌, ◌<◌, ◌≤◌, ◌^◌, nat_lt, if◌then◌else◌, length, slice_get, All, position};
 ghost use Rattle.streams.specs.Draw.{words_of};
 ghost use Rattle.probing.specs.ProbeOrder.{NoRepeats, IsSoundOrder, times_in, round_over, next_of, insert_of, remove_of, helpers_of};
 
@@ -19,17 +19,20 @@ use streams::Stream;
 pub struct Rota {
     members: Vec<MemberId>,
     mark: usize,
+    /// The member at the mark. It is read when the mark is set, a period before it is needed, so that no probe waits
+    /// for memory.
+    ahead: MemberId,
 }
 
 impl Model for Rota {
-    ghost use Rattle.probing.specs.ProbeOrder.{ProbeOrder, IsSoundOrder};
+    ghost use Rattle.probing.specs.ProbeOrder.{ProbeOrder};
+    ghost use Rattle.probing.specs.Ahead.{IsStored};
 
     ghost Value = { ProbeOrder };
 
     ghost view = { λ rota. record { members = rota.members.items; mark = rota.mark } };
 
-    ghost invariant = { λ rota.
-        IsSoundOrder (record { members = rota.members.items; mark = rota.mark }) };
+    ghost invariant = { λ rota. IsStored rota.members.items rota.mark rota.ahead };
 }
 
 impl Rota {
@@ -42,7 +45,12 @@ impl Rota {
     {
         see_numbers(&members);
         let mark = members.len();
-        Ok(Rota { members, mark })
+        let ahead = MemberId(0);
+        Ok(Rota {
+            members,
+            mark,
+            ahead,
+        })
     }
 
     /// The member to probe next, if there is one. Where the round is over, a new one begins: the
@@ -59,9 +67,11 @@ impl Rota {
         if self.mark == self.members.len() {
             stream.shuffle(&mut self.members);
             self.mark = 0;
+            self.ahead = member_at(&self.members, 0);
         }
-        let member = self.members[self.mark];
+        let member = self.ahead;
         self.mark += 1;
+        self.ahead = member_at(&self.members, self.mark);
         Some(member)
     }
 
@@ -82,9 +92,8 @@ impl Rota {
         see_numbers(&[member]);
         let place = stream.below(self.members.len() as u32 + 1) as usize;
         self.members.insert(place, member).unwrap();
-        if place < self.mark {
-            self.mark += 1;
-        }
+        self.mark = mark_with(self.mark, place);
+        self.ahead = member_at(&self.members, self.mark);
         Ok(())
     }
 
@@ -98,9 +107,8 @@ impl Rota {
             return;
         };
         self.members.remove(place);
-        if place < self.mark {
-            self.mark -= 1;
-        }
+        self.mark = mark_without(self.mark, place);
+        self.ahead = member_at(&self.members, self.mark);
     }
 }
 
@@ -118,6 +126,31 @@ fn number(member: MemberId) -> u16
     ensures { result ≡ member }
 {
     member.0
+}
+
+/// Where the mark is once a member was put at a place.
+fn mark_with(mark: usize, place: usize) -> usize
+    requires { mark ≤ 2 ^ 16 }
+    ensures { result ≡ (if nat_lt place mark then mark + 1 else mark) }
+{
+    if place < mark { mark + 1 } else { mark }
+}
+
+/// Where the mark is once the member at a place was taken out.
+fn mark_without(mark: usize, place: usize) -> usize
+    ensures { result ≡ (if nat_lt place mark then mark - 1 else mark) }
+{
+    if place < mark { mark - 1 } else { mark }
+}
+
+/// The member at a place: any one past the end.
+fn member_at(members: &[MemberId], place: usize) -> MemberId
+    ensures { place < length members.now → slice_get members.now place ≡ Some result }
+{
+    match members.get(place) {
+        Some(member) => *member,
+        None => MemberId(0),
+    }
 }
 
 /// The place of a member in a list, if it is there.

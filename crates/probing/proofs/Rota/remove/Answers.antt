@@ -4,17 +4,12 @@ use Rattle.probing.proofs.CallLemmas.{sound_removed}
 use Rattle.probing.proofs.Rota.remove.Goals as goal
 
 pub invariant_of-self : goal.invariant_of-self
-invariant_of-self c =
-    sound_removed c.self.inside.members.items _ _ _ _ _ _ c.self.invariant c.deref.ensures.value c.in-Some.ensures
-    c.remove.ensures.items (grind (arith, nat_tests))
+invariant_of-self c = record {
+  sound =
+      sound_removed c.self.inside.members.items _ _ _ _ _ _ c.self.invariant.sound c.deref.ensures.value c.in-Some.ensures
+      c.remove-self-inside.ensures.items (grind (arith, nat_tests, c.mark_without-self-inside.ensures));
+  ahead = rw c.deref-2.ensures.value at c.member_at-self-inside.ensures;
+}
 
-pub invariant_of-self-else-place-self : goal.invariant_of-self-else-place-self
-invariant_of-self-else-place-self c =
-    sound_removed c.self.inside.members.items _ _ _ _ _ _ c.self.invariant c.deref.ensures.value c.in-Some.ensures
-    c.remove.ensures.items (grind (arith, nat_tests))
-
-pub returns-then-place-self-clause-sound : goal.returns-then-place-self-clause-sound
-returns-then-place-self-clause-sound c = invariant_of-self c
-
-pub returns-else-place-self-clause-sound : goal.returns-else-place-self-clause-sound
-returns-else-place-self-clause-sound c = invariant_of-self-else-place-self c
+pub returns-clause-sound : goal.returns-clause-sound
+returns-clause-sound c = (invariant_of-self c).sound

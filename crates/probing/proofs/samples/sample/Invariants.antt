@@ -1,4 +1,4 @@
-use Rattle.std.proofs.Common.{◌≡◌, ◌*◌, ◌≤◌, length, []}
+use Rattle.std.proofs.Common.{◌≡◌, ◌*◌, length, []}
 use Rattle.streams.specs.Draw.{words_of}
 use Rattle.probing.specs.Samples.{sampled_by}
 use Rattle.probing.proofs.samples.sample.Given as goal
