@@ -13,7 +13,5 @@ pub use command_line::{
     SweepWords, division_asked, parse, refuse, workers_asked,
 };
 pub use files::{FileFault, Files, PairFault, ReadFault, TripleFault, testing};
-pub use page_runs::RunShown;
 pub use program::command;
 pub use scenario_files::check;
-pub use simulation::{simulate, simulate_with_page};

@@ -20,7 +20,7 @@ use Rattle.page_runs.specs.Pages.{BeginsPage, WritesPage}
 use Rattle.page_runs.specs.Promise.{KeepsPagePromise}
 use Rattle.page_runs.specs.Told.{TellsRun, rows_told}
 use Rattle.ticks.specs.declared.tick.Tick.{Tick}
-use Rattle.page_runs.specs.declared.told.RunTold.{RunTold}
+use Rattle.page_runs.specs.declared.page_data.PageData.{PageData}
 
 module _ {A B : Type 0} (held : A → Option (List ℕ)) (failed : A → ℕ) (held_report : B → Option (List ℕ)) (failed_report : B → ℕ) (s : Setup) where
   -- a run that was refused memory before it began
@@ -32,7 +32,7 @@ module _ {A B : Type 0} (held : A → Option (List ℕ)) (failed : A → ℕ) (h
 module _ {A B C : Type 0} (held : A → Option (List ℕ)) (failed : A → ℕ) (held_report : B → Option (List ℕ)) (failed_report : B → ℕ)
     (held_page : C → Option (List ℕ)) (failed_page : C → ℕ) (time : Option Tick) (name release : List ℕ) (s : Setup) (trace_old trace_new : A) (report_old report_new : B) where
   -- it broke off before its page
-  pub unpaged : (page : C) (outcome : Result RunTold Fault) (fault : Fault) → outcome ≡ Err fault
+  pub unpaged : (page : C) (outcome : Result PageData Fault) (fault : Fault) → outcome ≡ Err fault
       → KeepsPromise held failed held_report failed_report s trace_old trace_new report_old report_new (summed (rows_told outcome))
       → KeepsPagePromise held failed held_report failed_report held_page failed_page time name release s trace_old trace_new report_old report_new page page (Err fault)
   unpaged page outcome fault is promise = record {
@@ -71,7 +71,7 @@ module _ {A B C : Type 0} (held : A → Option (List ℕ)) (failed : A → ℕ) 
       begun (inr part) = inr (inl (part.0, part.1, Keeps-same (held_page page)))
 
   -- its trace and its report are whole: they are of the rows that were told, since there is one run
-  module _ (page_old page_new : C) (outcome : Result RunTold Fault) (told : RunTold) (is : outcome ≡ Ok told)
+  module _ (page_old page_new : C) (outcome : Result PageData Fault) (told : PageData) (is : outcome ≡ Ok told)
       (promise : KeepsPromise held failed held_report failed_report s trace_old trace_new report_old report_new (summed (rows_told outcome)))
       (tells_outcome : IfOk outcome (TellsRun s)) (one : (first second : List Row) → IsRunOf s first → IsRunOf s second → first ≡ second) where
     kept : KeepsPromise held failed held_report failed_report s trace_old trace_new report_old report_new (Ok (record { rows = length told.tallies }))

@@ -1,11 +1,10 @@
-//! Runs of a scenario that write a page beside their trace and their report.
+//! The series of a run's page, gathered as the rows come, and its text.
 #![tactic(auto)]
 
+mod page_data;
 mod page_series;
-mod paged;
 mod paging;
-mod told;
 
-pub use paged::run_with_page;
-pub use paging::RunShown;
-pub use run_output::Summary;
+pub use page_data::PageData;
+pub use page_series::PageSeries;
+pub use paging::{RunShown, write_page};

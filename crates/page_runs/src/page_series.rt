@@ -29,7 +29,10 @@ impl PageSeries {
 impl RowObserver for PageSeries {
     ghost has = { λ gathered s rows. AreSeriesOf s gathered.series rows };
 
-    fn add(&mut self, row: &Row, scenario: &Scenario) -> Result<(), Fault> {
-        self.series.add(row, scenario)
+    fn add_all(&mut self, rows: &[Row], scenario: &Scenario) -> Result<(), Fault> {
+        for row in rows {
+            self.series.add(row, scenario)?;
+        }
+        Ok(())
     }
 }

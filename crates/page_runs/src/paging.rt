@@ -1,11 +1,11 @@
-//! The page of a run whose rows were told.
+//! The page of a run, written once its rows were gathered.
 ghost use Rattle.std.specs.Prelude.{◌≡◌, ◌≢◌, ◌+◌, ◌<◌, ◌^◌, length, IfOk, IfErr, OnOk, OnErr, IsErrOf, string_bytes};
 ghost use Rattle.std.specs.Io.KnownBytes.{Appends};
 ghost use Rattle.trace.specs.Sinks.{AppendsBeginning, failure_if_stopped};
 ghost use Rattle.page_runs.specs.Pages.{IsPageOf, WritesPage, BeginsPage};
 ghost use Rattle.page_runs.specs.Told.{TellsRun};
 
-use crate::told::RunTold;
+use crate::page_data::PageData;
 use base::{Fault, Memory};
 use run_output::Summary;
 use run_page::{Run, page};
@@ -25,14 +25,14 @@ pub struct RunShown<'a> {
     pub tick: Option<Tick>,
 }
 
-/// Writes the page of a run, flushes its sink, and sums the run up.
+/// Writes the page of a run by what was gathered of its rows, flushes its sink, and sums the run up.
 ///
 /// Faults: `Memory`; `Write` where the sink failed.
-pub(crate) fn write_page<C: Sink>(
+pub fn write_page<C: Sink>(
     alloc: Global,
     scenario: &Scenario,
     shown: &RunShown<'_>,
-    told: &RunTold,
+    told: &PageData,
     out: &mut C,
 ) -> Result<Summary, Fault>
     requires told { TellsRun scenario.now told.now }
@@ -70,7 +70,7 @@ fn page_of(
     alloc: Global,
     scenario: &Scenario,
     shown: &RunShown<'_>,
-    told: &RunTold,
+    told: &PageData,
 ) -> Result<String, Memory>
     requires told { TellsRun scenario.now told.now }
     ensures { IfOk result (λ text. IsPageOf shown.now.tick shown.now.name.now scenario.now told.now.tallies shown.now.release.now (string_bytes text)) }

@@ -1,9 +1,11 @@
 -- What goes over a part's relay, and how the relays of a run end.
-use Rattle.std.proofs.Common.{◌≡◌, ℕ, zero, suc, Bool, true, false, ◌||◌, List, [], ◌∷◌, ◌++◌, length, Some, ap, ◌∙◌, sym, subst, refl}
+use Rattle.std.proofs.Common.{◌≡◌, ℕ, zero, suc, Bool, true, false, ◌||◌, List, Vec, Global, [], ◌∷◌, ◌++◌, length, Some, ap, ◌∙◌, sym, subst, refl}
 use Rattle.std.specs.List.{slice_get, AllByRecursion}
 use Rattle.std.proofs.lemmas.Option.{none-some, same_Some}
 use Rattle.std.proofs.lemmas.List.Folds.{list_any-append}
 use Rattle.base.proofs.Rising.{all_weaker}
+use Rattle.scenario.specs.Setup.{Setup}
+use Rattle.scenario.specs.Division.{Deal}
 use Rattle.relay.specs.Lots.{has_last}
 use Rattle.relay.specs.Seats.{given_of, sent_by, taken_by, IsSender, IsTaker}
 use Rattle.relay.specs.declared.relay.SendSeat.{SendSeat}
@@ -15,8 +17,9 @@ use Rattle.parallel_run.specs.declared.row_batch.Delivery.{Delivery}
 use Rattle.parallel_run.specs.declared.row_relay.RunBasis.{RunBasis}
 use Rattle.parallel_run.specs.declared.row_relay.RelaySeats.{RelaySeats}
 use Rattle.parallel_run.specs.declared.closed_relay.ClosedRelay.{ClosedRelay}
-use Rattle.parallel_run.specs.Relaying.{RowRelay, basis_in, is_end, is_last_batch, has_last_batch}
-use Rattle.parallel_run.specs.Relays.{AreNewSeats, IsClosed}
+use Rattle.parallel_run.specs.declared.closed_relay.RunRelays.{RunRelays}
+use Rattle.parallel_run.specs.Relaying.{RowRelay, basis_by, basis_in, is_end, is_last_batch, has_last_batch}
+use Rattle.parallel_run.specs.Relays.{AreClosed, AreNewSeats, AreRelayed, IsClosed, IsMadeFor, IsOfRun}
 
 -- ---- what was sent and received
 
@@ -95,3 +98,16 @@ pub closed_more : (relays : List RowRelay) (closed more : List ClosedRelay) (one
     → ((i : ℕ) (l : ClosedRelay) → slice_get closed i ≡ Some l → IsClosed relays i l) → IsClosed relays (length closed) one → more ≡ closed ++ one ∷ []
     → (i : ℕ) (l : ClosedRelay) → slice_get more i ≡ Some l → IsClosed relays i l
 closed_more relays closed more one before is joined i l here = pushed_each (IsClosed relays) closed one before is i l (ap (λ ls. slice_get ls i) (sym joined) ∙ here)
+
+-- relays that were made for what goes by these are of that run
+pub of_one_run : (s : Setup) (deal : Deal) (ways : List ℕ) (basis : Basis) → basis ≡ basis_by s deal ways → (relays : List RowRelay) → AllByRecursion (IsMadeFor basis) relays → AllByRecursion (IsOfRun s deal) relays
+of_one_run s deal ways basis same relays made = all_weaker (IsMadeFor basis) (IsOfRun s deal) (λ relay is. (ways, is ∙ same)) relays made
+
+-- the relays of a run were closed, of which nothing else is kept
+pub are_closed : (s : Setup) (deal : Deal) (ways : List ℕ) (basis : Basis) (account : RunRelays) (relays : Vec RowRelay Global) (slice : List RowRelay) → account.relays.value ≡ relays → basis ≡ basis_by s deal ways
+    → length relays.items ≡ deal.parts → AllByRecursion (IsMadeFor basis) relays.items → slice ≡ relays.items → AreRelayed slice account.closed.items → AreClosed s deal account
+are_closed s deal ways basis account relays slice kept same count made whole relayed = record {
+  count = ap (λ (v : Vec RowRelay Global). length v.items) kept ∙ count;
+  made = subst (λ (v : Vec RowRelay Global). AllByRecursion (IsOfRun s deal) v.items) (sym kept) (of_one_run s deal ways basis same relays.items made);
+  relayed = subst (λ (v : Vec RowRelay Global). AreRelayed v.items account.closed.items) (sym kept) (subst (λ l. AreRelayed l account.closed.items) whole relayed);
+}

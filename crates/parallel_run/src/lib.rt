@@ -34,4 +34,5 @@ mod window_message;
 mod worker;
 mod writer;
 
-pub use run::{run_by_rings, run_by_rings_gathered};
+pub use closed_relay::RunRelays;
+pub use run::run_by_rings;

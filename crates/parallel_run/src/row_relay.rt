@@ -2,7 +2,7 @@
 ghost use Rattle.std.specs.Prelude.{◌≡◌, length, IfOk};
 ghost use Rattle.std.specs.List.{AllByRecursion};
 ghost use Rattle.parallel_run.specs.Relaying.{basis_in, basis_by};
-ghost use Rattle.parallel_run.specs.Relays.{AreNewSeats};
+ghost use Rattle.parallel_run.specs.Relays.{AreNewSeats, IsMadeFor};
 
 use crate::row_batch::Delivery;
 use base::Memory;
@@ -73,6 +73,7 @@ pub(crate) fn relays_of(
 ) -> Result<(Vec<RowRelay>, Vec<RelaySeats>), Memory>
     ensures count { IfOk result (λ r. (length r.0.items ≡ count) × (length r.1.items ≡ count)) }
     ensures seats { IfOk result (λ r. AllByRecursion (AreNewSeats r.0.items (basis_in run.now)) r.1.items) }
+    ensures given { IfOk result (λ r. AllByRecursion (IsMadeFor (basis_in run.now)) r.0.items) }
 {
     let mut relays = Vec::new(alloc);
     let mut all = Vec::new(alloc);

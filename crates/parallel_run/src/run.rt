@@ -16,12 +16,12 @@ ghost use Rattle.run_output.specs.Traced.{IsEarly, KeepsTrace};
 ghost use Rattle.lookahead_windows.specs.Basis.{basis_of, GoBy};
 ghost use Rattle.lookahead_windows.specs.Bounds.{AwaitsRounds, AwaitsRun};
 ghost use Rattle.parallel_run.specs.Closing.{TakesAll};
-ghost use Rattle.parallel_run.specs.Relays.{AreNewSeats, AreRelayed};
+ghost use Rattle.parallel_run.specs.Relays.{AreNewSeats, AreRelayed, AreClosed};
 ghost use Rattle.parallel_run.specs.Processes.{IsReady};
 ghost use Rattle.parallel_run.specs.Starting.{MayStart};
 
 use crate::board_item::{BoardItem, RunBoard, RunPost, RunSeat};
-use crate::closed_relay::ClosedRelay;
+use crate::closed_relay::{ClosedRelay, RunRelays};
 use crate::closing::{SEATS, closed, no_seats};
 use crate::crew::Crew;
 use crate::hold::deal;
@@ -39,10 +39,7 @@ use lookahead::horizons;
 use lookahead_windows::{Gate, Rounds, first_moment_of, lesser_moment, rounds_of, ways_into};
 use member::Event;
 use reports::Tallies;
-use run_output::{
-    RowObserver, RowSink, Summary, TraceAndGathered, Written, WrittenAndGathered, end_run,
-    end_tallied,
-};
+use run_output::{RowObserver, RowSink, TraceAndGathered, Written, end_run};
 use scenario::{Division, Scenario, Workers};
 use std::alloc::Global;
 use std::marker::{Brand, Sync};
@@ -57,50 +54,17 @@ use worker_queue::{EventQueue, WheelQueue};
 /// Runs the scenario by the parts of a division of its members, round after round, by as many workers
 /// as are asked for, but no more than there are parts. It writes what `run_one` writes, whatever the
 /// division and the number of workers are: the trace, and once that is whole and its sink flushed the
-/// report, whose sink is flushed too. After a fault the sinks have got a beginning of that. Each
-/// worker tells the gate of each of its parts before it runs it in a round, and below which bound: its
-/// own, no later than the moment before which nothing can come to the part, and no earlier than one that
-/// would serve all parts. The sinks stay on the calling thread. It waits for its threads.
+/// report, whose sink is flushed too. After a fault the sinks have got a beginning of that. An observer
+/// gathers of the rows what it does, as they come. Each worker tells the gate of each of its parts
+/// before it runs it in a round, and below which bound: its own, no later than the moment before which
+/// nothing can come to the part, and no earlier than one that would serve all parts. The sinks and the
+/// observer stay on the calling thread. It waits for its threads. `account` gets the relays of the run,
+/// as they were closed. Returns the tallies of the rows.
 ///
 /// Faults: `Memory`; `CounterOverflow` where a counter of the run or of the report would pass 2^63; `Write`
 /// where a sink failed; `ThreadLost` where a thread could not be started, or did not hand on what it was
 /// given. Of several the first in this order.
-pub fn run_by_rings<A: Sink, B: Sink, G: Gate, R: Threads + Wait + Sync>(
-    rt: &R,
-    alloc: Global,
-    scenario: &Scenario,
-    division: &Division,
-    workers: Workers,
-    gate: &G,
-    trace: &mut A,
-    report: &mut B,
-) -> Result<Summary, Fault>
-    requires divides { length division.now.part_of ≡ member_count scenario.now }
-    requires countable { A.failed trace.old < 2 ^ 63 }
-    requires countable_report { B.failed report.old < 2 ^ 63 }
-
-    // The gate allows for each worker, and for each part in each round below its own bound there.
-    requires known { KnowsAll G.knows workers }
-    requires windows { AwaitsRun G.awaits scenario.now division.now }
-
-    // The sinks get exactly the trace of the scenario's run, and the report on it; after a fault a beginning of that.
-    ensures promise { KeepsPromise A.held A.failed B.held B.failed scenario.now trace.old trace.new report.old report.new result }
-
-    // No count of its report passes 2^63, and no fault comes without its cause.
-    ensures lasts_report { OnOk result (¬ (ReportOverflows scenario.now)) }
-    ensures overflow { IsErrOf result Fault.CounterOverflow → CounterOverflows scenario.now ⊎ ReportOverflows scenario.now }
-    ensures others { IsErrOf result Fault.ThreadLost → A.failed trace.new ≡ A.failed trace.old }
-{
-    let outcome = run_into::<Written, A, G, R>(rt, alloc, scenario, division, workers, gate, trace);
-    end_run(alloc, outcome, scenario, trace, report)
-}
-
-/// Runs the scenario as `run_by_rings` does, and gathers something else of the rows of its run as
-/// they come: that and the tallies of the rows are whole where it succeeds. They stay on the calling
-/// thread too.
-///
-/// Faults: as of `run_by_rings`.
-pub fn run_by_rings_gathered<A: Sink, B: Sink, C: RowObserver, G: Gate, R: Threads + Wait + Sync>(
+pub fn run_by_rings<A: Sink, B: Sink, C: RowObserver, G: Gate, R: Threads + Wait + Sync>(
     rt: &R,
     alloc: Global,
     scenario: &Scenario,
@@ -109,6 +73,7 @@ pub fn run_by_rings_gathered<A: Sink, B: Sink, C: RowObserver, G: Gate, R: Threa
     gate: &G,
     place: &mut TraceAndGathered<A, C>,
     report: &mut B,
+    account: &mut RunRelays,
 ) -> Result<Tallies, Fault>
     requires divides { length division.now.part_of ≡ member_count scenario.now }
     requires countable { A.failed place.old.trace < 2 ^ 63 }
@@ -127,15 +92,18 @@ pub fn run_by_rings_gathered<A: Sink, B: Sink, C: RowObserver, G: Gate, R: Threa
     ensures named { IfOk result (All (NamesMembers scenario.now)) }
     ensures gathered { IfOk result (C.has place.new.gathered scenario.now) }
 
+    // Each part of a run that succeeds has a relay, made for the run: what was sent over it was received, the part's last rows too.
+    ensures relayed { OnOk result (AreClosed scenario.now division.now account.new) }
+
     // No count of its report passes 2^63, and no fault comes without its cause.
     ensures lasts_report { OnOk result (¬ (ReportOverflows scenario.now)) }
     ensures overflow { IsErrOf result Fault.CounterOverflow → CounterOverflows scenario.now ⊎ ReportOverflows scenario.now }
     ensures others { IsErrOf result Fault.ThreadLost → A.failed place.new.trace ≡ A.failed place.old.trace }
 {
-    let outcome = run_into::<WrittenAndGathered, TraceAndGathered<A, C>, G, R>(
-        rt, alloc, scenario, division, workers, gate, place,
+    let outcome = run_into::<Written, TraceAndGathered<A, C>, G, R>(
+        rt, alloc, scenario, division, workers, gate, place, account,
     );
-    end_tallied(alloc, outcome, scenario, &mut place.trace, report)
+    end_run(alloc, outcome, scenario, &mut place.trace, report)
 }
 
 /// Runs the scenario by threads and takes its rows; nothing is flushed yet.
@@ -147,6 +115,7 @@ fn run_into<T: RowSink<P>, P, G: Gate, R: Threads + Wait + Sync>(
     workers: Workers,
     gate: &G,
     place: &mut P,
+    account: &mut RunRelays,
 ) -> Result<Tallies, Fault>
     requires divides { length division.now.part_of ≡ member_count scenario.now }
     requires countable { T.failed place.old < 2 ^ 63 }
@@ -155,6 +124,7 @@ fn run_into<T: RowSink<P>, P, G: Gate, R: Threads + Wait + Sync>(
     requires windows { AwaitsRun G.awaits scenario.now division.now }
     ensures trace { KeepsTrace scenario.now (T.held place.old) (T.held place.new) (T.failed place.old) (T.failed place.new) result }
     ensures gathered { IfOk result (T.gathered place.new scenario.now) }
+    ensures relayed { OnOk result (AreClosed scenario.now division.now account.new) }
     ensures sound { IsSound scenario.now }
 {
     let _end = scenario.end();
@@ -167,6 +137,7 @@ fn run_into<T: RowSink<P>, P, G: Gate, R: Threads + Wait + Sync>(
     let hands = workers.count().min(division.parts());
     let run = RunBasis::of(scenario, division, &ways);
     let (relays, relay_seats) = relays_of(alloc, &run, parts.len())?;
+    account.relays = Snapshot::of(&relays);
     by_workers::<T, P, WheelQueue<Event>, G, Brand, R>(
         rt,
         alloc,
@@ -177,10 +148,12 @@ fn run_into<T: RowSink<P>, P, G: Gate, R: Threads + Wait + Sync>(
         hands,
         gate,
         place,
+        &mut account.closed,
     )
 }
 
-/// Runs these parts by so many workers, and takes the rows, which go over these relays.
+/// Runs these parts by so many workers, and takes the rows, which go over these relays. `ended` gets their seats at the
+/// end.
 fn by_workers<
     'a,
     T: RowSink<P>,
@@ -199,6 +172,7 @@ fn by_workers<
     workers: usize,
     gate: &G,
     place: &mut P,
+    ended: &mut Vec<ClosedRelay>,
 ) -> Result<Tallies, Fault>
     requires rounds { GoBy rounds.now }
     requires run { K.basis ≡ Some (basis_of rounds.now) }
@@ -212,6 +186,7 @@ fn by_workers<
     requires none_gathered { T.gathered place.old rounds.now.cluster.scenario.now [] }
     ensures trace { KeepsTrace rounds.now.cluster.scenario.now (T.held place.old) (T.held place.new) (T.failed place.old) (T.failed place.new) result }
     ensures gathered { IfOk result (T.gathered place.new rounds.now.cluster.scenario.now) }
+    ensures relayed { OnOk result (AreRelayed relays.now ended.new.items) }
 {
     let event_counts = event_counts_of(alloc, parts.len())?;
     let ends = ends_of::<K>(alloc, relays, relay_seats)?;
@@ -228,9 +203,10 @@ fn by_workers<
         rounds.division.parts(),
         SEATS,
     )?;
-    let (outcome, _settled, _relayed) = over_board::<T, P, Q, G, K, R>(
+    let (outcome, _settled, relayed) = over_board::<T, P, Q, G, K, R>(
         rt, alloc, board, seats, relays, processes, workers, crew, rounds, gate, writer, place,
     );
+    *ended = relayed;
     outcome
 }
 

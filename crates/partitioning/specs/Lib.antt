@@ -3,3 +3,4 @@ pub mod Parts
 pub mod Paying
 pub mod Rounds
 pub mod Sites
+pub mod Closed

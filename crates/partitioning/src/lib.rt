@@ -9,4 +9,5 @@ mod round_length;
 mod shared;
 mod sites;
 
-pub use shared::{run_shared, run_shared_gathered};
+pub use parallel_run::RunRelays;
+pub use shared::run_shared;

@@ -4,16 +4,17 @@ ghost use Rattle.scenario.specs.Setup.{member_count};
 ghost use Rattle.trace.specs.Text.{NamesMembers};
 ghost use Rattle.member_laws.specs.Runs.{IsRunOf, CounterOverflows};
 ghost use Rattle.run_output.specs.Promise.{KeepsPromise, ReportOverflows, summed};
+ghost use Rattle.partitioning.specs.Closed.{ClosesRelays};
 
 use crate::choosing::chosen_parts;
 use crate::hands::simulating;
 use base::{Fault, Memory};
 use lookahead_windows::OpenGate;
-use parallel_run::{run_by_rings, run_by_rings_gathered};
+use parallel_run::{RunRelays, run_by_rings};
 use reports::Tallies;
-use run_output::{RowObserver, Summary, TraceAndGathered, end_run, end_tallied};
+use run_output::{RowObserver, TraceAndGathered, end_run};
 use scenario::{Division, Scenario, Workers};
-use sequential_run::{run_streamed, run_streamed_gathered};
+use sequential_run::run_streamed;
 use std::alloc::Global;
 use std::marker::Sync;
 use std::sync::Wait;
@@ -27,49 +28,12 @@ use trace::Sink;
 /// sites, or in turn, whichever have the longest rounds.
 /// Where no rounds are long enough, one worker runs all members while the calling thread writes.
 /// What is written is always the same: the trace, and once that is whole and its sink flushed the
-/// report, whose sink is flushed too. After a fault the sinks have got a beginning of that.
+/// report, whose sink is flushed too. After a fault the sinks have got a beginning of that. An observer
+/// gathers of the rows what it does, as they come. `account` gets the relays of a run by several
+/// workers, as they were closed. Returns the tallies of the rows.
 ///
 /// Faults: as of `parallel_run::run_by_rings`.
-pub fn run_shared<A: Sink, B: Sink, R: Threads + Wait + Sync>(
-    rt: &R,
-    alloc: Global,
-    scenario: &Scenario,
-    division: &Division,
-    workers: Workers,
-    trace: &mut A,
-    report: &mut B,
-) -> Result<Summary, Fault>
-    requires divides { length division.now.part_of ≡ member_count scenario.now }
-    requires countable { A.failed trace.old < 2 ^ 63 }
-    requires countable_report { B.failed report.old < 2 ^ 63 }
-
-    // The sinks get exactly the trace of the scenario's run, and the report on it; after a fault a beginning of that.
-    ensures promise { KeepsPromise A.held A.failed B.held B.failed scenario.now trace.old trace.new report.old report.new result }
-
-    // No count of its report passes 2^63, and no fault comes without its cause.
-    ensures lasts_report { OnOk result (¬ (ReportOverflows scenario.now)) }
-    ensures overflow { IsErrOf result Fault.CounterOverflow → CounterOverflows scenario.now ⊎ ReportOverflows scenario.now }
-    ensures others { IsErrOf result Fault.ThreadLost → A.failed trace.new ≡ A.failed trace.old }
-
-    // One worker alone loses nothing to threads.
-    ensures threads { IsErrOf result Fault.ThreadLost → 2 ≤ workers }
-{
-    let _end = scenario.end();
-    if workers.count() == 1 {
-        return run_streamed(alloc, scenario, trace, report);
-    }
-    let hands = simulating(rt, workers);
-    match chosen_parts(alloc, scenario, division, workers, hands.count()) {
-        Ok(parts) => run_by_rings(rt, alloc, scenario, &parts, hands, &OpenGate, trace, report),
-        Err(Memory) => end_run(alloc, Err(Fault::Memory), scenario, trace, report),
-    }
-}
-
-/// Runs the scenario as `run_shared` does, and gathers something else of the rows of its run as they
-/// come: that and the tallies of the rows are whole where it succeeds.
-///
-/// Faults: as of `run_shared`.
-pub fn run_shared_gathered<A: Sink, B: Sink, C: RowObserver, R: Threads + Wait + Sync>(
+pub fn run_shared<A: Sink, B: Sink, C: RowObserver, R: Threads + Wait + Sync>(
     rt: &R,
     alloc: Global,
     scenario: &Scenario,
@@ -77,6 +41,7 @@ pub fn run_shared_gathered<A: Sink, B: Sink, C: RowObserver, R: Threads + Wait +
     workers: Workers,
     place: &mut TraceAndGathered<A, C>,
     report: &mut B,
+    account: &mut RunRelays,
 ) -> Result<Tallies, Fault>
     requires divides { length division.now.part_of ≡ member_count scenario.now }
     requires countable { A.failed place.old.trace < 2 ^ 63 }
@@ -91,6 +56,10 @@ pub fn run_shared_gathered<A: Sink, B: Sink, C: RowObserver, R: Threads + Wait +
     ensures named { IfOk result (All (NamesMembers scenario.now)) }
     ensures gathered { IfOk result (C.has place.new.gathered scenario.now) }
 
+    // By several workers each part of a run that succeeds has a relay, made for the run: what was sent over it was received, the
+    // part's last rows too.
+    ensures relayed { OnOk result (2 ≤ workers → ClosesRelays scenario.now account.new) }
+
     // No count of its report passes 2^63, and no fault comes without its cause.
     ensures lasts_report { OnOk result (¬ (ReportOverflows scenario.now)) }
     ensures overflow { IsErrOf result Fault.CounterOverflow → CounterOverflows scenario.now ⊎ ReportOverflows scenario.now }
@@ -101,14 +70,14 @@ pub fn run_shared_gathered<A: Sink, B: Sink, C: RowObserver, R: Threads + Wait +
 {
     let _end = scenario.end();
     if workers.count() == 1 {
-        return run_streamed_gathered(alloc, scenario, place, report);
+        return run_streamed(alloc, scenario, place, report);
     }
     let hands = simulating(rt, workers);
     match chosen_parts(alloc, scenario, division, workers, hands.count()) {
-        Ok(parts) => run_by_rings_gathered(
-            rt, alloc, scenario, &parts, hands, &OpenGate, place, report,
+        Ok(parts) => run_by_rings(
+            rt, alloc, scenario, &parts, hands, &OpenGate, place, report, account,
         ),
-        Err(Memory) => end_tallied(
+        Err(Memory) => end_run(
             alloc,
             Err(Fault::Memory),
             scenario,

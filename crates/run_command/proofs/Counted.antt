@@ -16,26 +16,26 @@ without_nowhere (inr (inl more)) = absurd (omega (arith, more))
 without_nowhere (inr (inr q)) = inr q
 
 -- one file was closed
-pub one_grew : (before made after first : ℕ) → made ≡ before → after ≡ made + first → 0 < first → before < after
-one_grew before made after first same closed more = omega (arith, same, closed, more)
+pub one_grew : (before made after low first : ℕ) → made ≡ before → after ≡ made + first → low < first → before < after
+one_grew before made after low first same closed more = omega (arith, same, closed, more)
 
 pub one_kept : (before made after first : ℕ) → made ≡ before → after ≡ made + first → first ≡ 0 → after ≡ before
 one_kept before made after first same closed none = omega (arith, same, closed, none)
 
 -- two files were
-pub two_grew : (before made one after first low second : ℕ) → made ≡ before → one ≡ made + first → after ≡ one + second → (0 < first) ⊎ (low < second) → before < after
-two_grew before made one after first low second same closed closed_too (inl more) = omega (arith, same, closed, closed_too, more)
-two_grew before made one after first low second same closed closed_too (inr more) = omega (arith, same, closed, closed_too, more)
+pub two_grew : (before made one after low first deep second : ℕ) → made ≡ before → one ≡ made + first → after ≡ one + second → (low < first) ⊎ (deep < second) → before < after
+two_grew before made one after low first deep second same closed closed_too (inl more) = omega (arith, same, closed, closed_too, more)
+two_grew before made one after low first deep second same closed closed_too (inr more) = omega (arith, same, closed, closed_too, more)
 
 pub two_kept : (before made one after first second : ℕ) → made ≡ before → one ≡ made + first → after ≡ one + second → (first ≡ 0) × (second ≡ 0) → after ≡ before
 two_kept before made one after first second same closed closed_too none = omega (arith, same, closed, closed_too, none.0, none.1)
 
 -- three were
-pub three_grew : (before made one two after first low second third : ℕ) → made ≡ before → one ≡ made + first → two ≡ one + second → after ≡ two + third
-    → (0 < first) ⊎ ((low < second) ⊎ (0 < third)) → before < after
-three_grew before made one two after first low second third same closed closed_too closed_last (inl more) = omega (arith, same, closed, closed_too, closed_last, more)
-three_grew before made one two after first low second third same closed closed_too closed_last (inr (inl more)) = omega (arith, same, closed, closed_too, closed_last, more)
-three_grew before made one two after first low second third same closed closed_too closed_last (inr (inr more)) = omega (arith, same, closed, closed_too, closed_last, more)
+pub three_grew : (before made one two after low first deep second deeper third : ℕ) → made ≡ before → one ≡ made + first → two ≡ one + second → after ≡ two + third
+    → (low < first) ⊎ ((deep < second) ⊎ (deeper < third)) → before < after
+three_grew before made one two after low first deep second deeper third same closed closed_too closed_last (inl more) = omega (arith, same, closed, closed_too, closed_last, more)
+three_grew before made one two after low first deep second deeper third same closed closed_too closed_last (inr (inl more)) = omega (arith, same, closed, closed_too, closed_last, more)
+three_grew before made one two after low first deep second deeper third same closed closed_too closed_last (inr (inr more)) = omega (arith, same, closed, closed_too, closed_last, more)
 
 pub three_kept : (before made one two after first second third : ℕ) → made ≡ before → one ≡ made + first → two ≡ one + second → after ≡ two + third
     → (first ≡ 0) × (second ≡ 0) × (third ≡ 0) → after ≡ before

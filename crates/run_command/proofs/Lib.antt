@@ -1,4 +1,5 @@
 pub mod Causes
 mod Counted
 mod Stored
+mod Ending
 mod Paged

@@ -97,6 +97,11 @@ DoesRun release words before after making count = (run : RunWords) × AsksForRun
 
 -- ---- what was not done
 
+-- By which faults the run of a scenario may end: by a counter past its limit only where one would pass it, by what threads lost only
+-- where they may lose something.
+abbrev pub MayEndRun : Setup → Type 0 → Fault → Type 0
+MayEndRun s Loses cause = (cause ≡ fault.CounterOverflow → CounterOverflows s ⊎ ReportOverflows s) × (cause ≡ fault.ThreadLost → Loses)
+
 -- by a fault by which a run may end, and by a failed write only where a file refused one, as `Refused` says
 abbrev pub EndsWithCause : Type 0 → (Fault → Type 0) → Fault → Type 0
 EndsWithCause Refused EndsBy cause = EndsBy cause × (cause ≡ fault.Write → Refused)

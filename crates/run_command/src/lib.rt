@@ -4,6 +4,7 @@
 mod nowhere;
 mod paging;
 mod running;
+mod simulating;
 mod simulator;
 mod storing;
 

@@ -1,12 +1,12 @@
 //! A run, and the files that take its trace, its report and its page.
 ghost use Rattle.std.specs.Prelude.{◌≡◌, ◌<◌, Some, None, IfOk, IfErr, OnOk, length};
 ghost use Rattle.scenario.specs.Setup.{member_count};
-ghost use Rattle.scenario_files.specs.Shelves.{word_given};
-ghost use Rattle.run_command.specs.Outcomes.{StoresPaged, PagedFails, DifferentPaged, EndsWithCause};
+ghost use Rattle.run_command.specs.Outcomes.{StoresPaged, PagedFails, DifferentPaged, EndsWithCause, MayEndRun};
 
 use crate::nowhere::Nowhere;
+use crate::simulating::run_paged;
 use crate::simulator::Simulator;
-use command_line::{Failure, Release, RunWords};
+use command_line::{Failure, RunWords};
 use files::{Files, PairFault, TripleFault};
 use page_runs::RunShown;
 use run_output::Summary;
@@ -15,46 +15,9 @@ use std::alloc::Global;
 use std::io::Write;
 use trace::Put;
 
-/// Runs a scenario, and writes its trace to the file that the words name, its page to another, and its report to a third where
-/// they ask for it. Either all are made or none is. The `watch`, where there is one, is told how far the run has come.
-pub(crate) fn store_paged<'a, M: Simulator, F: Files, P: Write>(
-    simulator: &M,
-    alloc: Global,
-    release: &Release<'_>,
-    prepared: &PreparedRun,
-    words: RunWords<'a>,
-    page: &'a str,
-    watch: Option<&mut P>,
-    files: &mut F,
-) -> Result<Summary, Failure<'a>>
-    requires ready { M.ready }
-    requires divided { length prepared.now.division.part_of ≡ member_count prepared.now.scenario }
-    ensures done { IfOk result (λ summary. StoresPaged prepared.now.scenario words.entry.tick words.entry.file.now release.now.version.now (F.known files.old) (F.known files.new)
-        words.entry.trace.now (word_given words.entry.report) page.entry.now summary.rows) }
-    ensures apart { OnOk result (DifferentPaged (F.making files.old) words.entry.file.now words.entry.trace.now (word_given words.entry.report) page.entry.now) }
-    ensures whole { OnOk result (F.refused files.new ≡ F.refused files.old) }
-    ensures failed { IfErr result (PagedFails
-        (EndsWithCause (F.refused files.old < F.refused files.new) (M.ends_by prepared.now.scenario prepared.now.workers))
-        prepared.now.scenario words.entry.tick release.now.version.now
-        (F.known files.old) (F.known files.new) (F.making files.old) words.entry.file.now words.entry.trace.now (word_given words.entry.report) page.entry.now) }
-{
-    let shown = RunShown {
-        name: words.file,
-        release: release.version,
-        tick: words.tick,
-    };
-    match words.report {
-        Some(report) => store_three(
-            simulator, alloc, prepared, words, &shown, report, page, watch, files,
-        ),
-        None => store_two(
-            simulator, alloc, prepared, words, &shown, page, watch, files,
-        ),
-    }
-}
-
-/// The same without a report, which goes nowhere.
-fn store_two<'a, M: Simulator, F: Files, P: Write>(
+/// Runs a scenario, and writes its trace to the file that the words name and its page to another. Its report goes
+/// nowhere. Either both are made or neither is.
+pub(crate) fn store_two<'a, M: Simulator, F: Files, P: Write>(
     simulator: &M,
     alloc: Global,
     prepared: &PreparedRun,
@@ -72,7 +35,7 @@ fn store_two<'a, M: Simulator, F: Files, P: Write>(
     ensures apart { OnOk result (DifferentPaged (F.making files.old) words.entry.file.now words.entry.trace.now None page.entry.now) }
     ensures whole { OnOk result (F.refused files.new ≡ F.refused files.old) }
     ensures failed { IfErr result (PagedFails
-        (EndsWithCause (F.refused files.old < F.refused files.new) (M.ends_by prepared.now.scenario prepared.now.workers))
+        (EndsWithCause (F.refused files.old < F.refused files.new) (MayEndRun prepared.now.scenario (M.loses prepared.now.workers)))
         prepared.now.scenario shown.now.tick shown.now.release.now
         (F.known files.old) (F.known files.new) (F.making files.old) words.entry.file.now words.entry.trace.now None page.entry.now) }
 {
@@ -82,24 +45,19 @@ fn store_two<'a, M: Simulator, F: Files, P: Write>(
         Err(PairFault::Second) => return Err(Failure::File(page)),
         Err(PairFault::Memory) => return Err(Failure::Memory),
     };
-    let (made_trace, _nowhere, made_page, outcome) = simulator.simulate_with_page(
-        alloc,
-        &prepared.scenario,
-        &prepared.division,
-        prepared.workers,
-        shown,
-        watch,
-        made_trace,
-        Nowhere,
-        made_page,
+    let made_trace = Put::new(made_trace);
+    let made_page = Put::new(made_page);
+    let (made_trace, _nowhere, made_page, outcome) = run_paged(
+        simulator, alloc, prepared, shown, watch, made_trace, Nowhere, made_page,
     );
     files.close(words.trace, made_trace);
     files.close(page, made_page);
     run_result(outcome)
 }
 
-/// The same with a report.
-fn store_three<'a, M: Simulator, F: Files, P: Write>(
+/// Runs a scenario, and writes its trace to the file that the words name, its report to another and its page to a third.
+/// Either all are made or none is.
+pub(crate) fn store_three<'a, M: Simulator, F: Files, P: Write>(
     simulator: &M,
     alloc: Global,
     prepared: &PreparedRun,
@@ -118,7 +76,7 @@ fn store_three<'a, M: Simulator, F: Files, P: Write>(
     ensures apart { OnOk result (DifferentPaged (F.making files.old) words.entry.file.now words.entry.trace.now (Some report.entry.now) page.entry.now) }
     ensures whole { OnOk result (F.refused files.new ≡ F.refused files.old) }
     ensures failed { IfErr result (PagedFails
-        (EndsWithCause (F.refused files.old < F.refused files.new) (M.ends_by prepared.now.scenario prepared.now.workers))
+        (EndsWithCause (F.refused files.old < F.refused files.new) (MayEndRun prepared.now.scenario (M.loses prepared.now.workers)))
         prepared.now.scenario shown.now.tick shown.now.release.now
         (F.known files.old) (F.known files.new) (F.making files.old) words.entry.file.now words.entry.trace.now (Some report.entry.now) page.entry.now) }
 {
@@ -134,15 +92,17 @@ fn store_three<'a, M: Simulator, F: Files, P: Write>(
         Err(TripleFault::Third) => return Err(Failure::File(page)),
         Err(TripleFault::Memory) => return Err(Failure::Memory),
     };
-    let (made_trace, made_report, made_page, outcome) = simulator.simulate_with_page(
+    let made_trace = Put::new(made_trace);
+    let made_report = Put::new(made_report);
+    let made_page = Put::new(made_page);
+    let (made_trace, made_report, made_page, outcome) = run_paged(
+        simulator,
         alloc,
-        &prepared.scenario,
-        &prepared.division,
-        prepared.workers,
+        prepared,
         shown,
         watch,
         made_trace,
-        Put::new(made_report),
+        made_report,
         made_page,
     );
     files.close(words.trace, made_trace);

@@ -1,13 +1,14 @@
 //! The run of the scenario of a file.
 ghost use Rattle.std.specs.Prelude.{◌≡◌, ◌<◌, false, length, IfOk, IfErr, OnOk};
 ghost use Rattle.scenario.specs.Setup.{member_count};
-ghost use Rattle.run_command.specs.Outcomes.{AreApart, EndsWithCause, FailsAsked, RunsAll, RunFails, StoresAsked};
+ghost use Rattle.run_command.specs.Outcomes.{AreApart, EndsWithCause, FailsAsked, MayEndRun, RunsAll, RunFails, StoresAsked};
 
-use crate::paging::store_paged;
+use crate::paging::{store_three, store_two};
 use crate::simulator::Simulator;
-use crate::storing::store_run;
+use crate::storing::{store_both, store_trace};
 use command_line::{Failure, Release, RunWords};
 use files::Files;
+use page_runs::RunShown;
 use run_output::Summary;
 use scenario_files::{PreparedRun, prepare};
 use std::alloc::Global;
@@ -28,7 +29,7 @@ pub fn run<'a, M: Simulator, F: Files, P: Write>(
     ensures done { IfOk result
         (λ summary. RunsAll release.now.version.now (F.known files.old) (F.known files.new) (F.making files.old) words.entry summary.rows) }
     ensures failed { IfErr result
-        (RunFails (λ s workers. EndsWithCause (F.refused files.old < F.refused files.new) (M.ends_by s workers))
+        (RunFails (λ s workers. EndsWithCause (F.refused files.old < F.refused files.new) (MayEndRun s (M.loses workers)))
         release.now.version.now (F.known files.old) (F.known files.new) (F.making files.old) words.entry) }
 
     // No file refused a write of a run that was done.
@@ -69,14 +70,27 @@ fn store_asked<'a, M: Simulator, F: Files, P: Write>(
     ensures apart { OnOk result (AreApart words.entry.page (F.making files.old) words.entry) }
     ensures whole { OnOk result (F.refused files.new ≡ F.refused files.old) }
     ensures failed { IfErr result (FailsAsked words.entry.page
-        (EndsWithCause (F.refused files.old < F.refused files.new) (M.ends_by prepared.now.scenario prepared.now.workers))
+        (EndsWithCause (F.refused files.old < F.refused files.new) (MayEndRun prepared.now.scenario (M.loses prepared.now.workers)))
         prepared.now.scenario
         release.now.version.now (F.known files.old) (F.known files.new) (F.making files.old) words.entry) }
 {
+    let shown = RunShown {
+        name: words.file,
+        release: release.version,
+        tick: words.tick,
+    };
     match words.page {
-        Some(page) => store_paged(
-            simulator, alloc, release, prepared, words, page, watch, files,
-        ),
-        None => store_run(simulator, alloc, prepared, words, watch, files),
+        Some(page) => match words.report {
+            Some(report) => store_three(
+                simulator, alloc, prepared, words, &shown, report, page, watch, files,
+            ),
+            None => store_two(
+                simulator, alloc, prepared, words, &shown, page, watch, files,
+            ),
+        },
+        None => match words.report {
+            Some(report) => store_both(simulator, alloc, prepared, words, report, watch, files),
+            None => store_trace(simulator, alloc, prepared, words, watch, files),
+        },
     }
 }

@@ -1,10 +1,10 @@
 //! A run, and the files that take its trace and its report.
 ghost use Rattle.std.specs.Prelude.{◌≡◌, ◌<◌, Some, None, IfOk, IfErr, OnOk, length};
 ghost use Rattle.scenario.specs.Setup.{member_count};
-ghost use Rattle.run_command.specs.Outcomes.{StoresRun, StoreFails, DifferentFiles, EndsWithCause};
-ghost use Rattle.scenario_files.specs.Shelves.{word_given};
+ghost use Rattle.run_command.specs.Outcomes.{StoresRun, StoreFails, DifferentFiles, EndsWithCause, MayEndRun};
 
 use crate::nowhere::Nowhere;
+use crate::simulating::run_plain;
 use crate::simulator::Simulator;
 use command_line::{Failure, RunWords};
 use files::{Files, PairFault};
@@ -14,35 +14,8 @@ use std::alloc::Global;
 use std::io::Write;
 use trace::Put;
 
-/// Runs a scenario, and writes its trace to the file that the words name, and its report to one where they ask for it. The
-/// `watch`, where there is one, is told how far the run has come.
-pub(crate) fn store_run<'a, M: Simulator, F: Files, P: Write>(
-    simulator: &M,
-    alloc: Global,
-    prepared: &PreparedRun,
-    words: RunWords<'a>,
-    watch: Option<&mut P>,
-    files: &mut F,
-) -> Result<Summary, Failure<'a>>
-    requires ready { M.ready }
-    requires divided { length prepared.now.division.part_of ≡ member_count prepared.now.scenario }
-    ensures done { IfOk result (λ summary. StoresRun prepared.now.scenario (F.known files.old) (F.known files.new)
-        words.entry.trace.now (word_given words.entry.report) summary.rows) }
-    ensures apart { OnOk result (DifferentFiles (F.making files.old) words.entry.file.now words.entry.trace.now (word_given words.entry.report)) }
-    ensures whole { OnOk result (F.refused files.new ≡ F.refused files.old) }
-    ensures failed { IfErr result (StoreFails
-        (EndsWithCause (F.refused files.old < F.refused files.new) (M.ends_by prepared.now.scenario prepared.now.workers))
-        prepared.now.scenario (F.known files.old) (F.known files.new)
-        (F.making files.old) words.entry.file.now words.entry.trace.now (word_given words.entry.report)) }
-{
-    match words.report {
-        Some(report) => store_both(simulator, alloc, prepared, words, report, watch, files),
-        None => store_trace(simulator, alloc, prepared, words, watch, files),
-    }
-}
-
 /// Runs a scenario, and writes its trace to the file that the words name. Its report goes nowhere.
-fn store_trace<'a, M: Simulator, F: Files, P: Write>(
+pub(crate) fn store_trace<'a, M: Simulator, F: Files, P: Write>(
     simulator: &M,
     alloc: Global,
     prepared: &PreparedRun,
@@ -57,7 +30,7 @@ fn store_trace<'a, M: Simulator, F: Files, P: Write>(
     ensures apart { OnOk result (DifferentFiles (F.making files.old) words.entry.file.now words.entry.trace.now None) }
     ensures whole { OnOk result (F.refused files.new ≡ F.refused files.old) }
     ensures failed { IfErr result (StoreFails
-        (EndsWithCause (F.refused files.old < F.refused files.new) (M.ends_by prepared.now.scenario prepared.now.workers))
+        (EndsWithCause (F.refused files.old < F.refused files.new) (MayEndRun prepared.now.scenario (M.loses prepared.now.workers)))
         prepared.now.scenario (F.known files.old) (F.known files.new)
         (F.making files.old) words.entry.file.now words.entry.trace.now None) }
 {
@@ -65,22 +38,15 @@ fn store_trace<'a, M: Simulator, F: Files, P: Write>(
         Ok(made) => made,
         Err(fault) => return Err(file_failure(fault, words.trace)),
     };
-    let (made, _nowhere, outcome) = simulator.simulate(
-        alloc,
-        &prepared.scenario,
-        &prepared.division,
-        prepared.workers,
-        watch,
-        made,
-        Nowhere,
-    );
+    let made = Put::new(made);
+    let (made, _nowhere, outcome) = run_plain(simulator, alloc, prepared, watch, made, Nowhere);
     files.close(words.trace, made);
     run_result(outcome)
 }
 
 /// Runs a scenario, and writes its trace to the file that the words name and its report to another. Either both
 /// are made or neither is.
-fn store_both<'a, M: Simulator, F: Files, P: Write>(
+pub(crate) fn store_both<'a, M: Simulator, F: Files, P: Write>(
     simulator: &M,
     alloc: Global,
     prepared: &PreparedRun,
@@ -97,7 +63,7 @@ fn store_both<'a, M: Simulator, F: Files, P: Write>(
         (Some report.entry.now)) }
     ensures whole { OnOk result (F.refused files.new ≡ F.refused files.old) }
     ensures failed { IfErr result (StoreFails
-        (EndsWithCause (F.refused files.old < F.refused files.new) (M.ends_by prepared.now.scenario prepared.now.workers))
+        (EndsWithCause (F.refused files.old < F.refused files.new) (MayEndRun prepared.now.scenario (M.loses prepared.now.workers)))
         prepared.now.scenario (F.known files.old) (F.known files.new)
         (F.making files.old) words.entry.file.now words.entry.trace.now (Some report.entry.now)) }
 {
@@ -107,14 +73,15 @@ fn store_both<'a, M: Simulator, F: Files, P: Write>(
         Err(PairFault::Second) => return Err(Failure::File(report)),
         Err(PairFault::Memory) => return Err(Failure::Memory),
     };
-    let (made_trace, made_report, outcome) = simulator.simulate(
+    let made_trace = Put::new(made_trace);
+    let made_report = Put::new(made_report);
+    let (made_trace, made_report, outcome) = run_plain(
+        simulator,
         alloc,
-        &prepared.scenario,
-        &prepared.division,
-        prepared.workers,
+        prepared,
         watch,
         made_trace,
-        Put::new(made_report),
+        made_report,
     );
     files.close(words.trace, made_trace);
     files.close(report, made_report);

@@ -1,5 +1,5 @@
 -- What is answered of a text that was not written whole, and what is promised of a run that ends by a fault.
-use Rattle.std.proofs.Common.{◌≡◌, ◌≢◌, ◌∙◌, ◌⊎◌, ℕ, ◌<◌, List, length, Option, Result, Ok, Err, IsErrAnd, ap, sym, subst, refl}
+use Rattle.std.proofs.Common.{◌≡◌, ◌≢◌, ◌∙◌, ◌⊎◌, ℕ, ◌<◌, List, Option, Result, Ok, Err, IsErrAnd, ap, sym, subst, refl}
 use Rattle.std.specs.Result.{IfErr, IsErrOf}
 use Rattle.base.specs.declared.fault.Fault.{Fault}
 use Rattle.base.specs.declared.fault.Fault.TheVariants.{Memory, CounterOverflow, Write, ThreadLost}
@@ -53,9 +53,6 @@ never_relay r error.Stopped gives = answered (λ f. f ≢ ThreadLost) r Write gi
 pub summed_err : (r : Result (List Row) Fault) (fault : Fault) → IsErrAnd r (λ f. f ≡ fault) → IsErrAnd (summed r) (λ f. f ≡ fault)
 summed_err (Ok rows) fault gives = absurd gives
 summed_err (Err cause) fault gives = gives
-
-pub summed_ok : (rows : List Row) (count : ℕ) → count ≡ length rows → summed (Ok rows) ≡ Ok (record { rows = count })
-summed_ok rows count is = ap (λ n. Ok (record { rows = n })) (sym is)
 
 -- what is promised after a fault
 pub breaks_off : {A B : Type 0} (held : A → Option (List ℕ)) (failed : A → ℕ) (held_report : B → Option (List ℕ)) (failed_report : B → ℕ)

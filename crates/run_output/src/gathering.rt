@@ -1,5 +1,5 @@
 //! What is gathered of the rows of a run as they come, beside their tallies.
-ghost use Rattle.std.specs.Prelude.{◌≡◌, ◌≢◌, ◌++◌, ◌∷◌, ◌<◌, ◌≤◌, ◌^◌, [], length, List, OnOk, IfErr, IsErrOf, All};
+ghost use Rattle.std.specs.Prelude.{◌≢◌, ◌++◌, ◌<◌, ◌^◌, length, List, OnOk, IfErr, IsErrOf, All};
 ghost use Rattle.scenario.specs.Setup.{Setup};
 ghost use Rattle.trace.specs.declared.row.Row.{Row as ARow};
 ghost use Rattle.trace.specs.Text.{NamesMembers};
@@ -8,38 +8,30 @@ use base::Fault;
 use scenario::Scenario;
 use trace::Row;
 
-/// Gathers what it keeps of the rows of a run, one after the other.
+/// Gathers what it keeps of the rows of a run, batch after batch.
 pub trait RowObserver {
     // what is kept is what these rows of a run of the scenario tell
     ghost has: { Self → Setup → List ARow → Type 0 };
 
-    /// Adds the next row of a run of the scenario.
+    /// Adds the next rows of a run of the scenario, in their order, up to one that is refused.
     ///
-    /// Faults: `Memory`; `CounterOverflow` where 2^63 rows are there already.
-    fn add(&mut self, row: &Row, scenario: &Scenario) -> Result<(), Fault>
-        requires named { NamesMembers scenario.now row.now }
+    /// Faults: `Memory`; `CounterOverflow` where there would be more than 2^63 rows.
+    fn add_all(&mut self, rows: &[Row], scenario: &Scenario) -> Result<(), Fault>
+        requires named { All (NamesMembers scenario.now) rows.now }
         requires so_far { (before : List ARow) × has self.old scenario.now before }
-        ensures ok { OnOk result ((before : List ARow) → has self.old scenario.now before → has self.new scenario.now (before ++ row.now ∷ [])) }
-        ensures overflow { IsErrOf result Fault.CounterOverflow → (before : List ARow) → has self.old scenario.now before → 2 ^ 63 ≤ length before }
+        ensures ok { OnOk result ((before : List ARow) → has self.old scenario.now before → has self.new scenario.now (before ++ rows.now)) }
+        ensures overflow { IsErrOf result Fault.CounterOverflow → (before : List ARow) → has self.old scenario.now before → 2 ^ 63 < length (before ++ rows.now) }
         ensures causes { IfErr result (λ fault. (fault ≢ Fault.Write) × (fault ≢ Fault.ThreadLost)) };
 }
 
-/// Adds the next rows of a run of the scenario, up to one that is refused.
-///
-/// Faults: `Memory`; `CounterOverflow` where there would be more than 2^63 rows.
-pub(crate) fn gather_all<G: RowObserver>(
-    gathered: &mut G,
-    rows: &[Row],
-    scenario: &Scenario,
-) -> Result<(), Fault>
-    requires named { All (NamesMembers scenario.now) rows.now }
-    requires so_far { (before : List ARow) × G.has gathered.old scenario.now before }
-    ensures ok { OnOk result ((before : List ARow) → G.has gathered.old scenario.now before → G.has gathered.new scenario.now (before ++ rows.now)) }
-    ensures overflow { IsErrOf result Fault.CounterOverflow → (before : List ARow) → G.has gathered.old scenario.now before → 2 ^ 63 < length (before ++ rows.now) }
-    ensures causes { IfErr result (λ fault. (fault ≢ Fault.Write) × (fault ≢ Fault.ThreadLost)) }
-{
-    for row in rows {
-        gathered.add(row, scenario)?;
+/// Nothing is gathered of the rows of a run.
+#[derive(Drop)]
+pub struct NothingGathered;
+
+impl RowObserver for NothingGathered {
+    ghost has = { λ _ _ _. Unit {0} };
+
+    fn add_all(&mut self, _rows: &[Row], _scenario: &Scenario) -> Result<(), Fault> {
+        Ok(())
     }
-    Ok(())
 }

@@ -7,8 +7,8 @@ mod summary;
 mod taking;
 mod writing;
 
-pub use ending::{end_run, end_tallied};
-pub use gathering::RowObserver;
+pub use ending::end_run;
+pub use gathering::{NothingGathered, RowObserver};
 pub use summary::Summary;
-pub use taking::{RowSink, TalliedAlone, TraceAndGathered, Written, WrittenAndGathered, take_on};
+pub use taking::{RowSink, TalliedAlone, TraceAndGathered, Written, take_on};
 pub use writing::{flush, write_run, write_tallied};

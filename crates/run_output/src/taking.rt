@@ -7,7 +7,7 @@ ghost use Rattle.trace.specs.Text.{NamesMembers, rows_text};
 ghost use Rattle.trace.specs.Sinks.{AppendsBeginning};
 ghost use Rattle.run_output.specs.Written.{sink_failures, HasWritten};
 
-use crate::gathering::{RowObserver, gather_all};
+use crate::gathering::RowObserver;
 use crate::writing::begin_trace;
 use base::Fault;
 use reports::Tallies;
@@ -82,32 +82,6 @@ pub fn take_on<T: RowSink<P>, P>(
     T::take(alloc, rows, scenario, tallies, place)
 }
 
-/// Rows that are written too: their text goes to a sink.
-pub struct Written;
-
-impl<A: Sink> RowSink<A> for Written {
-    ghost held = { A.held };
-
-    ghost failed = { A.failed };
-
-    ghost gathered = { λ _ _ _. Unit {0} };
-
-    fn begin(place: &mut A) -> Result<(), Fault> {
-        begin_trace(place)
-    }
-
-    fn take(
-        alloc: Global,
-        rows: &[Row],
-        scenario: &Scenario,
-        tallies: &mut Tallies,
-        place: &mut A,
-    ) -> Result<(), Fault> {
-        tallies.add_all(rows)?;
-        Ok(write_rows(alloc, rows, scenario, place)?)
-    }
-}
-
 /// A sink of a trace, and what is gathered of its rows.
 #[derive(Drop)]
 pub struct TraceAndGathered<A, G> {
@@ -115,10 +89,10 @@ pub struct TraceAndGathered<A, G> {
     pub gathered: G,
 }
 
-/// Rows that are written, and of which something else is gathered too.
-pub struct WrittenAndGathered;
+/// Rows that are written, and of which something else may be gathered too.
+pub struct Written;
 
-impl<A: Sink, G: RowObserver> RowSink<TraceAndGathered<A, G>> for WrittenAndGathered {
+impl<A: Sink, G: RowObserver> RowSink<TraceAndGathered<A, G>> for Written {
     ghost held = { λ place. A.held place.trace };
 
     ghost failed = { λ place. A.failed place.trace };
@@ -136,9 +110,33 @@ impl<A: Sink, G: RowObserver> RowSink<TraceAndGathered<A, G>> for WrittenAndGath
         tallies: &mut Tallies,
         place: &mut TraceAndGathered<A, G>,
     ) -> Result<(), Fault> {
-        gather_all(&mut place.gathered, rows, scenario)?;
-        Written::take(alloc, rows, scenario, tallies, &mut place.trace)
+        place.gathered.add_all(rows, scenario)?;
+        write_taken(alloc, rows, scenario, tallies, &mut place.trace)
     }
+}
+
+/// Tallies the next rows of a run, and writes them.
+///
+/// Faults: as of `RowSink::take`.
+fn write_taken<A: Sink>(
+    alloc: Global,
+    rows: &[Row],
+    scenario: &Scenario,
+    tallies: &mut Tallies,
+    trace: &mut A,
+) -> Result<(), Fault>
+    requires named { All (NamesMembers scenario.now) rows.now }
+    requires countable { A.failed trace.old < 2 ^ 63 }
+    ensures whole { OnOk result (Appends (A.held trace.old) (A.held trace.new) (rows_text scenario.now rows.now)) }
+    ensures tallied { OnOk result (tallies.new ≡ tallies.old ++ rows.now) }
+    ensures part { OnErr result (AppendsBeginning (A.held trace.old) (A.held trace.new) (rows_text scenario.now rows.now)) }
+    ensures lasts { OnOk result (length tallies.new ≤ 2 ^ 63) }
+    ensures overflow { IsErrOf result Fault.CounterOverflow → 2 ^ 63 < length (tallies.old ++ rows.now) }
+    ensures failures { A.failed trace.new ≡ A.failed trace.old + sink_failures result }
+    ensures relay { IfErr result (λ fault. fault ≢ Fault.ThreadLost) }
+{
+    tallies.add_all(rows)?;
+    Ok(write_rows(alloc, rows, scenario, trace)?)
 }
 
 /// Rows that are tallied alone.

@@ -1,8 +1,6 @@
-//! Runs that print their progress.
+//! The progress of a run, printed as its rows come.
 #![tactic(auto)]
 
-mod running;
 mod watched;
 
-pub use running::run_watched;
-pub use watched::{NothingGathered, Watched};
+pub use watched::Watched;

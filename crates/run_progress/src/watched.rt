@@ -1,4 +1,4 @@
-//! What is told of a run while its rows come.
+//! What is printed of a run while its rows come.
 ghost use Rattle.std.specs.Prelude.{◌≡◌, OnOk};
 ghost use Rattle.std.specs.Io.KnownBytes.{Appends};
 ghost use Rattle.run_progress.specs.Lines.{passed_line, shares_passed};
@@ -13,67 +13,69 @@ use trace::Row;
 /// How many lines a run prints from its beginning to its end.
 const LINES: u64 = 50;
 
-/// Nothing is gathered of the rows of a run.
-#[derive(Drop)]
-pub struct NothingGathered;
-
-impl RowObserver for NothingGathered {
-    ghost has = { λ _ _ _. Unit {0} };
-
-    fn add(&mut self, _row: &Row, _scenario: &Scenario) -> Result<(), Fault> {
-        Ok(())
-    }
-}
-
-/// What is gathered of the rows of a run, and a writer that gets a line for each fiftieth of the run that
-/// has passed, as far as it takes that.
+/// What is gathered of the rows of a run, and a writer, where there is one, that gets a line for each fiftieth of the run
+/// that has passed, as far as it takes that.
 #[derive(Drop)]
 pub struct Watched<'p, P: Write, G> {
     /// The writer.
-    out: &'p mut P,
-    /// How many rows have passed.
-    rows: u64,
-    /// How many fiftieths of the run were passed when the last line was printed.
-    printed: u64,
+    out: Option<&'p mut P>,
+    passed: Passed,
     /// What is gathered of the rows.
     pub gathered: G,
 }
 
 impl<'p, P: Write, G: RowObserver> Watched<'p, P, G> {
     /// Watches a run of which no row has passed. What was gathered stays.
-    pub fn new(out: &'p mut P, gathered: G) -> Watched<'p, P, G>
+    pub fn new(out: Option<&'p mut P>, gathered: G) -> Watched<'p, P, G>
         ensures { result.gathered ≡ gathered }
     {
-        Watched {
-            out,
+        let passed = Passed {
             rows: 0,
             printed: 0,
+        };
+        Watched {
+            out,
+            passed,
             gathered,
         }
-    }
-
-    /// What was gathered.
-    pub fn into_gathered(self) -> G
-        ensures { result ≡ self.entry.gathered }
-    {
-        self.gathered
     }
 }
 
 impl<P: Write, G: RowObserver> RowObserver for Watched<'_, P, G> {
     ghost has = { λ watched s rows. G.has watched.gathered s rows };
 
-    fn add(&mut self, row: &Row, scenario: &Scenario) -> Result<(), Fault> {
-        self.rows = self.rows.saturating_add(1);
-        let at = row.at.ticks();
-        let end = scenario.end().ticks();
-        let passed = shares_passed(at, end, LINES);
-        if passed > self.printed {
-            self.printed = passed;
-            // The run goes on whether the line is taken or not.
-            let _ = print_passed(self.out, at, end, self.rows);
+    fn add_all(&mut self, rows: &[Row], scenario: &Scenario) -> Result<(), Fault> {
+        match &mut self.out {
+            Some(out) => self.passed.print_all(rows, scenario, *out),
+            None => {}
         }
-        self.gathered.add(row, scenario)
+        self.gathered.add_all(rows, scenario)
+    }
+}
+
+/// How far a run has come.
+#[derive(Drop)]
+struct Passed {
+    /// How many rows have passed.
+    rows: u64,
+    /// How many fiftieths of the run were passed when the last line was printed.
+    printed: u64,
+}
+
+impl Passed {
+    /// Counts these rows, and prints a line where a further fiftieth of the run has passed.
+    fn print_all<P: Write>(&mut self, rows: &[Row], scenario: &Scenario, out: &mut P) {
+        let end = scenario.end().ticks();
+        for row in rows {
+            self.rows = self.rows.saturating_add(1);
+            let at = row.at.ticks();
+            let passed = shares_passed(at, end, LINES);
+            if passed > self.printed {
+                self.printed = passed;
+                // The run goes on whether the line is taken or not.
+                let _ = print_passed(out, at, end, self.rows);
+            }
+        }
     }
 }
 

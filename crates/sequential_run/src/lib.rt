@@ -14,6 +14,6 @@ pub use laws::{
     a_run_exists, events_are_new, keys_rise, rows_rise, the_first_version_is_kept, the_run_is_one,
     the_window_of_all_is_the_run,
 };
-pub use one_queue::{run_streamed, run_streamed_gathered};
+pub use one_queue::run_streamed;
 pub use sequential::run_one;
 pub use tallying::tally_run;

@@ -8,47 +8,18 @@ ghost use Rattle.run_output.specs.Promise.{KeepsPromise, ReportOverflows, summed
 use crate::streaming::stream_run;
 use base::Fault;
 use reports::Tallies;
-use run_output::{
-    RowObserver, Summary, TraceAndGathered, Written, WrittenAndGathered, end_run, end_tallied,
-};
+use run_output::{RowObserver, TraceAndGathered, Written, end_run};
 use scenario::Scenario;
 use std::alloc::Global;
 use trace::Sink;
 
-/// Runs the scenario on this thread, with one set of pending events, and writes its trace as its rows come. Once
-/// the whole trace is written and its sink flushed, it writes the report, and flushes that sink too. After a fault
-/// the sinks have got a beginning of that.
+/// Runs the scenario on this thread, with one set of pending events, and writes its trace as its rows come; an observer
+/// gathers of them what it does. Once the whole trace is written and its sink flushed, it writes the report, and flushes
+/// that sink too. After a fault the sinks have got a beginning of that. Returns the tallies of the rows.
 ///
 /// Faults: `Memory`; `CounterOverflow` where a counter of the run or of the report would pass 2^63; `Write` where a sink
 /// failed.
-pub fn run_streamed<A: Sink, B: Sink>(
-    alloc: Global,
-    scenario: &Scenario,
-    trace: &mut A,
-    report: &mut B,
-) -> Result<Summary, Fault>
-    requires countable { A.failed trace.old < 2 ^ 63 }
-    requires countable_report { B.failed report.old < 2 ^ 63 }
-
-    // The sinks get exactly the trace of the scenario's run, and the report on it; after a fault a beginning of that.
-    ensures promise { KeepsPromise A.held A.failed B.held B.failed scenario.now trace.old trace.new report.old report.new result }
-
-    // No fault comes without its cause.
-    ensures lasts_report { OnOk result (¬ (ReportOverflows scenario.now)) }
-    ensures overflow { IsErrOf result Fault.CounterOverflow → CounterOverflows scenario.now ⊎ ReportOverflows scenario.now }
-    ensures others { IfErr result (λ fault. fault ≢ Fault.Write → A.failed trace.new ≡ A.failed trace.old) }
-    ensures relay { IfErr result (λ fault. fault ≢ Fault.ThreadLost) }
-{
-    let _end = scenario.end();
-    let outcome = stream_run::<Written, A>(alloc, scenario, trace);
-    end_run(alloc, outcome, scenario, trace, report)
-}
-
-/// Runs the scenario as `run_streamed` does, and gathers something else of the rows of its run as they come: that and
-/// the tallies of the rows are whole where it succeeds.
-///
-/// Faults: as of `run_streamed`.
-pub fn run_streamed_gathered<A: Sink, B: Sink, C: RowObserver>(
+pub fn run_streamed<A: Sink, B: Sink, C: RowObserver>(
     alloc: Global,
     scenario: &Scenario,
     place: &mut TraceAndGathered<A, C>,
@@ -73,6 +44,6 @@ pub fn run_streamed_gathered<A: Sink, B: Sink, C: RowObserver>(
     ensures relay { IfErr result (λ fault. fault ≢ Fault.ThreadLost) }
 {
     let _end = scenario.end();
-    let outcome = stream_run::<WrittenAndGathered, TraceAndGathered<A, C>>(alloc, scenario, place);
-    end_tallied(alloc, outcome, scenario, &mut place.trace, report)
+    let outcome = stream_run::<Written, TraceAndGathered<A, C>>(alloc, scenario, place);
+    end_run(alloc, outcome, scenario, &mut place.trace, report)
 }

@@ -1,10 +1,10 @@
 //! A run in which waiting costs more than it gains: one worker goes on alone for a while, and then all do again.
 ghost use Rattle.std.specs.Prelude.{⊤};
 
+use crate::into_sinks::run_rings;
 use crate::ways::{Way, dealt, run_by};
 use base::{Fault, Moment};
 use lookahead_windows::Gate;
-use parallel_run::run_by_rings;
 use run_output::Summary;
 use scenario::{Scenario, Workers};
 use scenario_reader::read;
@@ -115,16 +115,7 @@ fn run_slowly(
     assert!(rt; trace.failures() < 1 << 62);
     assert!(rt; report.failures() < 1 << 62);
     let workers = Workers::new(2).expect(rt, "workers");
-    run_by_rings(
-        rt,
-        rt.alloc(),
-        scenario,
-        &division,
-        workers,
-        gate,
-        trace,
-        report,
-    )
+    run_rings(rt, scenario, &division, workers, gate, trace, report)
 }
 
 /// The other worker waits for the slow one, so both parts go to that one; it runs them for some two thousand windows,

@@ -1,10 +1,10 @@
 //! A gate that keeps what it was told, and runs that are told it.
 ghost use Rattle.std.specs.Prelude.{⊤, ◌≤◌};
 
+use crate::into_sinks::run_rings;
 use crate::ways::divided;
 use base::{Fault, Memory, Moment};
 use lookahead_windows::Gate;
-use parallel_run::run_by_rings;
 use run_output::Summary;
 use scenario::Workers;
 use scenario_reader::read;
@@ -258,16 +258,6 @@ pub(crate) fn run_result(
     let mut report = MemorySink::new(rt.alloc());
     assert!(rt; trace.failures() < 1 << 62);
     assert!(rt; report.failures() < 1 << 62);
-    let alloc = rt.alloc();
     let workers = Workers::new(usize::from(gate.workers)).expect(rt, "workers");
-    run_by_rings(
-        rt,
-        alloc,
-        &scenario,
-        &division,
-        workers,
-        gate,
-        trace,
-        &mut report,
-    )
+    run_rings(rt, &scenario, &division, workers, gate, trace, &mut report)
 }

@@ -2,10 +2,10 @@
 ghost use Rattle.std.specs.Prelude.{⊤, ◌≡◌, Some};
 ghost use Rattle.test_inside.specs.Told.{one_run, IsToldOfOne};
 
+use crate::into_sinks::run_rings;
 use crate::ways::{Way, divided, run_by};
 use base::{Fault, Memory, Moment};
 use lookahead_windows::Gate;
-use parallel_run::run_by_rings;
 use run_output::Summary;
 use scenario::{Division, Scenario, Workers};
 use scenario_reader::read;
@@ -152,16 +152,7 @@ fn run_result(
     assert!(rt; trace.failures() < 1 << 62);
     assert!(rt; report.failures() < 1 << 62);
     let workers = Workers::new(workers).expect(rt, "workers");
-    run_by_rings(
-        rt,
-        rt.alloc(),
-        scenario,
-        &division,
-        workers,
-        gate,
-        trace,
-        &mut report,
-    )
+    run_rings(rt, scenario, &division, workers, gate, trace, &mut report)
 }
 
 /// Asserts that the run's trace is that of one thread.
@@ -280,16 +271,7 @@ fn run_strictly<K: OfOne + Sync, R: Abort + AllocGlobal + Threads + Wait + Sync>
     assert!(rt; trace.failures() < 1 << 62);
     assert!(rt; report.failures() < 1 << 62);
     let workers = Workers::new(3).expect(rt, "workers");
-    run_by_rings(
-        rt,
-        rt.alloc(),
-        scenario,
-        division,
-        workers,
-        &gate,
-        trace,
-        report,
-    )
+    run_rings(rt, scenario, division, workers, &gate, trace, report)
 }
 
 /// The engine tells a gate of nothing else, or this would not be proved.

@@ -22,6 +22,8 @@ mod gate_tests;
 #[cfg(test)]
 mod horizons_tests;
 #[cfg(test)]
+mod into_sinks;
+#[cfg(test)]
 mod part_tests;
 #[cfg(test)]
 mod printing_tests;

@@ -1,11 +1,11 @@
 //! The ways in which tests run a scenario: as one, by parts in turn, and by workers.
 
+use crate::into_sinks::{run_rings, stream};
 use base::{Fault, Memory};
 use lookahead_windows::OpenGate;
-use parallel_run::run_by_rings;
 use run_output::Summary;
 use scenario::{Division, Scenario, Workers};
-use sequential_run::{run_in_turn, run_one, run_streamed};
+use sequential_run::{run_in_turn, run_one};
 use std::marker::Sync;
 use std::process::Abort;
 use std::sync::Wait;
@@ -104,13 +104,11 @@ pub(crate) fn run_by(
     let alloc = rt.alloc();
     match way {
         Way::AsOne => run_one(alloc, scenario, trace, report),
-        Way::Streamed => run_streamed(alloc, scenario, trace, report),
+        Way::Streamed => stream(rt, scenario, trace, report),
         Way::InTurn(_) => run_in_turn(rt, alloc, scenario, &division, trace, report),
         Way::ByWorkers(_, workers) => {
             let workers = Workers::new(usize::from(workers)).expect(rt, "workers");
-            run_by_rings(
-                rt, alloc, scenario, &division, workers, &OpenGate, trace, report,
-            )
+            run_rings(rt, scenario, &division, workers, &OpenGate, trace, report)
         }
     }
 }

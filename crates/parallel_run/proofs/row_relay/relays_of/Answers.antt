@@ -2,7 +2,7 @@ use Rattle.std.proofs.Common.{ap, sym, subst, arith, length}
 use Rattle.std.specs.List.{AllByRecursion}
 use Rattle.parallel_run.specs.declared.row_relay.RelaySeats.{RelaySeats}
 use Rattle.parallel_run.specs.Relaying.{basis_in}
-use Rattle.parallel_run.specs.Relays.{AreNewSeats}
+use Rattle.parallel_run.specs.Relays.{AreNewSeats, IsMadeFor}
 use Rattle.parallel_run.proofs.JoiningPlaces.{all_with_one}
 use Rattle.parallel_run.proofs.Relaying.{seats_more, seats_made}
 use Rattle.parallel_run.proofs.row_relay.relays_of.Goals as goal
@@ -11,6 +11,7 @@ pub loop-number-init : goal.loop-number-init
 loop-number-init c = record {
   relays = ap length c.new-relays.ensures.items;
   count = ap length c.new-all.ensures.items;
+  given = subst (AllByRecursion (IsMadeFor (basis_in c.args.run.now))) (sym c.new-relays.ensures.items) tt;
   seats = subst (AllByRecursion (AreNewSeats c.new-relays.result.items (basis_in c.args.run.now))) (sym c.new-all.ensures.items) tt;
 }
 
@@ -25,6 +26,8 @@ loop-number-preserved c =
     record {
       relays = omega (arith, c.in_ok-push-2.ensures.len, so_far.relays);
       count = omega (arith, c.in_ok-push.ensures.len, so_far.count);
+      given =
+          all_with_one (IsMadeFor basis) relays more c.in_ok-relay.relay c.in_ok-push-2.ensures.items so_far.given (ap basis_in made.given);
       seats =
           all_with_one (AreNewSeats more basis) c.loop-number.all.items c.push.new.self.items seats c.in_ok-push.ensures.items
           (seats_more relays more c.in_ok-relay.relay basis c.loop-number.all.items c.in_ok-push-2.ensures.items so_far.seats)

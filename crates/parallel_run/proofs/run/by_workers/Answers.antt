@@ -65,3 +65,6 @@ over_board-outcome-requires-clause-start g c = λ loans lives. record {
     none_tallied = c.new.ensures;
   };
 }
+
+pub returns-clause-relayed : goal.returns-clause-relayed
+returns-clause-relayed g c = c.over_board-outcome.ensures.relayed

@@ -1,4 +1,5 @@
 use Rattle.std.proofs.Common.{◌≡◌, ℕ, List, length, ap, ◌∙◌, sym, subst, arith}
+use Rattle.std.proofs.lemmas.Result.{on_ok_weaker}
 use Rattle.std.specs.List.{AllByRecursion}
 use Rattle.scenario.specs.Setup.{Setup}
 use Rattle.scenario.specs.Division.{Deal}
@@ -10,6 +11,8 @@ use Rattle.lookahead_windows.specs.Basis.{basis_of}
 use Rattle.lookahead_windows.specs.Walks.{AreRoundWays}
 use Rattle.parallel_run.specs.Relaying.{RowRelay, basis_by, basis_in}
 use Rattle.parallel_run.specs.Relays.{AreNewSeats}
+use Rattle.parallel_run.specs.declared.closed_relay.RunRelays.{RunRelays}
+use Rattle.parallel_run.proofs.Relaying.{are_closed}
 use Rattle.parallel_run.proofs.GateBounds.{awaits_rounds, ways_of}
 use Rattle.parallel_run.proofs.run.run_into.Goals as goal
 
@@ -66,3 +69,15 @@ by_workers-requires-clause-relay_seats g c _ _ =
 
 pub by_workers-requires-clause-seats_each : goal.by_workers-requires-clause-seats_each
 by_workers-requires-clause-seats_each g c _ _ = omega (arith, c.in_ok-relays.ensures.count.1)
+
+-- ---- the relays as they were closed
+
+pub returns-clause-relayed : goal.returns-clause-relayed
+returns-clause-relayed g c =
+    let account : RunRelays = record { relays = c.of-2.result; closed = c.by_workers.new.ended } in
+    let made = c.in_ok-relays.ensures.count.0 in
+    let each = c.in_ok-parts.ensures.opened.count in
+    on_ok_weaker c.by_workers.result
+    (λ relayed. are_closed c.args.scenario.now c.args.division.now c.deref.result.now (basis_in c.of-run.result) account c.in_ok-relays.relays c.deref-2.result.now c.of-2.ensures
+    (c.of-run.ensures ∙ ap (λ ways. basis_by c.args.scenario.now c.args.division.now ways) (sym c.deref.ensures.value)) (omega (arith, made, each, c.len.ensures))
+    c.in_ok-relays.ensures.given c.deref-2.ensures.value relayed) c.by_workers.ensures.relayed

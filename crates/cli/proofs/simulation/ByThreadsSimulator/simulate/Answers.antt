@@ -2,5 +2,5 @@
 use Rattle.cli.proofs.Simulated.{by_fewer}
 use Rattle.cli.proofs.simulation.ByThreadsSimulator.simulate.Goals as goal
 
-pub returns-clause-cause : goal.returns-clause-cause
-returns-clause-cause g c = by_fewer _ _ _ _ c.fewer-workers.ensures.few c.simulate.ensures.cause
+pub returns-clause-threads : goal.returns-clause-threads
+returns-clause-threads g c = λ is. by_fewer _ _ c.fewer-workers.ensures.few (c.run_shared.ensures.threads is)
