@@ -54,6 +54,11 @@ def lasting(tick, ticks):
     return f' ({length_words(tick * ticks)})' if tick else ''
 
 
+def lasting_between(tick, least, greatest):
+    """From how long to how long."""
+    return f' ({length_words(tick * least)} to {length_words(tick * greatest)})' if tick else ''
+
+
 def time_text(tick, ticks):
     return grouped(ticks) + lasting(tick, ticks)
 
@@ -75,10 +80,11 @@ def cells(tag, values):
 
 # ---- Axes and legends ----
 
-# room for a second line beneath an axis across
-STYLE_OF_TWO_LINES = ' style="height:2.8em"'
-# several lines for a tick of an axis up
-STYLE_OF_SEVERAL_LINES = 'white-space:normal;text-align:right;'
+# the steps of an axis of time, in microseconds, up to half a day; longer ones are 1, 2 or 5 and zeros of days
+SIXTIETHS = (1, 2, 5, 10, 15, 30)
+TIME_STEPS = ([digit * 10 ** power for power in range(6) for digit in (1, 2, 5)] + [it * SECOND for it in SIXTIETHS]
+              + [it * 60 * SECOND for it in SIXTIETHS] + [it * 3600 * SECOND for it in (1, 2, 3, 6, 12)])
+DAY = 24 * 3600 * SECOND
 
 
 def step_of(most, ticks):
@@ -92,21 +98,38 @@ def steps_up(most, ticks):
     return range(0, most + 1, step)
 
 
-def axis_across(most, unit, tick=None):
-    """An axis across; one of time has lengths beneath its ticks, where it is known how long a tick of the simulation lasts."""
-    text = f'<div class="across"{STYLE_OF_TWO_LINES if tick else ""} aria-hidden="true">'
-    for at in steps_up(most, 5):
+def time_step_of(length, ticks):
+    """The least round step of time of which so many, at most, fit into a length."""
+    return next((step for step in TIME_STEPS if length // step <= ticks), None) or DAY * step_of(length // DAY, ticks)
+
+
+def ticks_across(places, most, told):
+    """The ticks of an axis across, of which each says what is told of its place."""
+    text = '<div class="across" aria-hidden="true">'
+    for at in places:
         style = ' class="last"' if at > most - most // 16 else ''
-        beneath = f'<br>{length_words(tick * at)}' if tick else ''
-        text += f'<span{style} style="left:{place(at, most)}">{grouped(at)}{beneath}</span>'
-    return text + f'</div><p class="unit">{escaped(unit)}</p>'
+        text += f'<span{style} style="left:{place(at, most)}">{told(at)}</span>'
+    return text
+
+
+def axis_across(most, unit, tick=None, lasting_unit=None):
+    """An axis across; one of time is in units of time, and has a unit of its own, where it is known how long a tick of the simulation lasts."""
+    if tick:
+        length = tick * most
+        text = ticks_across(range(0, length + 1, time_step_of(length, 4)), length, length_words)
+    else:
+        text = ticks_across(steps_up(most, 5), most, grouped)
+    return text + f'</div><p class="unit">{escaped(lasting_unit if tick else unit)}</p>'
 
 
 def axis_up(most, told=grouped, tick=None):
-    """An axis up; one of time has lengths behind its ticks, on further lines, where it is known how long a tick of the simulation lasts."""
-    text, lines = '<div class="up" aria-hidden="true">', STYLE_OF_SEVERAL_LINES if tick else ''
-    for at in steps_up(most, 4):
-        text += f'<span style="{lines}bottom:{place(at, most)}">{told(at)}{lasting(tick, at)}</span>'
+    """An axis up; one of time is in units of time, where it is known how long a tick of the simulation lasts."""
+    text, places = '<div class="up" aria-hidden="true">', steps_up(most, 4)
+    if tick:
+        most, told = tick * most, length_words
+        places = range(0, most + 1, time_step_of(most, 4))
+    for at in places:
+        text += f'<span style="bottom:{place(at, most)}">{told(at)}</span>'
     return text + '</div>'
 
 

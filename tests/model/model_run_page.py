@@ -3,8 +3,8 @@
 Written from docs/PAGES.md ("The page of a run") alone.
 """
 
-from model_drawing import (FIGURE_END, PLOT_END, area, axis_across, axis_up, band, dot, escaped, figure, grouped, lasting, legend,
-                           legend_entry, line, page_opening, plot, rule, time_text)
+from model_drawing import (FIGURE_END, PLOT_END, area, axis_across, axis_up, band, dot, escaped, figure, grouped, lasting, lasting_between,
+                           legend, legend_entry, line, page_opening, plot, rule, time_text)
 from model_run_series import MOST_HEALTH, MOST_SPANS, Series, deaths_of
 from model_text import CONFIRM, SUSPECT
 from scenarios import keys_of
@@ -50,7 +50,7 @@ class Page:
         return lasting(self.tick, ticks)
 
     def time_axis(self):
-        return axis_across(max(1, self.series.end), 'moment, in ticks', self.tick)
+        return axis_across(max(1, self.series.end), 'moment, in ticks', self.tick, 'moment')
 
     # what happened, in words
 
@@ -84,8 +84,12 @@ class Page:
             return text + ', undetected. '
         was = 'was' if len(found) == 1 else 'were'
         text += f', {len(found)} of them {was} detected' if len(found) < crashed else ''
-        upto = f' to {self.time(max(found))}' if max(found) > min(found) else ''
-        return f'{text}: first declared dead after {self.time(min(found))}{upto} ticks. '
+        least, greatest = min(found), max(found)
+        if greatest > least:
+            after = f'{grouped(least)} to {grouped(greatest)} ticks{lasting_between(self.tick, least, greatest)}'
+        else:
+            after = f'{grouped(least)} ticks{self.lasting(least)}'
+        return f'{text}: first declared dead after {after}. '
 
     # a lane for each member of whom there is something to tell
 
@@ -301,7 +305,7 @@ class Page:
         for kind, times in (('suspect', suspected), ('dead', dead)):
             reached = [sum(time < (nth + 1) * step for time in times) for nth in range(MOST_SPANS)]
             text += line(kind, reached, step, most)
-        text += f'{PLOT_END}{axis_across(width, "ticks since the crash", self.tick)}</div>'
+        text += f'{PLOT_END}{axis_across(width, "ticks since the crash", self.tick, "time since the crash")}</div>'
         text += '<div class="wide"><table><tr><th>of those up<th>first<th>50 %<th>90 %<th>99 %<th>all</tr>'
         text += self.shares('suspected it after', suspected, len(stay)) + self.shares('declared it dead after', dead, len(stay))
         return text + '</table></div></div>\n'

@@ -6,8 +6,8 @@ Written from docs/PAGES.md ("The page of a sweep"); how it looks is the style's,
 
 from collections import namedtuple
 
-from model_drawing import (FIGURE_END, axis_across, axis_up, cells, escaped, figure, grouped, heads, page_opening, place, plot,
-                           time_text)
+from model_drawing import (FIGURE_END, axis_across, axis_up, cells, escaped, figure, grouped, heads, lasting, page_opening, place,
+                           plot, time_text)
 from model_sweeps import axes_of, cases_of, more_runs
 from model_sweep_times import times_figure
 
@@ -111,6 +111,13 @@ class Page:
                     if case.is_best and self.across(case) is not None]
         self.front = sorted(on_front)
 
+    @staticmethod
+    def ticks(ticks):
+        return '-' if ticks is None else grouped(ticks)
+
+    def lasting(self, ticks):
+        return '' if ticks is None else lasting(self.tick, ticks)
+
     def time(self, ticks):
         return '-' if ticks is None else time_text(self.tick, ticks)
 
@@ -193,7 +200,7 @@ class Page:
 
     def item(self, at):
         case = self.cases[at]
-        speed = (f'<span>first confirmed after <b>{self.time(case.confirmed)}</b> ticks, median</span>' if self.crashed else
+        speed = (f'<span>first confirmed after <b>{self.ticks(case.confirmed)}</b> ticks{self.lasting(case.confirmed)}, median</span>' if self.crashed else
                  f'<span><b>{rate(case.deaths)}</b> false deaths per run</span>')
         return (f'<li class="{case.safety()}"><span class="number">{grouped(at + 1)}</span><code>{self.name(at)}</code>{speed}'
                 f'<span>a false death in <b>{of_runs(case)}</b> runs ({interval(case)})</span>'
@@ -220,7 +227,8 @@ class Page:
                      f'Across: {told}. Up: the share of runs with a false death. The table beneath has the settings on the front.')
         text += ''.join(self.dot(case, up) for case in self.cases if not case.is_best) + self.joined(up)
         text += ''.join(self.dot(case, up) for case in self.cases if case.is_best) + '</svg>' + self.numbers(across, up)
-        text += '</div>' + axis_across(across, unit, self.tick if self.crashed else None) + '</div>'
+        text += '</div>' + axis_across(across, unit, self.tick if self.crashed else None,
+                                       'time until a crash is first confirmed, median') + '</div>'
         return text + self.front_table()
 
     def dot(self, case, up):
@@ -317,7 +325,7 @@ class KeyFigure:
 
     def text(self):
         text = figure(f'key-{self.places[0]}', f'What {self.name} changes')
-        text += ('<p class="soft">Up: ticks since the crash. Each dot is a median over all crashes of all runs, and its bar goes '
+        text += (f'<p class="soft">Up: {"time" if self.page.tick else "ticks"} since the crash. Each dot is a median over all crashes of all runs, and its bar goes '
                  "from the 5th to the 95th percentile. A crash that wasn't detected counts as later than any: where more than "
                  "5&nbsp;% weren't, the bar goes to the top of the plot; where more than half weren't, there is no dot.</p>")
         text += '<ul class="legend">'
@@ -339,7 +347,7 @@ class KeyFigure:
         most = last + last // 16 + 1
         text = f'<div><h3>{title}</h3><div class="chart">' + axis_up(most, tick=self.page.tick) + '<div class="plane">'
         text += plot('lines', 32 * len(self.values), most, title,
-                     'Ticks since the crash against the values of the key: a line of medians for each value of the others, and over '
+                     f'{"Time" if self.page.tick else "Ticks"} since the crash against the values of the key: a line of medians for each value of the others, and over '
                      'each value a bar from the 5th to the 95th percentile, or to the top where more than 5 % of the crashes '
                      "weren't detected.")
         for line in self.lines:

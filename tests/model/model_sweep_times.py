@@ -3,7 +3,7 @@
 Written from docs/PAGES.md ("The page of a sweep").
 """
 
-from model_drawing import FIGURE_END, PLOT_END, axis_across, axis_up, cells, figure, grouped, heads, plot, rule, time_text
+from model_drawing import FIGURE_END, PLOT_END, axis_across, axis_up, cells, figure, grouped, heads, lasting, plot, rule, time_text
 from model_sweeps import percentile
 
 # so many bins have the times of a case, and so many cases are drawn, at the most
@@ -33,7 +33,7 @@ class Times:
 
     def __init__(self, tick, number, name, case):
         self.number, self.name, self.median, self.tick = grouped(number), name, case['confirm_p50'], tick
-        self.title = f'Setting {number}: ticks until a crash is first confirmed'
+        self.title = f'Setting {number}: time until a crash is first confirmed'
         self.crashes, width = case['crashes'], case['confirm_times']['width']
         self.bins = [(nth * width, (nth + 1) * width, count)
                      for nth, count in enumerate(case['confirm_times']['bins']) if count]
@@ -46,15 +46,15 @@ class Times:
     def chart(self, across):
         up = max([1] + [count for _, _, count in self.bins])
         text = (f'<div><h3><span class="number">{self.number}</span> <code>{self.name}</code></h3>'
-                f'<p class="soft">Median: {time_text(self.tick, self.median)} ticks. Never confirmed: {grouped(self.never)} '
+                f'<p class="soft">Median: {grouped(self.median)} ticks{lasting(self.tick, self.median)}. Never confirmed: {grouped(self.never)} '
                 f'of {grouped(self.crashes)} crashes.</p>')
         text += '<div class="chart">' + axis_up(up) + '<div class="plane">'
         text += plot('times', across, up, self.title,
-                     'Across: ticks since the crash, as far as in each chart here. Up: how many crashes were first confirmed '
+                     f'Across: {"time" if self.tick else "ticks"} since the crash, as far as in each chart here. Up: how many crashes were first confirmed '
                      'then. The upright rule is the median. The table beneath has the numbers.')
         text += ''.join(bar('one', first, past, count, up) for first, past, count in self.bins)
         text += rule('median', self.median, up) + PLOT_END + '</div>'
-        return text + axis_across(across, 'ticks since the crash', self.tick) + '</div></div>'
+        return text + axis_across(across, 'ticks since the crash', self.tick, 'time since the crash') + '</div></div>'
 
     def rows(self):
         spans = [(f'{time_text(self.tick, first)} to {time_text(self.tick, past - 1)}', count) for first, past, count in self.bins]

@@ -6,7 +6,7 @@ use Rattle.sweep_plan.specs.Sweep.{Sweep as Planned}
 use Rattle.goals.specs.declared.want.Want.{Want}
 use Rattle.shards.specs.declared.shard.Shard.{Shard}
 use Rattle.ticks.specs.declared.tick.Tick.{Tick}
-use Rattle.command_line.specs.Words.{have_sense, AreWantsIn, AsksForShard, AsksForTick, IsPlanIn, IsSweepIn}
+use Rattle.command_line.specs.Words.{have_sense, names_files, AreWantsIn, AsksForShard, AsksForTick, IsPlanIn, IsSweepIn}
 use Rattle.command_line.specs.declared.words.SweepWords.{SweepWords}
 use Rattle.command_line.proofs.RunRows.{rows_met}
 
@@ -22,6 +22,9 @@ module _ (rows : List Row) (sweep : SweepWords) (h : IsSweepIn (Some (codes "swe
 
   pub no_sense : have_sense rows ≡ false → ⊥
   no_sense none = let sense = ap have_sense (sym same) ∙ h.sense in cc
+
+  pub no_written : names_files rows ≡ false → ⊥
+  no_written none = let written = ap names_files (sym same) ∙ h.written in cc
 
   pub no_plan : ((plan : Planned) → IsPlanIn rows plan → ⊥) → ⊥
   no_plan none = none sweep.plan (subst (λ r. IsPlanIn r sweep.plan) same h.plan)

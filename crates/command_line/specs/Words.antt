@@ -1,5 +1,5 @@
 -- What words ask for, as `clap` reads them by the commands below.
-use Rattle.std.specs.Prelude.{◌≡◌, ◌≢◌, ◌⊎◌, ◌&&◌, ◌||◌, ℕ, List, Option, Some, None, [], Bool, true, not, codes, is_none, is_some, map, option_map, unwrap_or}
+use Rattle.std.specs.Prelude.{◌≡◌, ◌≢◌, ◌⊎◌, ◌&&◌, ◌||◌, ℕ, List, Option, Some, None, [], Bool, true, false, bytes_eq, not, codes, is_none, is_some, map, option_map, unwrap_or}
 use Rattle.clap.specs.Lexer.{usize_max}
 use Rattle.clap.specs.Words.{App, Row, Rule, Text, new_app, new_rule, with_rule, with_subcommand}
 use Rattle.clap.specs.Words.{all_of, first_of, fault_of, subcommand_of, kind_of, IsAmong}
@@ -130,6 +130,17 @@ AsksForTick None (Some tick) = ⊥
 AsksForTick (Some word) None = ⊥
 AsksForTick (Some word) (Some tick) = IsTickWord word tick
 
+-- the word is `-`, by which other programs mean standard output
+abbrev pub is_dash : Option Text → Bool
+is_dash None = false
+is_dash (Some word) = bytes_eq word (codes "-")
+
+-- no file that is written is named so
+abbrev pub names_files : List Row → Bool
+names_files rows =
+    not (is_dash (first_of (codes "trace") rows)) && (not (is_dash (first_of (codes "report") rows)) && (not (is_dash (first_of (codes "table") rows))
+    && (not (is_dash (first_of (codes "page") rows)) && not (is_dash (first_of (codes "out") rows)))))
+
 -- the command that was met is `run`, with these words
 pub record IsRunIn (met : Option (Text × List Row)) (run : RunWords) : Type 0 where
   pub rows : List Row
@@ -142,6 +153,7 @@ pub record IsRunIn (met : Option (Text × List Row)) (run : RunWords) : Type 0 w
   pub workers : first_of (codes "workers") rows ≡ option_map (λ word. word.now) run.workers
   pub divided : IsSplitIn rows run.split
   pub progress : is_given (first_of (codes "progress") rows) ≡ run.progress
+  pub written : names_files rows ≡ true
 
 -- the command that was met is `check`, with this file
 pub record IsCheckIn (met : Option (Text × List Row)) (file : Text) : Type 0 where
@@ -207,6 +219,7 @@ pub record IsSweepIn (met : Option (Text × List Row)) (sweep : SweepWords) : Ty
   pub page : first_of (codes "page") rows ≡ option_map (λ word. word.now) sweep.page
   pub tick : AsksForTick (first_of (codes "tick") rows) sweep.tick
   pub sense : have_sense rows ≡ true
+  pub written : names_files rows ≡ true
 
 -- the command that was met is `init`, with the name of this preset
 pub record IsInitIn (met : Option (Text × List Row)) (preset : Preset) : Type 0 where
@@ -238,6 +251,7 @@ pub record IsJoinIn (met : Option (Text × List Row)) (join : JoinWords) : Type 
   pub name : first_of (codes "name") rows ≡ option_map (λ word. word.now) join.name
   pub tick : AsksForTick (first_of (codes "tick") rows) join.tick
   pub sense : may_name (first_of (codes "page") rows) (first_of (codes "name") rows) ≡ true
+  pub written : names_files rows ≡ true
 
 -- the command that was met is `page`, with these words
 pub record IsPageIn (met : Option (Text × List Row)) (wish : PageWords) : Type 0 where
@@ -247,6 +261,7 @@ pub record IsPageIn (met : Option (Text × List Row)) (wish : PageWords) : Type 
   pub page : first_of (codes "out") rows ≡ Some wish.page.now
   pub name : first_of (codes "name") rows ≡ option_map (λ word. word.now) wish.name
   pub tick : AsksForTick (first_of (codes "tick") rows) wish.tick
+  pub written : names_files rows ≡ true
 
 -- the words have no fault, and ask for this run
 abbrev pub AsksForRun : List Text → RunWords → Type 0

@@ -9,6 +9,7 @@ use crate::chained::{and_option, and_required};
 use crate::failure::Failure;
 use crate::lasting::tick_asked;
 use crate::telling::{wants_asked, with_telling};
+use crate::written::names_files;
 use arguments::{is_given, new_command, value_of, values_of};
 use clap::{Arg, ArgMatches, Command};
 use goals::Want;
@@ -81,7 +82,7 @@ fn shards_argument<'a>(alloc: Global) -> Arg<'a>
 /// What words that `clap` took ask to join, if they do.
 ///
 /// Failures: `Usage` where they say what to join, but not so that it makes sense: something that is
-/// wanted is nothing, or a name stands there and no page; `Memory`.
+/// wanted is nothing, a name stands there and no page, or a file that is written is named `-`; `Memory`.
 pub(crate) fn join_asked<'a>(
     alloc: Global,
     matches: &ArgMatches<'a>,
@@ -102,6 +103,9 @@ pub(crate) fn join_asked<'a>(
         return Ok(None);
     };
     if !may_name(join) {
+        return Err(Failure::Usage);
+    }
+    if !names_files(join) {
         return Err(Failure::Usage);
     }
     let wants = wants_asked(alloc, join)?;

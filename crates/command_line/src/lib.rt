@@ -17,6 +17,7 @@ mod sweeping;
 pub mod system;
 mod telling;
 mod words;
+mod written;
 
 pub use division::{division_asked, workers_asked};
 pub use explaining::ExplainWords;

@@ -9,6 +9,7 @@ use crate::chained::{and_option, and_required};
 use crate::failure::Failure;
 use crate::joining::{shards_named, with_shards};
 use crate::lasting::{tick_asked, with_tick};
+use crate::written::names_files;
 use arguments::{new_command, value_of};
 use clap::{ArgMatches, Command};
 use std::alloc::{AllocError, Global};
@@ -50,7 +51,7 @@ pub(crate) fn page_command<'a>(alloc: Global) -> Result<Command<'a>, AllocError>
     with_tick(alloc, named)
 }
 
-/// The page that is asked for by words that `clap` took, if they ask for one.
+/// The page that is asked for by words that `clap` took, if they ask for one; one whose file is named `-` is none.
 ///
 /// Failure: `Memory`.
 pub(crate) fn page_asked<'a>(
@@ -67,6 +68,9 @@ pub(crate) fn page_asked<'a>(
     let Some(page) = value_of(words, "out") else {
         return Ok(None);
     };
+    if !names_files(words) {
+        return Ok(None);
+    }
     let Some(tick) = tick_asked(words) else {
         return Ok(None);
     };

@@ -9,6 +9,7 @@ ghost use Rattle.command_line.specs.Words.{run_app, with_outputs, with_parting, 
 use crate::chained::{and_flag, and_option, and_required};
 use crate::lasting::{tick_asked, with_tick};
 use crate::words::{RunWords, Split};
+use crate::written::names_files;
 use arguments::{is_given, new_command, value_of, with_file};
 use clap::{ArgMatches, Command};
 use std::alloc::{AllocError, Global};
@@ -91,7 +92,7 @@ fn with_parting<'a>(
     )
 }
 
-/// The run that is asked for by words that `clap` took.
+/// The run that is asked for by words that `clap` took. None where a file that it writes is named `-`, too.
 pub(crate) fn run_asked<'a>(matches: &ArgMatches<'a>) -> Option<RunWords<'a>>
     ensures some { IfSome result (IsRunIn (subcommand_rows_of matches.now)) }
     ensures none { IsNone result → (run : Wish) → ¬ (IsRunIn (subcommand_rows_of matches.now) run) }
@@ -99,6 +100,9 @@ pub(crate) fn run_asked<'a>(matches: &ArgMatches<'a>) -> Option<RunWords<'a>>
     let run = matches.subcommand_matches("run")?;
     let file = value_of(run, "FILE")?;
     let trace = value_of(run, "trace")?;
+    if !names_files(run) {
+        return None;
+    }
     let report = value_of(run, "report");
     let page = value_of(run, "page");
     let tick = tick_asked(run)?;

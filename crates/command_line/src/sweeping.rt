@@ -6,13 +6,14 @@ ghost use Rattle.sweep_plan.specs.Sweep.{Sweep as Planned};
 ghost use Rattle.command_line.specs.declared.words.SweepWords.{SweepWords as Sought};
 ghost use Rattle.shards.specs.declared.shard.Shard.{Shard as Part};
 ghost use Rattle.arguments.specs.Rules.{is_given, IsLocal};
-ghost use Rattle.command_line.specs.Words.{have_sense, sweep_app, with_settings, with_runs, AreWantsIn, AsksForShard, AsksForWidth, IsPlanIn, IsSweepIn};
+ghost use Rattle.command_line.specs.Words.{have_sense, names_files, sweep_app, with_settings, with_runs, AreWantsIn, AsksForShard, AsksForWidth, IsPlanIn, IsSweepIn};
 
 use crate::chained::{and_flag, and_option, and_repeated, and_required};
 use crate::failure::Failure;
 use crate::lasting::tick_asked;
 use crate::telling::{wants_asked, with_telling};
 use crate::words::SweepWords;
+use crate::written::names_files;
 use arguments::{is_given, new_command, value_of, values_of, with_file};
 use clap::{ArgMatches, Command};
 use decimals::number;
@@ -105,7 +106,7 @@ fn with_settings<'a>(
 
 /// The sweep that is asked for by words that `clap` took.
 ///
-/// Failures: `Usage` where they ask for none, as where a whole sweep is to go on; `Memory`.
+/// Failures: `Usage` where they ask for none, as where a whole sweep is to go on, or a file that it writes is named `-`; `Memory`.
 pub(crate) fn sweep_asked<'a>(
     alloc: Global,
     matches: &ArgMatches<'a>,
@@ -137,10 +138,13 @@ fn words_asked<'a>(alloc: Global, sweep: &ArgMatches<'a>) -> Result<SweepWords<'
     if !have_sense(sweep) {
         return Err(Failure::Usage);
     }
+    if !names_files(sweep) {
+        return Err(Failure::Usage);
+    }
     runs_asked(alloc, sweep, file, table)
 }
 
-/// The sweep with these two files that is asked for by the words of a sweep, which go together.
+/// The sweep with these two files that is asked for by the words of a sweep, which go together, and name no file that is written `-`.
 ///
 /// Failures: `Usage` where they ask for none; `Memory`.
 fn runs_asked<'a>(
@@ -152,6 +156,7 @@ fn runs_asked<'a>(
     requires file { first_of (codes "FILE") (rows_of (found_of sweep.now)) ≡ Some file.now }
     requires table { first_of (codes "table") (rows_of (found_of sweep.now)) ≡ Some table.now }
     requires sense { have_sense (rows_of (found_of sweep.now)) ≡ true }
+    requires written { names_files (rows_of (found_of sweep.now)) ≡ true }
     ensures sweep { IfOk result (IsSweepIn (Some (codes "sweep", rows_of (found_of sweep.now)))) }
     ensures usage { IsErrOf result Failure.Usage → (wish : Sought) → ¬ (IsSweepIn (Some (codes "sweep", rows_of (found_of sweep.now))) wish) }
     ensures failures { IfErr result (λ f. (f ≡ Failure.Usage) ⊎ (f ≡ Failure.Memory)) }

@@ -45,6 +45,24 @@ power_found test powers place step wanted within left is =
 pub none_left : (test : ℕ → Bool) (powers : List ℕ) (place : ℕ) (wanted : Option ℕ) → length powers ≤ place → find test (flat_map with_digits (drop place powers)) ≡ wanted → wanted ≡ None
 none_left test powers place wanted past left = sym left ∙ ap (λ l. find test (flat_map with_digits l)) (drop_all place powers past)
 
+-- ---- the same of steps that stand one by one
+
+from_here : (steps : List ℕ) (place : ℕ) → place < length steps → drop place steps ≡ (get_or steps place 0 ∷ []) ++ drop (place + 1) steps
+from_here steps place within = drop-cons steps place 0 within ∙ ap (λ n. get_or steps place 0 ∷ drop n steps) (sym (add-one place))
+
+pub one_past : (test : ℕ → Bool) (steps : List ℕ) (place : ℕ) (wanted : Option ℕ) → place < length steps → find test (drop place steps) ≡ wanted
+    → find test (get_or steps place 0 ∷ []) ≡ None → find test (drop (place + 1) steps) ≡ wanted
+one_past test steps place wanted within left none =
+    sym (find_later test (get_or steps place 0 ∷ []) (drop (place + 1) steps) none) ∙ sym (ap (find test) (from_here steps place within)) ∙ left
+
+pub one_found : (test : ℕ → Bool) (steps : List ℕ) (place step : ℕ) (wanted : Option ℕ) → place < length steps → find test (drop place steps) ≡ wanted
+    → find test (get_or steps place 0 ∷ []) ≡ Some step → wanted ≡ Some step
+one_found test steps place step wanted within left is =
+    sym left ∙ ap (find test) (from_here steps place within) ∙ find_here test (get_or steps place 0 ∷ []) (drop (place + 1) steps) step is
+
+pub no_one : (test : ℕ → Bool) (steps : List ℕ) (place : ℕ) (wanted : Option ℕ) → length steps ≤ place → find test (drop place steps) ≡ wanted → wanted ≡ None
+no_one test steps place wanted past left = sym left ∙ ap (find test) (drop_all place steps past)
+
 -- the powers of ten, of which steps are made
 abbrev pub powers : List ℕ
 powers = 1 ∷ 10 ∷ 100 ∷ 1000 ∷ 10000 ∷ 100000 ∷ 1000000 ∷ 10000000 ∷ 100000000 ∷ 1000000000 ∷ 10000000000 ∷ 100000000000 ∷ 1000000000000 ∷ 10000000000000 ∷ 100000000000000 ∷ 1000000000000000 ∷ 10000000000000000 ∷ 100000000000000000 ∷ 1000000000000000000 ∷ []

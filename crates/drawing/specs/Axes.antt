@@ -1,11 +1,11 @@
 -- Axes: words beside the shapes, each at the place of its tick.
-use Rattle.std.specs.Prelude.{ℕ, Bool, ◌+◌, ◌-◌, ◌*◌, ◌/◌, nat_lt, if◌then◌else◌, Option, Some, None, List, [], ◌++◌, codes}
+use Rattle.std.specs.Prelude.{ℕ, Bool, ◌+◌, ◌-◌, ◌*◌, ◌/◌, nat_lt, if◌then◌else◌, Option, Some, None, List, ◌++◌, codes}
 use Rattle.std.specs.List.{flat_map, range_with_len}
 use Rattle.drawing.specs.Escaped.{escaped, markup}
 use Rattle.ticks.specs.declared.tick.Tick.{Tick}
-use Rattle.drawing.specs.Lengths.{ticks_words, time_text}
+use Rattle.drawing.specs.Lengths.{length_of, length_words}
 use Rattle.drawing.specs.Numbers.{grouped, place}
-use Rattle.drawing.specs.Rounds.{round_step}
+use Rattle.drawing.specs.Rounds.{round_step, time_step}
 
 -- what is drawn at each multiple of a step from 0 to `most`
 abbrev pub at_ticks : (ℕ → List ℕ) → ℕ → ℕ → List ℕ
@@ -19,43 +19,48 @@ is_near_the_end most at = nat_lt (most - most / 16) at
 abbrev pub tick_opening : Bool → List ℕ
 tick_opening last = if last then codes "<span class=\"last\" style=\"left:" else codes "<span style=\"left:"
 
--- how long so much lasts, on a line of its own, where it is time, and known how long the unit lasts in which it is counted
-abbrev pub beneath : Option Tick → ℕ → List ℕ
-beneath None at = []
-beneath (Some tick) at = markup (codes "<br>") ++ ticks_words tick at
-
 -- a tick of an axis across
-unfoldable pub tick_across : Option Tick → ℕ → ℕ → List ℕ
-tick_across time most at = tick_opening (is_near_the_end most at) ++ place at most ++ markup (codes "\">") ++ grouped at ++ beneath time at ++ markup (codes "</span>")
+unfoldable pub tick_across : ℕ → ℕ → List ℕ
+tick_across most at = tick_opening (is_near_the_end most at) ++ place at most ++ markup (codes "\">") ++ grouped at ++ markup (codes "</span>")
 
--- an axis across from 0 to `most`, with at most six ticks, and what they count
-unfoldable pub axis_across : ℕ → List ℕ → List ℕ
-axis_across most unit =
-    markup (codes "<div class=\"across\" aria-hidden=\"true\">") ++ at_ticks (tick_across None most) most (round_step most 5) ++ markup (codes "</div><p class=\"unit\">") ++ escaped unit ++ markup (codes "</p>")
+-- an axis across: its ticks, and what they count
+unfoldable pub across_of : List ℕ → List ℕ → List ℕ
+across_of ticks unit = markup (codes "<div class=\"across\" aria-hidden=\"true\">") ++ ticks ++ markup (codes "</div><p class=\"unit\">") ++ escaped unit ++ markup (codes "</p>")
 
--- the same of time, with room for a line more
-unfoldable pub axis_lasting : Tick → ℕ → List ℕ → List ℕ
-axis_lasting tick most unit =
-    markup (codes "<div class=\"across\" style=\"height:2.8em\" aria-hidden=\"true\">") ++ at_ticks (tick_across (Some tick) most) most (round_step most 5) ++ markup (codes "</div><p class=\"unit\">") ++ escaped unit ++ markup (codes "</p>")
+-- one from 0 to `most`, with at most six ticks
+abbrev pub axis_across : ℕ → List ℕ → List ℕ
+axis_across most unit = across_of (at_ticks (tick_across most) most (round_step most 5)) unit
 
--- an axis of time, where it is known how long a tick lasts, or isn't
-abbrev pub time_across : Option Tick → ℕ → List ℕ → List ℕ
-time_across None most unit = axis_across most unit
-time_across (Some tick) most unit = axis_lasting tick most unit
+-- a tick of an axis of lengths of time across
+unfoldable pub length_across : ℕ → ℕ → List ℕ
+length_across most at = tick_opening (is_near_the_end most at) ++ place at most ++ markup (codes "\">") ++ length_words at ++ markup (codes "</span>")
 
--- a tick of an axis up begins; of time it may take several lines, since what stands behind its number has no room else
-abbrev pub tick_up_opening : Option Tick → List ℕ
-tick_up_opening None = codes "<span style=\"bottom:"
-tick_up_opening (Some tick) = codes "<span style=\"white-space:normal;text-align:right;bottom:"
+-- an axis from 0 to a length, with at most five ticks, since their words are wider
+abbrev pub lengths_across : ℕ → List ℕ → List ℕ
+lengths_across most unit = across_of (at_ticks (length_across most) most (time_step most 4)) unit
+
+-- an axis of time, where it isn't known how long a tick of the simulation lasts, or is: what it counts then has a name of its own
+abbrev pub time_across : Option Tick → ℕ → List ℕ → List ℕ → List ℕ
+time_across None most counted lasting = axis_across most counted
+time_across (Some tick) most counted lasting = lengths_across (length_of tick most) lasting
 
 -- a tick of an axis up
-unfoldable pub tick_up : Option Tick → ℕ → ℕ → List ℕ
-tick_up time most at = tick_up_opening time ++ place at most ++ markup (codes "\">") ++ time_text time at ++ markup (codes "</span>")
+unfoldable pub tick_up : ℕ → ℕ → List ℕ
+tick_up most at = markup (codes "<span style=\"bottom:") ++ place at most ++ markup (codes "\">") ++ grouped at ++ markup (codes "</span>")
 
--- an axis up from 0 to `most`, with at most five ticks, and how long they last where it is time, and known how long the unit lasts in which it is counted
-unfoldable pub time_up : Option Tick → ℕ → List ℕ
-time_up time most = markup (codes "<div class=\"up\" aria-hidden=\"true\">") ++ at_ticks (tick_up time most) most (round_step most 4) ++ markup (codes "</div>")
+-- a tick of an axis of lengths of time up
+unfoldable pub length_up : ℕ → ℕ → List ℕ
+length_up most at = markup (codes "<span style=\"bottom:") ++ place at most ++ markup (codes "\">") ++ length_words at ++ markup (codes "</span>")
 
--- one that counts anything else
+-- an axis up
+unfoldable pub up_of : List ℕ → List ℕ
+up_of ticks = markup (codes "<div class=\"up\" aria-hidden=\"true\">") ++ ticks ++ markup (codes "</div>")
+
+-- one from 0 to `most`, with at most five ticks
 abbrev pub axis_up : ℕ → List ℕ
-axis_up most = time_up None most
+axis_up most = up_of (at_ticks (tick_up most) most (round_step most 4))
+
+-- an axis of time up
+abbrev pub time_up : Option Tick → ℕ → List ℕ
+time_up None most = axis_up most
+time_up (Some tick) most = up_of (at_ticks (length_up (length_of tick most)) (length_of tick most) (time_step (length_of tick most) 4))

@@ -67,9 +67,13 @@ length_words length =
     else if nat_lt length day then hours_words length
     else days_words length
 
--- how long so many ticks last, in words
+-- how long so many ticks last
+abbrev pub length_of : Tick → ℕ → ℕ
+length_of tick ticks = ticks * tick.microseconds
+
+-- the same in words
 abbrev pub ticks_words : Tick → ℕ → List ℕ
-ticks_words tick ticks = length_words (ticks * tick.microseconds)
+ticks_words tick ticks = length_words (length_of tick ticks)
 
 -- the same in parentheses, behind their number
 unfoldable pub in_parentheses : Tick → ℕ → List ℕ
@@ -79,6 +83,14 @@ in_parentheses tick ticks = codes " (" ++ ticks_words tick ticks ++ codes ")"
 abbrev pub lasting : Option Tick → ℕ → List ℕ
 lasting None ticks = []
 lasting (Some tick) ticks = in_parentheses tick ticks
+
+-- from which to which length two numbers of ticks last
+unfoldable pub between : Tick → ℕ → ℕ → List ℕ
+between tick least greatest = codes " (" ++ ticks_words tick least ++ codes " to " ++ ticks_words tick greatest ++ codes ")"
+
+abbrev pub lasting_between : Option Tick → ℕ → ℕ → List ℕ
+lasting_between None least greatest = []
+lasting_between (Some tick) least greatest = between tick least greatest
 
 -- a number of ticks, and how long they last
 unfoldable pub time_text : Option Tick → ℕ → List ℕ

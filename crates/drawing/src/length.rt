@@ -1,7 +1,7 @@
 //! Lengths of time, where it is known how long a tick lasts.
 ghost use Rattle.std.specs.Prelude.{◌≡◌, ◌++◌, ◌<◌, ◌≤◌, OnOk, decimal};
 ghost use Rattle.std.specs.String.{string_bytes};
-ghost use Rattle.drawing.specs.Lengths.{and_minutes, and_more, and_seconds, days_words, digit, hours_words, in_parentheses, in_unit, lasting, length_words, minutes_words, part_words, places_within, short_words, ticks_words, time_text};
+ghost use Rattle.drawing.specs.Lengths.{and_minutes, and_more, and_seconds, between, days_words, digit, hours_words, in_parentheses, in_unit, lasting, lasting_between, length_of, length_words, minutes_words, part_words, places_within, short_words, ticks_words, time_text};
 
 use crate::number::push_grouped;
 use std::alloc::AllocError;
@@ -38,6 +38,33 @@ pub fn push_lasting(text: &mut String, tick: Option<Tick>, ticks: u64) -> Result
     }
 }
 
+/// Appends from which to which length two numbers of ticks last, in parentheses, where it is known how long a tick lasts.
+pub fn push_lasting_between(
+    text: &mut String,
+    tick: Option<Tick>,
+    least: u64,
+    greatest: u64,
+) -> Result<(), AllocError>
+    ensures { OnOk result (string_bytes text.new ≡ string_bytes text.old ++ lasting_between tick least greatest) }
+{
+    match tick {
+        Some(tick) => push_between(text, tick, least, greatest),
+        None => Ok(()),
+    }
+}
+
+/// Appends the same.
+#[tactic(auto, unfolding(crate::specs::Lengths::between))]
+fn push_between(text: &mut String, tick: Tick, least: u64, greatest: u64) -> Result<(), AllocError>
+    ensures { OnOk result (string_bytes text.new ≡ string_bytes text.old ++ between tick least greatest) }
+{
+    text.push_str(" (")?;
+    push_ticks_words(text, tick, least)?;
+    text.push_str(" to ")?;
+    push_ticks_words(text, tick, greatest)?;
+    text.push_str(")")
+}
+
 /// Appends how long so many ticks last, in parentheses.
 #[tactic(auto, unfolding(crate::specs::Lengths::in_parentheses))]
 fn push_in_parentheses(text: &mut String, tick: Tick, ticks: u64) -> Result<(), AllocError>
@@ -49,15 +76,22 @@ fn push_in_parentheses(text: &mut String, tick: Tick, ticks: u64) -> Result<(), 
 }
 
 /// Appends how long so many ticks last.
-#[tactic(auto, using(crate::proofs::Lengths::product))]
-pub(crate) fn push_ticks_words(text: &mut String, tick: Tick, ticks: u64) -> Result<(), AllocError>
+fn push_ticks_words(text: &mut String, tick: Tick, ticks: u64) -> Result<(), AllocError>
     ensures { OnOk result (string_bytes text.new ≡ string_bytes text.old ++ ticks_words tick ticks) }
 {
-    push_length(text, u128::from(ticks) * u128::from(tick.microseconds))
+    push_length(text, length_of(tick, ticks))
+}
+
+/// How long so many ticks last, in microseconds.
+#[tactic(auto, using(crate::proofs::Lengths::product))]
+pub(crate) fn length_of(tick: Tick, ticks: u64) -> u128
+    ensures { result ≡ length_of tick ticks }
+{
+    u128::from(ticks) * u128::from(tick.microseconds)
 }
 
 /// Appends a length, in microseconds, in words, as a page shows them.
-fn push_length(text: &mut String, length: u128) -> Result<(), AllocError>
+pub(crate) fn push_length(text: &mut String, length: u128) -> Result<(), AllocError>
     ensures { OnOk result (string_bytes text.new ≡ string_bytes text.old ++ length_words length) }
 {
     if length < MINUTE {
@@ -214,7 +248,7 @@ mod tests {
     use ticks::Tick;
 
     /// Numbers of ticks, how many microseconds a tick lasts, and how they are shown.
-    const TIMES: [(u64, u64, &str); 16] = [
+    const TIMES: [(u64, u32, &str); 15] = [
         (0, 1_000, "0 (0 s)"),
         (999, 1, "999 (999 &micro;s)"),
         (1_500, 1, "1,500 (1.5 ms)"),
@@ -230,7 +264,6 @@ mod tests {
         (98_400, 1_000_000, "98,400 (1 d 3 h 20 min)"),
         (172_800, 1_000_000, "172,800 (2 d)"),
         (86_461, 1_000_000, "86,461 (1 d 1 min 1 s)"),
-        (7, 86_400_000_000, "7 (7 d)"),
     ];
 
     #[test]

@@ -1,5 +1,5 @@
 //! Numbers as a page shows them.
-ghost use Rattle.std.specs.Prelude.{◌≡◌, ◌++◌, ◌<◌, ◌≤◌, OnOk, codes, decimal};
+ghost use Rattle.std.specs.Prelude.{◌≡◌, ◌++◌, ◌<◌, ◌≤◌, ◌^◌, OnOk, codes, decimal};
 ghost use Rattle.std.specs.String.{string_bytes};
 ghost use Rattle.drawing.specs.Numbers.{digit_group, group_digits, grouped, grouped_within, hundredths, percent, place, three_digits};
 
@@ -84,6 +84,16 @@ fn push_first(text: &mut String, number: u64) -> Result<(), AllocError>
 pub fn push_place(text: &mut String, value: u64, most: u64) -> Result<(), AllocError>
     ensures { OnOk result (string_bytes text.new ≡ string_bytes text.old ++ place value most) }
 {
+    let hundredths = hundredths_of(u128::from(value), u128::from(most));
+    push_percent(text, hundredths)
+}
+
+/// Appends the same of lengths of time.
+#[tactic(auto, unfolding(crate::specs::Numbers::place))]
+pub(crate) fn push_place_of(text: &mut String, value: u128, most: u128) -> Result<(), AllocError>
+    requires { most < 2 ^ 95 }
+    ensures { OnOk result (string_bytes text.new ≡ string_bytes text.old ++ place value most) }
+{
     let hundredths = hundredths_of(value, most);
     push_percent(text, hundredths)
 }
@@ -100,12 +110,13 @@ fn push_percent(text: &mut String, hundredths: u64) -> Result<(), AllocError>
 
 /// How many of ten thousand parts of `most` a value is, rounded down; at most all of them.
 #[tactic(auto, unfolding(crate::specs::Numbers::hundredths))]
-fn hundredths_of(value: u64, most: u64) -> u64
+fn hundredths_of(value: u128, most: u128) -> u64
+    requires { most < 2 ^ 95 }
     ensures few { result ≤ 10000 }
     ensures part { result ≡ hundredths value most }
 {
     if value >= most {
         return 10000;
     }
-    (u128::from(value) * 10000 / u128::from(most)).min(10000) as u64
+    (value * 10000 / most).min(10000) as u64
 }

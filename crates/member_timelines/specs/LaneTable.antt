@@ -35,7 +35,7 @@ lane_words s =
 
 -- the axis of time
 abbrev pub time_axis : Option Tick → Setup → List ℕ
-time_axis time s = time_across time (max s.end 1) (codes "moment, in ticks")
+time_axis time s = time_across time (max s.end 1) (codes "moment, in ticks") (codes "moment")
 
 -- the same below the lanes
 unfoldable pub lane_axis : Option Tick → Setup → List ℕ

@@ -174,7 +174,13 @@ fn push_axis(text: &mut String, run: &Run) -> Result<(), AllocError>
 pub fn push_time_axis(text: &mut String, run: &Run) -> Result<(), AllocError>
     ensures { OnOk result (string_bytes text.new ≡ string_bytes text.old ++ time_axis run.now.tick run.now.scenario.now) }
 {
-    push_time_across(text, run.end().max(1), "moment, in ticks", run.tick)
+    push_time_across(
+        text,
+        run.end().max(1),
+        "moment, in ticks",
+        "moment",
+        run.tick,
+    )
 }
 
 /// Appends the lanes as a table: for each the spans in which something changes.

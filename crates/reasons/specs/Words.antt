@@ -4,10 +4,24 @@ use Rattle.std.specs.Fmt.{decimal}
 use Rattle.shown_names.specs.Shown.{shown_name}
 use Rattle.reasons.specs.declared.words.Clash.{Clash}
 use Rattle.reasons.specs.declared.words.Clash.TheVariants as clash
+use Rattle.reasons.specs.declared.words.Written.{Written}
+use Rattle.reasons.specs.declared.words.Written.TheVariants as written
 use Rattle.reasons.specs.declared.words.WordFault.{WordFault}
 use Rattle.reasons.specs.declared.words.WordFault.TheVariants as fault
 use Rattle.reasons.specs.declared.words.WordReason.{WordReason}
 use Rattle.reasons.specs.declared.words.WordReason.TheVariants as reason
+
+-- the option that names a file that is written
+abbrev pub written_name : Written → List ℕ
+written_name written.Trace = codes "trace"
+written_name written.Report = codes "report"
+written_name written.Table = codes "table"
+written_name written.Page = codes "page"
+written_name written.Out = codes "out"
+
+-- such a file is named `-`
+abbrev pub dash_text : Written → List ℕ
+dash_text file = codes "--" ++ written_name file ++ codes " -: - isn't standard output here; write the name of a file, or ./- for one with the name -"
 
 -- the option that has the word
 abbrev pub option_of : WordFault → List ℕ
@@ -77,6 +91,7 @@ no_statistic name = codes "there is no statistic " ++ shown_name name
 -- what is wrong with the words
 abbrev pub word_reason_text : WordReason → List ℕ
 word_reason_text (reason.Clash clash) = clash_text clash
+word_reason_text (reason.Dash file) = dash_text file
 word_reason_text (reason.Word fault word) = word_text (option_of fault) word.now ++ advice_of fault
 word_reason_text (reason.Key word key guess) = word_text (codes "--set") word.now ++ (no_key key.now ++ guess_text guess)
 word_reason_text (reason.Value word value) = word_text (codes "--set") word.now ++ no_value value.now

@@ -1,7 +1,7 @@
 //! What is wrong with a file.
-ghost use Rattle.std.specs.Prelude.{Some};
+ghost use Rattle.std.specs.Prelude.{◌≡◌, Some};
 ghost use Rattle.std.specs.Fmt.{WritesOnOk};
-ghost use Rattle.reasons.specs.Files.{file_reason_text, of_file, of_two};
+ghost use Rattle.reasons.specs.Files.{file_reason_text, missing_text, of_file, of_two};
 
 use shown_names::write_name;
 use std::fmt;
@@ -33,7 +33,7 @@ impl Display for FileReason<'_> {
 
     fn fmt<W: Write>(&self, f: &mut Formatter<W>) -> fmt::Result {
         match self {
-            FileReason::Missing(name) => write_of(f, name, ": there is no such file"),
+            FileReason::Missing(name) => write_of(f, name, missing_text(name)),
             FileReason::NoFolder(name) => write_of(f, name, ": its directory isn't there"),
             FileReason::Folder(name) => write_of(f, name, " is a directory"),
             FileReason::Denied(name) => write_of(f, name, ": permission denied"),
@@ -46,6 +46,17 @@ impl Display for FileReason<'_> {
                 ": standard output or standard error goes there",
             ),
         }
+    }
+}
+
+/// What is said of the name of a file that isn't there; other programs take `-` for standard input.
+fn missing_text(name: &str) -> &'static str
+    ensures { result.now ≡ missing_text name.now }
+{
+    if name == "-" {
+        ": there is no such file; /dev/stdin is standard input"
+    } else {
+        ": there is no such file"
     }
 }
 

@@ -9,4 +9,4 @@ mod words;
 pub use files::FileReason;
 pub use items::ItemReason;
 pub use runs::RunReason;
-pub use words::{Clash, WordFault, WordReason};
+pub use words::{Clash, WordFault, WordReason, Written, written_name};

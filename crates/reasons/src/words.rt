@@ -1,7 +1,7 @@
 //! What is wrong with the words of a command line.
 ghost use Rattle.std.specs.Prelude.{◌≡◌, ◌++◌, Some};
 ghost use Rattle.std.specs.Fmt.{WritesOnOk};
-ghost use Rattle.reasons.specs.Words.{advice_of, clash_text, guess_text, no_key, no_statistic, no_value, option_of, parts_text, word_reason_text, word_text};
+ghost use Rattle.reasons.specs.Words.{advice_of, clash_text, dash_text, guess_text, no_key, no_statistic, no_value, option_of, parts_text, word_reason_text, word_text, written_name};
 
 use shown_names::write_name;
 use std::fmt;
@@ -18,6 +18,21 @@ pub enum Clash {
     ShardTelling,
     /// `--name` without `--page`.
     NameAlone,
+}
+
+/// A file that a command writes, by the option that names it.
+#[derive(Clone, Copy, Debug, PartialEq, Eq)]
+pub enum Written {
+    /// `--trace`.
+    Trace,
+    /// `--report`.
+    Report,
+    /// `--table`.
+    Table,
+    /// `--page`.
+    Page,
+    /// `--out`.
+    Out,
 }
 
 /// What is wrong with the word of an option.
@@ -56,6 +71,8 @@ pub enum WordFault {
 pub enum WordReason<'a> {
     /// Options that don't go together.
     Clash(Clash),
+    /// This file is named `-`.
+    Dash(Written),
     /// The word of an option.
     Word {
         fault: WordFault,
@@ -86,6 +103,19 @@ pub enum WordReason<'a> {
     Runs,
     /// A word is no text.
     NoText,
+}
+
+/// The option that names a file, without its dashes.
+pub fn written_name(written: Written) -> &'static str
+    ensures { result.now ≡ written_name written }
+{
+    match written {
+        Written::Trace => "trace",
+        Written::Report => "report",
+        Written::Table => "table",
+        Written::Page => "page",
+        Written::Out => "out",
+    }
 }
 
 /// The option that has the word.
@@ -145,6 +175,7 @@ impl Display for WordReason<'_> {
     fn fmt<W: Write>(&self, f: &mut Formatter<W>) -> fmt::Result {
         match self {
             WordReason::Clash(clash) => f.write_str(clash_text(*clash)),
+            WordReason::Dash(written) => write_dash(f, *written),
             WordReason::Word { fault, word } => write_word(f, *fault, word),
             WordReason::Key { word, key, guess } => {
                 write_option(f, "--set", word)?;
@@ -168,6 +199,17 @@ impl Display for WordReason<'_> {
             WordReason::NoText => f.write_str("a word is no text in UTF-8"),
         }
     }
+}
+
+/// Writes that a file is named `-`, and what to write.
+fn write_dash<W: Write>(f: &mut Formatter<W>, written: Written) -> fmt::Result
+    ensures { WritesOnOk W.write_str_gives f.old result (dash_text written) f.new }
+{
+    f.write_str("--")?;
+    f.write_str(written_name(written))?;
+    f.write_str(
+        " -: - isn't standard output here; write the name of a file, or ./- for one with the name -",
+    )
 }
 
 /// Writes an option and its word.

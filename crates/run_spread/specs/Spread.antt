@@ -95,7 +95,7 @@ chart_opening name width most =
 unfoldable pub spread_chart : Option Tick → List ℕ → ℕ → ℕ → ℕ → List ℕ → List ℕ → List ℕ
 spread_chart time name width most step suspected dead =
     chart_opening name width most ++ line (codes "suspect") suspected step most ++ line (codes "dead") dead step most
-    ++ plot_end ++ time_across time width (codes "ticks since the crash") ++ codes "</div>"
+    ++ plot_end ++ time_across time width (codes "ticks since the crash") (codes "time since the crash") ++ codes "</div>"
 
 -- a time, a dash where there is none
 abbrev pub time_cell : Option Tick → Option ℕ → List ℕ

@@ -217,7 +217,13 @@ fn push_chart(
     push_reached(text, "suspect", suspected, step, most)?;
     push_reached(text, "dead", dead, step, most)?;
     close_plot(text)?;
-    push_time_across(text, width, "ticks since the crash", time)?;
+    push_time_across(
+        text,
+        width,
+        "ticks since the crash",
+        "time since the crash",
+        time,
+    )?;
     text.push_str("</div>")?;
     Ok(())
 }

@@ -15,8 +15,7 @@ use Rattle.reports.specs.FalsePositives.{ways_to_depart, false_positives}
 use Rattle.drawing.specs.Numbers.{grouped}
 use Rattle.member_timelines.specs.Numbers.{by_number}
 use Rattle.member_timelines.specs.Wrongly.{count_out}
-use Rattle.drawing.specs.Lengths.{lasting}
-use Rattle.drawing.specs.Lengths.{time_text}
+use Rattle.drawing.specs.Lengths.{lasting, lasting_between}
 use Rattle.ticks.specs.declared.tick.Tick.{Tick}
 
 -- how large the cluster is and how long it ran
@@ -39,12 +38,16 @@ found_words count found =
     else if nat_lt found count then some_found found else []
 
 -- the greatest time, where it is another than the least
-abbrev pub greatest_words : Option Tick → ℕ → ℕ → List ℕ
-greatest_words time least greatest = if nat_lt least greatest then codes " to " ++ time_text time greatest else []
+abbrev pub greatest_words : ℕ → ℕ → List ℕ
+greatest_words least greatest = if nat_lt least greatest then codes " to " ++ grouped greatest else []
+
+-- how long both last
+abbrev pub lasting_from : Option Tick → ℕ → ℕ → List ℕ
+lasting_from time least greatest = if nat_lt least greatest then lasting_between time least greatest else lasting time least
 
 -- how soon: between these times
 unfoldable pub between_words : Option Tick → ℕ → ℕ → List ℕ
-between_words time least greatest = codes ": first declared dead after " ++ time_text time least ++ greatest_words time least greatest ++ codes " ticks. "
+between_words time least greatest = codes ": first declared dead after " ++ grouped least ++ greatest_words least greatest ++ codes " ticks" ++ lasting_from time least greatest ++ codes ". "
 
 -- the same, where some were detected
 unfoldable pub latency_words : Option Tick → Option ℕ → Option ℕ → List ℕ

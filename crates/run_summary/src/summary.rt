@@ -4,15 +4,14 @@ ghost use Rattle.std.specs.String.{string_bytes};
 ghost use Rattle.std.specs.List.{reduce};
 ghost use Rattle.scenario.specs.Setup.{member_count};
 ghost use Rattle.reports.specs.Departures.{crashes_of, latencies_of};
-ghost use Rattle.drawing.specs.Lengths.{time_text};
 ghost use Rattle.drawing.specs.Numbers.{grouped};
 ghost use Rattle.member_timelines.specs.Numbers.{by_number};
 ghost use Rattle.member_timelines.specs.Run.{IsTold};
 ghost use Rattle.member_timelines.specs.Wrongly.{count_out};
-ghost use Rattle.run_summary.specs.Summary.{size_words, crashed_words, some_found, found_words, greatest_words, between_words, latency_words, is_found, crash_words, out_words, figure_start, figure, out_class, back_figure, first_figures, first_figures_of, last_figures, last_figures_of, figures, summary_of, summary_text};
+ghost use Rattle.run_summary.specs.Summary.{size_words, crashed_words, some_found, found_words, greatest_words, lasting_from, between_words, latency_words, is_found, crash_words, out_words, figure_start, figure, out_class, back_figure, first_figures, first_figures_of, last_figures, last_figures_of, figures, summary_of, summary_text};
 
 use base::Memory;
-use drawing::{push_grouped, push_lasting, push_timed};
+use drawing::{push_grouped, push_lasting, push_lasting_between};
 use member_timelines::{Run, by_number, claims_by_member};
 use reports::{Departure, Tallies, false_positive_count};
 use scenario::Version;
@@ -199,33 +198,45 @@ fn push_between(
     ensures { OnOk result (string_bytes text.new ≡ string_bytes text.old ++ between_words time least greatest) }
 {
     text.push_str(": first declared dead after ")?;
-    push_timed(text, time, least)?;
-    push_greatest(text, time, least, greatest)?;
-    text.push_str(" ticks. ")?;
+    push_grouped(text, least)?;
+    push_greatest(text, least, greatest)?;
+    text.push_str(" ticks")?;
+    push_lasting_from(text, time, least, greatest)?;
+    text.push_str(". ")?;
     Ok(())
 }
 
-/// Appends the greatest time, where it is another than the least.
-fn push_greatest(
+/// Appends how long these times last, where it is known how long a tick does.
+fn push_lasting_from(
     text: &mut String,
     time: Option<Tick>,
     least: u64,
     greatest: u64,
 ) -> Result<(), AllocError>
-    ensures { OnOk result (string_bytes text.new ≡ string_bytes text.old ++ greatest_words time least greatest) }
+    ensures { OnOk result (string_bytes text.new ≡ string_bytes text.old ++ lasting_from time least greatest) }
 {
     if greatest > least {
-        return push_to(text, time, greatest);
+        return push_lasting_between(text, time, least, greatest);
+    }
+    push_lasting(text, time, least)
+}
+
+/// Appends the greatest time, where it is another than the least.
+fn push_greatest(text: &mut String, least: u64, greatest: u64) -> Result<(), AllocError>
+    ensures { OnOk result (string_bytes text.new ≡ string_bytes text.old ++ greatest_words least greatest) }
+{
+    if greatest > least {
+        return push_to(text, greatest);
     }
     Ok(())
 }
 
 /// Appends up to which time.
-fn push_to(text: &mut String, time: Option<Tick>, greatest: u64) -> Result<(), AllocError>
-    ensures { OnOk result (string_bytes text.new ≡ string_bytes text.old ++ (codes " to " ++ time_text time greatest)) }
+fn push_to(text: &mut String, greatest: u64) -> Result<(), AllocError>
+    ensures { OnOk result (string_bytes text.new ≡ string_bytes text.old ++ (codes " to " ++ grouped greatest)) }
 {
     text.push_str(" to ")?;
-    push_timed(text, time, greatest)?;
+    push_grouped(text, greatest)?;
     Ok(())
 }
 

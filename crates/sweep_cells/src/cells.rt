@@ -3,10 +3,10 @@ ghost use Rattle.std.specs.Prelude.{◌≡◌, ◌<◌, ◌++◌, OnOk, slice_ge
 ghost use Rattle.std.specs.String.{string_bytes};
 ghost use Rattle.sweep_plan.specs.Sweep.{setting_count};
 ghost use Rattle.sweep_cells.specs.Cells.{cell, time_cell};
-ghost use Rattle.sweep_cells.specs.Words.{time_words, whole_percent, tenth_percent, percent_words, hundredths_words, rate_words, runs_words, deaths_words, count_words, noun_words, interval_words, number_words, swept_keys_words, swept_keys_at, thousandths, share_of};
+ghost use Rattle.sweep_cells.specs.Words.{lasting_words, time_words, whole_percent, tenth_percent, percent_words, hundredths_words, rate_words, runs_words, deaths_words, count_words, noun_words, interval_words, number_words, swept_keys_words, swept_keys_at, thousandths, share_of};
 
 use base::Memory;
-use drawing::{push_escaped, push_grouped, push_markup, push_timed};
+use drawing::{push_escaped, push_grouped, push_lasting, push_markup, push_timed};
 use figures::SettingSummary;
 use std::alloc::{AllocError, Global};
 use sweep_plan::{Choice, Plan, choices_text};
@@ -25,6 +25,21 @@ pub fn push_time(
     match ticks {
         Some(ticks) => push_timed(text, time, ticks),
         None => text.push_str("-"),
+    }
+}
+
+/// Appends how long so many ticks last, in parentheses, where it is known how long a tick does; nothing where there is no
+/// number of them.
+pub fn push_lasting_of(
+    text: &mut String,
+    time: Option<Tick>,
+    ticks: Option<u64>,
+) -> Result<(), AllocError>
+    ensures { OnOk result (string_bytes text.new ≡ string_bytes text.old ++ lasting_words time ticks) }
+{
+    match ticks {
+        Some(ticks) => push_lasting(text, time, ticks),
+        None => Ok(()),
     }
 }
 

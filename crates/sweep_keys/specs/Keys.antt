@@ -1,5 +1,5 @@
 -- The figures of axes: what each key that is set changes, or keys that go together.
-use Rattle.std.specs.Prelude.{ℕ, Bool, ◌+◌, ◌-◌, ◌/◌, ◌%◌, ◌^◌, ◌==◌, ◌&&◌, nat_le, if◌then◌else◌, min, max, List, [], ◌∷◌, ◌++◌, Option, None, codes, decimal, drop, fold, is_some, length, slice_get, take, unwrap_or}
+use Rattle.std.specs.Prelude.{ℕ, Bool, ◌+◌, ◌-◌, ◌/◌, ◌%◌, ◌^◌, ◌==◌, ◌&&◌, nat_le, if◌then◌else◌, min, max, List, [], ◌∷◌, ◌++◌, Option, Some, None, codes, decimal, drop, fold, is_some, length, slice_get, take, unwrap_or}
 use Rattle.std.specs.List.{flat_map, range_with_len}
 use Rattle.std.specs.Option.{option_map_or}
 use Rattle.sweep_plan.specs.Settings.{settings_of}
@@ -150,23 +150,24 @@ values_under k axis = markup (codes "<div class=\"values\" aria-hidden=\"true\">
 unfoldable pub chart_opening : Statistic → List ℕ
 chart_opening s = markup (codes "<div><h3>") ++ markup (statistic_words s) ++ markup (codes "</h3><div class=\"chart\">")
 
--- what a screen reader tells of a plot
-unfoldable pub lines_words : List ℕ
-lines_words = codes "Ticks since the crash against the values of the key: a line of medians for each value of the others, and over each value a bar from the 5th to the 95th percentile, or to the top where more than 5 % of the crashes weren't detected."
+-- what a screen reader reads of a plot
+abbrev pub lines_words : Option Tick → List ℕ
+lines_words None = codes "Ticks since the crash against the values of the key: a line of medians for each value of the others, and over each value a bar from the 5th to the 95th percentile, or to the top where more than 5 % of the crashes weren't detected."
+lines_words (Some tick) = codes "Time since the crash against the values of the key: a line of medians for each value of the others, and over each value a bar from the 5th to the 95th percentile, or to the top where more than 5 % of the crashes weren't detected."
 
 -- its plot begins, so wide as the values want and so high
-unfoldable pub lines_opening : KeyLines → ℕ → Statistic → List ℕ
-lines_opening k most s = plot_opening (codes "lines") (width k) most (statistic_words s) lines_words
+unfoldable pub lines_opening : Option Tick → KeyLines → ℕ → Statistic → List ℕ
+lines_opening time k most s = plot_opening (codes "lines") (width k) most (statistic_words s) (lines_words time)
 
 -- the lines of the plot
-unfoldable pub lines_plane : List SettingSummary → KeyLines → Statistic → ℕ → List ℕ
-lines_plane settings k s most =
-    markup (codes "<div class=\"plane\">") ++ lines_opening k most s ++ flat_map (line_over settings k s most) (range_with_len 0 k.lines) ++ plot_end ++ markup (codes "</div>")
+unfoldable pub lines_plane : Option Tick → List SettingSummary → KeyLines → Statistic → ℕ → List ℕ
+lines_plane time settings k s most =
+    markup (codes "<div class=\"plane\">") ++ lines_opening time k most s ++ flat_map (line_over settings k s most) (range_with_len 0 k.lines) ++ plot_end ++ markup (codes "</div>")
 
 -- a chart of a statistic over the values
 unfoldable pub key_chart : Option Tick → List SettingSummary → KeyLines → List KeyValues → Statistic → List ℕ
 key_chart time settings k axis s =
-    chart_opening s ++ time_up time (plot_height settings k s) ++ lines_plane settings k s (plot_height settings k s) ++ values_under k axis ++ markup (codes "</div></div>")
+    chart_opening s ++ time_up time (plot_height settings k s) ++ lines_plane time settings k s (plot_height settings k s) ++ values_under k axis ++ markup (codes "</div></div>")
 
 -- what is drawn of a setting, in cells
 unfoldable pub drawn_times : Option Tick → Statistic → SettingSummary → List ℕ
@@ -207,13 +208,18 @@ key_id key = codes "key-" ++ decimal key
 abbrev pub key_heading : List KeyValues → List ℕ
 key_heading axis = codes "What " ++ names_text axis ++ codes " changes"
 
+-- what an axis of time counts
+abbrev pub counted_word : Option Tick → List ℕ
+counted_word None = codes "ticks"
+counted_word (Some tick) = codes "time"
+
 -- what its plots show, in words
-unfoldable pub marks_words : List ℕ
-marks_words = codes "<p class=\"soft\">Up: ticks since the crash. Each dot is a median over all crashes of all runs, and its bar goes from the 5th to the 95th percentile. A crash that wasn't detected counts as later than any: where more than 5&nbsp;% weren't, the bar goes to the top of the plot; where more than half weren't, there is no dot.</p>"
+unfoldable pub marks_words : Option Tick → List ℕ
+marks_words time = markup (codes "<p class=\"soft\">Up: ") ++ markup (counted_word time) ++ markup (codes " since the crash. Each dot is a median over all crashes of all runs, and its bar goes from the 5th to the 95th percentile. A crash that wasn't detected counts as later than any: where more than 5&nbsp;% weren't, the bar goes to the top of the plot; where more than half weren't, there is no dot.</p>")
 
 -- it begins
-unfoldable pub key_opening : ℕ → List KeyValues → List ℕ
-key_opening key axis = figure_opening (key_id key) (key_heading axis) ++ marks_words
+unfoldable pub key_opening : Option Tick → ℕ → List KeyValues → List ℕ
+key_opening time key axis = figure_opening (key_id key) (key_heading axis) ++ marks_words time
 
 -- its charts
 unfoldable pub key_charts : Option Tick → List SettingSummary → KeyLines → List KeyValues → List ℕ
@@ -223,7 +229,7 @@ key_charts time settings k axis =
 -- the figure of an axis with these lines, whose first key stands at a place: what the lines are, the charts, and the same in numbers
 unfoldable pub key_figure : Option Tick → List KeyValues → List SettingSummary → KeyLines → ℕ → List KeyValues → List ℕ
 key_figure time swept_keys settings k key axis =
-    key_opening key axis ++ legend swept_keys k key ++ key_charts time settings k axis ++ key_table time swept_keys settings k key axis ++ figure_end
+    key_opening time key axis ++ legend swept_keys k key ++ key_charts time settings k axis ++ key_table time swept_keys settings k key axis ++ figure_end
 
 -- the lines over it: what stands for each value of the keys before is shared out among its own
 abbrev pub lines_of : List KeyValues → List SettingSummary → ℕ → List KeyValues → KeyLines

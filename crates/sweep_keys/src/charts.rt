@@ -41,7 +41,7 @@ pub(crate) fn push_chart(
         statistic,
         most,
     };
-    push_plane(text, &plot)?;
+    push_plane(text, time, &plot)?;
     push_values(alloc, text, axis, lines)?;
     push_markup(text, "</div></div>")?;
     Ok(())
@@ -60,12 +60,12 @@ fn push_chart_opening(text: &mut String, statistic: Statistic) -> Result<(), All
 
 /// Appends the lines.
 #[tactic(auto, unfolding(crate::specs::Keys::lines_plane))]
-fn push_plane(text: &mut String, plot: &Plot<'_>) -> Result<(), AllocError>
+fn push_plane(text: &mut String, time: Option<Tick>, plot: &Plot<'_>) -> Result<(), AllocError>
     ensures { OnOk result (string_bytes text.new ≡ string_bytes text.old
-        ++ lines_plane plot.now.settings.now plot.now.lines plot.now.statistic plot.now.most) }
+        ++ lines_plane time plot.now.settings.now plot.now.lines plot.now.statistic plot.now.most) }
 {
     push_markup(text, "<div class=\"plane\">")?;
-    open_lines(text, plot)?;
+    open_lines(text, time, plot)?;
     push_lines(text, plot)?;
     close_plot(text)?;
     push_markup(text, "</div>")
@@ -73,24 +73,32 @@ fn push_plane(text: &mut String, plot: &Plot<'_>) -> Result<(), AllocError>
 
 /// Begins their plot.
 #[tactic(auto, unfolding(crate::specs::Keys::lines_opening))]
-fn open_lines(text: &mut String, plot: &Plot<'_>) -> Result<(), AllocError>
+fn open_lines(text: &mut String, time: Option<Tick>, plot: &Plot<'_>) -> Result<(), AllocError>
     ensures { OnOk result (string_bytes text.new ≡ string_bytes text.old
-        ++ lines_opening plot.now.lines plot.now.most plot.now.statistic) }
+        ++ lines_opening time plot.now.lines plot.now.most plot.now.statistic) }
 {
     let words = plot.statistic.words();
-    let description = lines_words();
+    let description = lines_words(time);
     let width = plot.lines.width();
     open_plot(text, "lines", width, plot.most, words, description)
 }
 
-/// What a screen reader tells of it.
-#[tactic(auto, unfolding(crate::specs::Keys::lines_words))]
-fn lines_words() -> &'static str
-    ensures { result.now ≡ lines_words }
+/// What a screen reader reads of it.
+fn lines_words(time: Option<Tick>) -> &'static str
+    ensures { result.now ≡ lines_words time }
 {
-    "Ticks since the crash against the values of the key: a line of medians for each value of the \
-     others, and over each value a bar from the 5th to the 95th percentile, or to the top where \
-     more than 5 % of the crashes weren't detected."
+    match time {
+        Some(_) => {
+            "Time since the crash against the values of the key: a line of medians for each value of the \
+             others, and over each value a bar from the 5th to the 95th percentile, or to the top where \
+             more than 5 % of the crashes weren't detected."
+        }
+        None => {
+            "Ticks since the crash against the values of the key: a line of medians for each value of the \
+             others, and over each value a bar from the 5th to the 95th percentile, or to the top where \
+             more than 5 % of the crashes weren't detected."
+        }
+    }
 }
 
 /// Appends each line.

@@ -1,7 +1,7 @@
 //! What each key that is set changes, or keys that go together.
 ghost use Rattle.std.specs.Prelude.{◌≡◌, ◌++◌, IfOk, OnOk};
 ghost use Rattle.std.specs.String.{string_bytes};
-ghost use Rattle.sweep_keys.specs.Keys.{key_id, key_heading, marks_words, key_opening, key_charts, key_figure, key_figure_of, figures_from, key_figures, lines_of};
+ghost use Rattle.sweep_keys.specs.Keys.{key_id, key_heading, counted_word, marks_words, key_opening, key_charts, key_figure, key_figure_of, figures_from, key_figures, lines_of};
 ghost use Rattle.sweep_plan.specs.Axes.{axes_of};
 
 use crate::charts::push_chart;
@@ -110,7 +110,7 @@ fn push_figure(
     ensures { OnOk result (string_bytes text.new ≡ string_bytes text.old
         ++ key_figure time plan.now.swept_keys settings.now lines.now key axis.now) }
 {
-    push_opening(alloc, text, key, axis)?;
+    push_opening(alloc, text, time, key, axis)?;
     push_legend(alloc, text, plan, key, lines)?;
     push_charts(alloc, text, time, settings, axis, lines)?;
     push_rows(alloc, text, time, plan, settings, key, axis, lines)?;
@@ -120,27 +120,47 @@ fn push_figure(
 
 /// Begins the figure of an axis by its name, and by what its plots show.
 #[tactic(auto, unfolding(crate::specs::Keys::key_opening))]
-fn push_opening(alloc: Global, text: &mut String, key: usize, axis: &[Swept]) -> Result<(), Memory>
-    ensures { OnOk result (string_bytes text.new ≡ string_bytes text.old ++ key_opening key axis.now) }
+fn push_opening(
+    alloc: Global,
+    text: &mut String,
+    time: Option<Tick>,
+    key: usize,
+    axis: &[Swept],
+) -> Result<(), Memory>
+    ensures { OnOk result (string_bytes text.new ≡ string_bytes text.old ++ key_opening time key axis.now) }
 {
     let id = key_id(alloc, key)?;
     let heading = key_heading(alloc, axis)?;
     open_figure(text, id.as_str(), heading.as_str())?;
-    push_marks_words(text)?;
+    push_marks_words(text, time)?;
     Ok(())
 }
 
 /// Appends what the plots show, in words.
 #[tactic(auto, unfolding(crate::specs::Keys::marks_words))]
-fn push_marks_words(text: &mut String) -> Result<(), AllocError>
-    ensures { OnOk result (string_bytes text.new ≡ string_bytes text.old ++ marks_words) }
+fn push_marks_words(text: &mut String, time: Option<Tick>) -> Result<(), AllocError>
+    ensures { OnOk result (string_bytes text.new ≡ string_bytes text.old ++ marks_words time) }
 {
-    text.push_str(
-        "<p class=\"soft\">Up: ticks since the crash. Each dot is a median over all crashes of all \
+    let counted = counted_word(time);
+    push_markup(text, "<p class=\"soft\">Up: ")?;
+    push_markup(text, counted)?;
+    push_markup(
+        text,
+        " since the crash. Each dot is a median over all crashes of all \
          runs, and its bar goes from the 5th to the 95th percentile. A crash that wasn't detected \
          counts as later than any: where more than 5&nbsp;% weren't, the bar goes to the top of \
          the plot; where more than half weren't, there is no dot.</p>",
     )
+}
+
+/// What an axis of time counts.
+fn counted_word(time: Option<Tick>) -> &'static str
+    ensures { result.now ≡ counted_word time }
+{
+    match time {
+        Some(_) => "time",
+        None => "ticks",
+    }
 }
 
 /// The name of the figure of the key at a place.

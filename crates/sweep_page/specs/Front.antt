@@ -163,7 +163,7 @@ time_where time crashed = if crashed then time else None
 
 -- what is across
 unfoldable pub axis_of : Option Tick → Reach → List ℕ
-axis_of time reach = time_across (time_where time reach.crashed) reach.across (unit_words reach.crashed)
+axis_of time reach = time_across (time_where time reach.crashed) reach.across (unit_words reach.crashed) (codes "time until a crash is first confirmed, median")
 
 -- the plot with its axes
 unfoldable pub front_chart : Option Tick → Reach → List SettingSummary → List Bool → List FrontPoint → List ℕ

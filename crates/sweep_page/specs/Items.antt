@@ -1,10 +1,10 @@
 -- A setting in a list: its number and its values, how fast it is, how safe, and what it costs.
-use Rattle.std.specs.Prelude.{ℕ, Bool, nat_le, nat_lt, if◌then◌else◌, List, [], ◌++◌, codes, slice_get, Option}
+use Rattle.std.specs.Prelude.{ℕ, Bool, nat_le, nat_lt, if◌then◌else◌, List, [], ◌++◌, codes, slice_get, Option, None}
 use Rattle.std.specs.Option.{option_map_or}
 use Rattle.sweep_plan.specs.Sweep.{KeyValues}
 use Rattle.drawing.specs.Escaped.{markup}
 use Rattle.figures.specs.declared.summary.SettingSummary.{SettingSummary}
-use Rattle.sweep_cells.specs.Words.{deaths_words, interval_words, number_words, rate_words, runs_words, swept_keys_at, thousandths, time_words}
+use Rattle.sweep_cells.specs.Words.{deaths_words, interval_words, number_words, rate_words, runs_words, swept_keys_at, thousandths, lasting_words, time_words}
 use Rattle.ticks.specs.declared.tick.Tick.{Tick}
 
 -- which of three a setting is, by the 95 % interval of its share of runs with a false death, as its ends are told: safe where the whole interval is at most 5 %,
@@ -32,7 +32,7 @@ item_opening class place = markup (codes "<li class=\"") ++ markup class ++ mark
 
 -- how fast it is
 unfoldable pub confirm_span : Option Tick → SettingSummary → List ℕ
-confirm_span time setting = markup (codes "<span>first confirmed after <b>") ++ time_words time setting.confirm_p50 ++ markup (codes "</b> ticks, median</span>")
+confirm_span time setting = markup (codes "<span>first confirmed after <b>") ++ time_words None setting.confirm_p50 ++ markup (codes "</b> ticks") ++ lasting_words time setting.confirm_p50 ++ markup (codes ", median</span>")
 
 -- where no run has a crash: how many false deaths it has
 unfoldable pub deaths_span : SettingSummary → List ℕ

@@ -23,7 +23,7 @@ page_style =
     ++ codes ".span.best{stroke:var(--one);stroke-width:2.5;opacity:1}.point.best{stroke:var(--one)}"
     ++ codes ".joined{fill:none;stroke:var(--one);stroke-width:2.5;stroke-dasharray:7 5;vector-effect:non-scaling-stroke}"
     ++ codes ".many{display:grid;grid-template-columns:repeat(auto-fill,minmax(min(100%,20rem),1fr));gap:1rem 1.5rem}"
-    ++ codes ".many .plane{height:11rem}.many .chart{grid-template-columns:4.2rem 1fr}"
+    ++ codes ".many .plane{height:11rem}.many .chart{grid-template-columns:4.2rem 1fr}.many .across span:nth-child(even){display:none}"
     ++ codes ".values{position:relative;height:1.4em;border-top:1px solid var(--line);grid-column:2}"
     ++ codes ".values span{position:absolute;transform:translateX(-50%);font-size:.8rem;color:var(--soft);white-space:nowrap}"
     ++ codes ".path{fill:none;stroke-width:2.5;vector-effect:non-scaling-stroke;stroke-linejoin:round}"

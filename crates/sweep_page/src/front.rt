@@ -185,6 +185,7 @@ fn push_axis(text: &mut String, time: Option<Tick>, reach: &Reach) -> Result<(),
         text,
         reach.across,
         unit_words(reach.crashed),
+        "time until a crash is first confirmed, median",
         time_where(time, reach.crashed),
     )
 }

@@ -8,8 +8,8 @@ use drawing::push_markup;
 use figures::SettingSummary;
 use std::alloc::{AllocError, Global};
 use sweep_cells::{
-    push_deaths, push_interval, push_number, push_rate, push_runs_with, push_swept_keys_at,
-    push_time, setting_at, thousandths,
+    push_deaths, push_interval, push_lasting_of, push_number, push_rate, push_runs_with,
+    push_swept_keys_at, push_time, setting_at, thousandths,
 };
 use sweep_plan::Plan;
 use ticks::Tick;
@@ -155,8 +155,10 @@ fn push_confirm(
     ensures { OnOk result (string_bytes text.new ≡ string_bytes text.old ++ confirm_span time setting.now) }
 {
     push_markup(text, "<span>first confirmed after <b>")?;
-    push_time(text, time, setting.confirm_p50)?;
-    push_markup(text, "</b> ticks, median</span>")
+    push_time(text, None, setting.confirm_p50)?;
+    push_markup(text, "</b> ticks")?;
+    push_lasting_of(text, time, setting.confirm_p50)?;
+    push_markup(text, ", median</span>")
 }
 
 /// Appends how many false deaths there were per run.

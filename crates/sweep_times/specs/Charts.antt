@@ -1,5 +1,5 @@
 -- A chart of the times of a setting: a bar for each bin.
-use Rattle.std.specs.Prelude.{ℕ, ◌+◌, ◌==◌, if◌then◌else◌, min, List, [], ◌++◌, codes, decimal, slice_get, Option}
+use Rattle.std.specs.Prelude.{ℕ, ◌+◌, ◌==◌, if◌then◌else◌, min, List, [], ◌++◌, codes, decimal, slice_get, Option, Some, None}
 use Rattle.std.specs.List.{flat_map, range_with_len}
 use Rattle.std.specs.Option.{option_map_or}
 use Rattle.sweep_plan.specs.Sweep.{KeyValues}
@@ -9,7 +9,7 @@ use Rattle.drawing.specs.Numbers.{grouped}
 use Rattle.drawing.specs.Shapes.{bar, rule, plot_opening, plot_end}
 use Rattle.figures.specs.declared.histogram.Histogram.{Histogram}
 use Rattle.figures.specs.declared.summary.SettingSummary.{SettingSummary}
-use Rattle.sweep_cells.specs.Words.{number_words, swept_keys_at, time_words}
+use Rattle.sweep_cells.specs.Words.{number_words, swept_keys_at, lasting_words, time_words}
 use Rattle.sweep_times.specs.Bins.{held, bin_start, bin_end, height_of, never_confirmed}
 use Rattle.ticks.specs.declared.tick.Tick.{Tick}
 
@@ -35,18 +35,23 @@ median_rule setting across up = option_map_or (λ time. rule (codes "median") (m
 
 -- what the plot of the setting at a place is called
 unfoldable pub plot_title : ℕ → List ℕ
-plot_title place = codes "Setting " ++ decimal (held (place + 1)) ++ codes ": ticks until a crash is first confirmed"
+plot_title place = codes "Setting " ++ decimal (held (place + 1)) ++ codes ": time until a crash is first confirmed"
+
+-- what a screen reader reads of it
+abbrev pub times_words : Option Tick → List ℕ
+times_words None =
+    codes "Across: ticks since the crash, as far as in each chart here. Up: how many crashes were first confirmed then. The upright rule is the median. The table beneath has the numbers."
+times_words (Some tick) =
+    codes "Across: time since the crash, as far as in each chart here. Up: how many crashes were first confirmed then. The upright rule is the median. The table beneath has the numbers."
 
 -- its plot begins
-unfoldable pub times_opening : ℕ → ℕ → ℕ → List ℕ
-times_opening place across up =
-    plot_opening (codes "times") across up (plot_title place)
-    (codes "Across: ticks since the crash, as far as in each chart here. Up: how many crashes were first confirmed then. The upright rule is the median. The table beneath has the numbers.")
+unfoldable pub times_opening : Option Tick → ℕ → ℕ → ℕ → List ℕ
+times_opening time place across up = plot_opening (codes "times") across up (plot_title place) (times_words time)
 
 -- the bars and the rule
-unfoldable pub times_plane : ℕ → SettingSummary → ℕ → ℕ → List ℕ
-times_plane place setting across up =
-    markup (codes "<div class=\"plane\">") ++ times_opening place across up ++ bars setting.confirm_times across up ++ median_rule setting across up ++ plot_end ++ markup (codes "</div>")
+unfoldable pub times_plane : Option Tick → ℕ → SettingSummary → ℕ → ℕ → List ℕ
+times_plane time place setting across up =
+    markup (codes "<div class=\"plane\">") ++ times_opening time place across up ++ bars setting.confirm_times across up ++ median_rule setting across up ++ plot_end ++ markup (codes "</div>")
 
 -- the chart of the setting at a place begins by its number and its choices
 unfoldable pub chart_heading : List KeyValues → ℕ → List ℕ
@@ -56,14 +61,14 @@ chart_heading swept_keys place =
 -- its median, and how many crashes were never confirmed
 unfoldable pub chart_words : Option Tick → SettingSummary → List ℕ
 chart_words time setting =
-    markup (codes "<p class=\"soft\">Median: ") ++ time_words time setting.confirm_p50 ++ markup (codes " ticks. Never confirmed: ") ++ grouped (never_confirmed setting)
+    markup (codes "<p class=\"soft\">Median: ") ++ time_words None setting.confirm_p50 ++ markup (codes " ticks") ++ lasting_words time setting.confirm_p50 ++ markup (codes ". Never confirmed: ") ++ grouped (never_confirmed setting)
     ++ markup (codes " of ") ++ grouped (held setting.crashes) ++ markup (codes " crashes.</p>")
 
 -- its plot with both axes
 unfoldable pub times_plot : Option Tick → ℕ → ℕ → SettingSummary → List ℕ
 times_plot time across place setting =
-    markup (codes "<div class=\"chart\">") ++ axis_up (height_of setting.confirm_times) ++ times_plane place setting across (height_of setting.confirm_times)
-    ++ time_across time across (codes "ticks since the crash") ++ markup (codes "</div></div>")
+    markup (codes "<div class=\"chart\">") ++ axis_up (height_of setting.confirm_times) ++ times_plane time place setting across (height_of setting.confirm_times)
+    ++ time_across time across (codes "ticks since the crash") (codes "time since the crash") ++ markup (codes "</div></div>")
 
 -- the chart of a setting
 unfoldable pub times_chart : Option Tick → List KeyValues → ℕ → ℕ → SettingSummary → List ℕ

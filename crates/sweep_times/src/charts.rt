@@ -2,7 +2,7 @@
 ghost use Rattle.std.specs.Prelude.{◌≡◌, ◌<◌, ◌^◌, ◌++◌, IfOk, OnOk};
 ghost use Rattle.std.specs.List.{flat_map};
 ghost use Rattle.std.specs.String.{string_bytes};
-ghost use Rattle.sweep_times.specs.Charts.{median_rule, plot_title, times_opening, times_plane, chart_heading, chart_words, times_plot, times_chart, chart_at, charts};
+ghost use Rattle.sweep_times.specs.Charts.{median_rule, plot_title, times_opening, times_plane, times_words, chart_heading, chart_words, times_plot, times_chart, chart_at, charts};
 
 use crate::bars::push_bars;
 use crate::bins::{height_of, held, never_confirmed};
@@ -12,7 +12,7 @@ use drawing::{
 };
 use figures::SettingSummary;
 use std::alloc::{AllocError, Global};
-use sweep_cells::{push_number, push_swept_keys_at, push_time, setting_at};
+use sweep_cells::{push_lasting_of, push_number, push_swept_keys_at, push_time, setting_at};
 use sweep_plan::Plan;
 use ticks::Tick;
 
@@ -122,8 +122,10 @@ fn push_words(
     ensures { OnOk result (string_bytes text.new ≡ string_bytes text.old ++ chart_words time setting.now) }
 {
     push_markup(text, "<p class=\"soft\">Median: ")?;
-    push_time(text, time, setting.confirm_p50)?;
-    push_markup(text, " ticks. Never confirmed: ")?;
+    push_time(text, None, setting.confirm_p50)?;
+    push_markup(text, " ticks")?;
+    push_lasting_of(text, time, setting.confirm_p50)?;
+    push_markup(text, ". Never confirmed: ")?;
     push_grouped(text, never_confirmed(setting))?;
     push_markup(text, " of ")?;
     push_grouped(text, held(setting.crashes))?;
@@ -146,8 +148,14 @@ fn push_plot(
     let up = height_of(&setting.confirm_times);
     push_markup(text, "<div class=\"chart\">")?;
     push_up(text, up)?;
-    push_plane(alloc, text, place, setting, across, up)?;
-    push_time_across(text, across, "ticks since the crash", time)?;
+    push_plane(alloc, text, time, place, setting, across, up)?;
+    push_time_across(
+        text,
+        across,
+        "ticks since the crash",
+        "time since the crash",
+        time,
+    )?;
     push_markup(text, "</div></div>")?;
     Ok(())
 }
@@ -157,15 +165,16 @@ fn push_plot(
 fn push_plane(
     alloc: Global,
     text: &mut String,
+    time: Option<Tick>,
     place: usize,
     setting: &SettingSummary,
     across: u64,
     up: u64,
 ) -> Result<(), Memory>
-    ensures { OnOk result (string_bytes text.new ≡ string_bytes text.old ++ times_plane place setting.now across up) }
+    ensures { OnOk result (string_bytes text.new ≡ string_bytes text.old ++ times_plane time place setting.now across up) }
 {
     push_markup(text, "<div class=\"plane\">")?;
-    open_times(alloc, text, place, across, up)?;
+    open_times(alloc, text, time, place, across, up)?;
     push_bars(text, &setting.confirm_times, across, up)?;
     push_median(text, setting, across, up)?;
     close_plot(text)?;
@@ -178,23 +187,32 @@ fn push_plane(
 fn open_times(
     alloc: Global,
     text: &mut String,
+    time: Option<Tick>,
     place: usize,
     across: u64,
     up: u64,
 ) -> Result<(), Memory>
-    ensures { OnOk result (string_bytes text.new ≡ string_bytes text.old ++ times_opening place across up) }
+    ensures { OnOk result (string_bytes text.new ≡ string_bytes text.old ++ times_opening time place across up) }
 {
     let title = plot_title(alloc, place)?;
-    open_plot(
-        text,
-        "times",
-        across,
-        up,
-        title.as_str(),
-        "Across: ticks since the crash, as far as in each chart here. Up: how many crashes were first confirmed \
-         then. The upright rule is the median. The table beneath has the numbers.",
-    )?;
+    open_plot(text, "times", across, up, title.as_str(), times_words(time))?;
     Ok(())
+}
+
+/// What a screen reader reads of it.
+fn times_words(time: Option<Tick>) -> &'static str
+    ensures { result.now ≡ times_words time }
+{
+    match time {
+        Some(_) => {
+            "Across: time since the crash, as far as in each chart here. Up: how many crashes were first confirmed \
+             then. The upright rule is the median. The table beneath has the numbers."
+        }
+        None => {
+            "Across: ticks since the crash, as far as in each chart here. Up: how many crashes were first confirmed \
+             then. The upright rule is the median. The table beneath has the numbers."
+        }
+    }
 }
 
 /// What the plot of the setting at a place is called.
@@ -203,7 +221,7 @@ fn plot_title(alloc: Global, place: usize) -> Result<String, Memory>
     ensures { IfOk result (λ title. string_bytes title ≡ plot_title place) }
 {
     let number = (place as u64).saturating_add(1);
-    Ok(format!(in alloc; "Setting {number}: ticks until a crash is first confirmed")?)
+    Ok(format!(in alloc; "Setting {number}: time until a crash is first confirmed")?)
 }
 
 /// Appends an upright rule at the median of a setting, where it has one.

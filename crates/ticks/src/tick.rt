@@ -13,7 +13,7 @@ const LONGEST: u64 = 1_000_000;
 #[derive(Clone, Copy, Debug, PartialEq, Eq)]
 pub struct Tick {
     /// So many microseconds.
-    pub microseconds: u64,
+    pub microseconds: u32,
 }
 
 /// How long a tick lasts by a word, as `1ms`: a whole number and `us`, `ms` or `s`, together from a
@@ -53,7 +53,9 @@ fn tick_in(word: &str, unit: Unit) -> Option<Tick>
     if microseconds > LONGEST {
         return None;
     }
-    Some(Tick { microseconds })
+    Some(Tick {
+        microseconds: microseconds as u32,
+    })
 }
 
 #[cfg(test)]
@@ -61,7 +63,7 @@ mod tests {
     use super::{Tick, tick_of};
 
     /// Words, and how many microseconds a tick lasts by each, if it says so.
-    const WORDS: [(&str, Option<u64>); 24] = [
+    const WORDS: [(&str, Option<u32>); 24] = [
         ("1ms", Some(1_000)),
         ("250us", Some(250)),
         ("1us", Some(1)),

@@ -30,6 +30,7 @@ of_word rows text both (reason.Word fault.SeedsMany w) is = absurd is
 of_word rows text both (reason.Word fault.Swept w) is = absurd is
 of_word rows text both (reason.Word fault.KeyTwice w) is = absurd is
 of_word rows text both (reason.Word fault.Tick w) is = absurd is
+of_word rows text both (reason.Dash file) is = absurd is
 of_word rows text both (reason.Clash clash) is = absurd is
 of_word rows text both (reason.Key w key guess) is = absurd is
 of_word rows text both (reason.Value w value) is = absurd is

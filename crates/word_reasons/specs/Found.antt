@@ -15,6 +15,7 @@ use Rattle.shards.specs.Shards.{IsShardWord}
 use Rattle.shards.specs.declared.shard.Shard.{Shard}
 use Rattle.ticks.specs.Ticks.{IsTickWord}
 use Rattle.ticks.specs.declared.tick.Tick.{Tick}
+use Rattle.reasons.specs.Words.{written_name}
 use Rattle.reasons.specs.declared.words.Clash.{Clash}
 use Rattle.reasons.specs.declared.words.Clash.TheVariants as clash
 use Rattle.reasons.specs.declared.words.WordFault.{WordFault}
@@ -87,6 +88,7 @@ IsRefusedWord rows fault.Tick word = (first_of (codes "tick") rows ≡ Some word
 -- what a reason says is true of the words that were found, and by it they ask for nothing
 abbrev pub IsReasonOf : List Row → WordReason → Type 0
 IsReasonOf rows (reason.Clash clash) = clashes rows clash ≡ true
+IsReasonOf rows (reason.Dash file) = first_of (written_name file) rows ≡ Some (codes "-")
 IsReasonOf rows (reason.Word fault word) = IsRefusedWord rows fault word.now
 IsReasonOf rows (reason.Key word key guess) = (Contains (words_of (codes "set") rows) word.now × SetsNothing word.now) × NamesNoKey key.now
 IsReasonOf rows (reason.Value word value) = (Contains (words_of (codes "set") rows) word.now × SetsNothing word.now) × IsNoValue value.now

@@ -1,6 +1,7 @@
 //! Why the words of a command line are refused: which word is wrong, and what to write.
 #![tactic(auto)]
 
+mod dashes;
 mod guesses;
 mod options;
 mod shares;

@@ -3,6 +3,7 @@ ghost use Rattle.std.specs.Prelude.{◌≡◌, ◌⊎◌, ◌<◌, ◌^◌, IfSo
 ghost use Rattle.clap.specs.Words.{found_of, rows_of};
 ghost use Rattle.word_reasons.specs.Found.{IsNumberReason, IsReasonOf, tells_settings};
 
+use crate::dashes::dash_word;
 use arguments::{is_given, number_within, value_of};
 use clap::ArgMatches;
 use reasons::{Clash, WordFault, WordReason};
@@ -114,7 +115,7 @@ pub(crate) fn list_word<'a>(matches: &ArgMatches<'a>, fault: WordFault) -> Optio
 }
 
 /// The word of `--tick`, where it doesn't say how long a tick lasts.
-pub(crate) fn tick_word<'a>(matches: &ArgMatches<'a>) -> Option<WordReason<'a>>
+fn tick_word<'a>(matches: &ArgMatches<'a>) -> Option<WordReason<'a>>
     ensures { IfSome result (IsReasonOf (rows_of (found_of matches.now))) }
 {
     let word = value_of(matches, "tick")?;
@@ -125,6 +126,16 @@ pub(crate) fn tick_word<'a>(matches: &ArgMatches<'a>) -> Option<WordReason<'a>>
         fault: WordFault::Tick,
         word,
     })
+}
+
+/// The file that is written and named `-`, else the word of `--tick`, where it doesn't say how long a tick lasts.
+pub(crate) fn dash_or_tick<'a>(matches: &ArgMatches<'a>) -> Option<WordReason<'a>>
+    ensures { IfSome result (IsReasonOf (rows_of (found_of matches.now))) }
+{
+    match dash_word(matches) {
+        Some(dash) => Some(dash),
+        None => tick_word(matches),
+    }
 }
 
 /// The word of `--shard`, where it is no shard.

@@ -3,7 +3,7 @@ ghost use Rattle.std.specs.Prelude.{IfOk, IfSome};
 ghost use Rattle.clap.specs.Words.{found_of, rows_of};
 ghost use Rattle.word_reasons.specs.Found.{IsReasonOf, IsSeedsReason, SeedsNothing};
 
-use crate::options::{shard_word, sweep_clash, tick_word, until_word};
+use crate::options::{dash_or_tick, shard_word, sweep_clash, until_word};
 use crate::swept_keys::swept_keys_reason;
 use crate::wants::wants_reason;
 use arguments::{value_of, values_of};
@@ -40,13 +40,13 @@ fn option_reason<'a>(sweep: &ArgMatches<'a>) -> Option<WordReason<'a>>
     }
 }
 
-/// What is wrong with the word of `--shard`, else with that of `--tick`.
+/// What is wrong with the word of `--shard`, else with the name of a file that is written, else with the word of `--tick`.
 fn shard_or_tick<'a>(sweep: &ArgMatches<'a>) -> Option<WordReason<'a>>
     ensures { IfSome result (IsReasonOf (rows_of (found_of sweep.now))) }
 {
     match shard_word(sweep) {
         Some(shard) => Some(shard),
-        None => tick_word(sweep),
+        None => dash_or_tick(sweep),
     }
 }
 

@@ -5,7 +5,7 @@ ghost use Rattle.command_line.specs.Words.{swimsim_app};
 ghost use Rattle.word_reasons.specs.Found.{IsReasonMet, IsReasonOf};
 ghost use Rattle.word_reasons.specs.Faults.{IsFaultOf};
 
-use crate::options::{join_clash, list_word, parts_word, run_clash, tick_word, workers_word};
+use crate::options::{dash_or_tick, join_clash, list_word, parts_word, run_clash, workers_word};
 use crate::sweeping::sweep_reason;
 use crate::wants::wants_reason;
 use base::Memory;
@@ -73,7 +73,7 @@ fn run_reason<'a>(run: &ArgMatches<'a>, failure: &Failure<'_>) -> Option<WordRea
     match failure {
         Failure::Usage => match run_clash(run) {
             Some(clash) => Some(clash),
-            None => tick_word(run),
+            None => dash_or_tick(run),
         },
         Failure::Workers => workers_word(run),
         Failure::Division(fault) => division_reason(run, *fault),
@@ -114,7 +114,7 @@ fn page_reason<'a>(matches: &ArgMatches<'a>, failure: &Failure<'_>) -> Option<Wo
     match failure {
         Failure::Usage => {
             let page = matches.subcommand_matches("page")?;
-            tick_word(page)
+            dash_or_tick(page)
         }
         _ => None,
     }
@@ -137,11 +137,11 @@ fn join_reason<'a>(
     }
 }
 
-/// What is wrong with the word of `--tick` in the words of a joining, else with what is wanted.
+/// What is wrong with the name of a file that a joining writes, else with the word of `--tick`, else with what is wanted.
 fn join_word<'a>(alloc: Global, join: &ArgMatches<'a>) -> Result<Option<WordReason<'a>>, Memory>
     ensures { IfOk result (λ reason. IfSome reason (IsReasonOf (rows_of (found_of join.now)))) }
 {
-    match tick_word(join) {
+    match dash_or_tick(join) {
         Some(tick) => Ok(Some(tick)),
         None => wants_reason(alloc, join),
     }

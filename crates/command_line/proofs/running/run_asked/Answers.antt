@@ -1,7 +1,7 @@
-use Rattle.std.proofs.Common.{rules, ◌≡◌, ◌∙◌, sym, ap, subst, refl, None, codes}
+use Rattle.std.proofs.Common.{rules, ◌≡◌, ◌∙◌, sym, ap, subst, refl, None, codes, false}
 use Rattle.std.proofs.lemmas.Option.{none-some}
 use Rattle.clap.specs.Words.{first_of, found_of, rows_of, subcommand_rows_of}
-use Rattle.command_line.specs.Words.{AsksForTick, IsSplitIn}
+use Rattle.command_line.specs.Words.{names_files, AsksForTick, IsSplitIn}
 use Rattle.command_line.proofs.RunRows.{met_rows, same_rows}
 use Rattle.command_line.proofs.running.run_asked.Goals as goal
 
@@ -20,6 +20,7 @@ returns-clause-some c =
       workers = search rules;
       divided = search rules;
       progress = search rules;
+      written = search rules;
     }
 
 pub returns-in_err-file-clause-none : goal.returns-in_err-file-clause-none
@@ -35,6 +36,13 @@ returns-in_err-trace-clause-none c _ run h =
     let same : h.rows ≡ rows = same_rows (subcommand_rows_of c.args.matches.now) (codes "run") rows h.rows (search rules) h.met_run in
     let none : first_of (codes "trace") rows ≡ None = search rules in
     none-some run.trace.now (sym none ∙ (ap (first_of (codes "trace")) (sym same) ∙ h.trace))
+
+pub returns-then-not-names_files-clause-none : goal.returns-then-not-names_files-clause-none
+returns-then-not-names_files-clause-none c _ run h =
+    let rows = rows_of (found_of c.in_ok-run.run'.now) in
+    let same : h.rows ≡ rows = same_rows (subcommand_rows_of c.args.matches.now) (codes "run") rows h.rows (search rules) h.met_run in
+    let none : names_files rows ≡ false = search rules in
+    let written = ap names_files (sym same) ∙ h.written in cc
 
 pub returns-in_err-tick-clause-none : goal.returns-in_err-tick-clause-none
 returns-in_err-tick-clause-none c _ run h =

@@ -31,4 +31,5 @@ returns-clause-sweep c = record {
   page = search rules;
   tick = c.in-Some.ensures.some;
   sense = c.requires.sense;
+  written = c.requires.written;
 }

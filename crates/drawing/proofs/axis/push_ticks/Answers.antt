@@ -9,10 +9,10 @@ pub overflow_mul-tick : goal.overflow_mul-tick
 overflow_mul-tick c = omega (arith, tick_within c.loop-tick.tick c.round_step-step.result c.args.most c.loop-tick-test.true, c.requires)
 
 pub loop-tick-preserved : goal.loop-tick-preserved
-loop-tick-preserved c = place_more (λ tick. tick_across c.args.time c.args.most (tick * c.round_step-step.result)) c.loop-tick.tick _ _ _ c.loop-tick.invariant c.in_ok-push_tick.ensures
+loop-tick-preserved c = place_more (λ tick. tick_across c.args.most (tick * c.round_step-step.result)) c.loop-tick.tick _ _ _ c.loop-tick.invariant c.in_ok-push_tick.ensures
 
 pub returns : goal.returns
 returns c =
     c.loop-tick.invariant
-    ∙ ap (λ n. string_bytes c.args.text.now ++ flat_map (λ tick. tick_across c.args.time c.args.most (tick * c.round_step-step.result)) (range_with_len 0 n)) (omega (arith, c.loop-tick-test.false, c.loop-tick.auto.tick-end))
-    ∙ ap (λ step. string_bytes c.args.text.now ++ at_ticks (tick_across c.args.time c.args.most) c.args.most step) c.round_step-step.ensures.least
+    ∙ ap (λ n. string_bytes c.args.text.now ++ flat_map (λ tick. tick_across c.args.most (tick * c.round_step-step.result)) (range_with_len 0 n)) (omega (arith, c.loop-tick-test.false, c.loop-tick.auto.tick-end))
+    ∙ ap (λ step. string_bytes c.args.text.now ++ at_ticks (tick_across c.args.most) c.args.most step) c.round_step-step.ensures.least

@@ -6,4 +6,4 @@ use Rattle.drawing.proofs.axis.push_ticks_up.Given as goal
 
 -- the ticks so far
 abbrev pub invariant-loop-tick : goal.invariant-loop-tick
-invariant-loop-tick l = string_bytes l.text ≡ string_bytes l.initial.text ++ flat_map (λ tick. tick_up l.time l.most (tick * l.step)) (range_with_len 0 l.tick)
+invariant-loop-tick l = string_bytes l.text ≡ string_bytes l.initial.text ++ flat_map (λ tick. tick_up l.most (tick * l.step)) (range_with_len 0 l.tick)

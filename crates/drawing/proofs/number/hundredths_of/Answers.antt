@@ -1,4 +1,4 @@
-use Rattle.std.proofs.Common.{◌≡◌, ℕ, ◌*◌, ◌/◌, ◌<◌, ◌≤◌, ◌∙◌, ap, sym, arith}
+use Rattle.std.proofs.Common.{◌≡◌, ℕ, ◌*◌, ◌/◌, ◌<◌, ◌≤◌, ◌∙◌, sym, arith}
 use Rattle.std.proofs.Math.Nat.{div-le_of_le-mul, mul-le-mul_right, le_of_lt}
 use Rattle.std.proofs.lemmas.Bool.{cond-true, cond-false, le-leb, lt-leb}
 use Rattle.drawing.specs.Numbers.{hundredths}
@@ -15,8 +15,6 @@ returns-then-value-most-clause-part c = sym (cond-true _ _ _ (le-leb c.args.most
 pub returns-clause-part : goal.returns-clause-part
 unfolding hundredths
 returns-clause-part c =
-    let shares : c.from.result * 10000 / c.from-2.result ≡ c.args.value * 10000 / c.args.most
-    = ap (λ v. v * 10000 / c.from-2.result) c.from.ensures ∙ ap (λ m. c.args.value * 10000 / m) c.from-2.ensures in
     let within : c.args.value * 10000 / c.args.most ≤ 10000 = part_within c.args.value c.args.most c.if-value-most.false in
-    let is : c.min.result ≡ c.args.value * 10000 / c.args.most = omega (arith, c.min.ensures, shares, within) in
+    let is : c.min.result ≡ c.args.value * 10000 / c.args.most = omega (arith, c.min.ensures, within) in
     is ∙ sym (cond-false _ _ _ (lt-leb c.args.most c.args.value c.if-value-most.false))
