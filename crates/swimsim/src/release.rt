@@ -1,8 +1,8 @@
 //! Which release of the program this is.
 
 /// The number of the version.
-pub const VERSION: &str = "1.12.0";
+pub const VERSION: &str = "1.13.0";
 /// The digest of the sources.
-pub const SOURCES: &str = "2438c0c4bc5cabbd58cfef0cee862e4a4445fc97eeedf176065c73d004f0dd7a";
+pub const SOURCES: &str = "5cfd498acab77d9c16ba39e10a4d5516fd53c5ae2611637e2117046e44fa8d37";
 /// The kit.
 pub const KIT: &str = "rattle-kit-13f logic dac8208d650f15bf";
