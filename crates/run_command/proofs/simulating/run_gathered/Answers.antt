@@ -5,12 +5,12 @@ use Rattle.run_command.specs.Outcomes.{MayEndRun}
 use Rattle.run_command.proofs.Ending.{may_end}
 use Rattle.run_command.proofs.simulating.run_gathered.Goals as goal
 
-pub returns-in-Err-new-clause-promise : goal.returns-in-Err-new-clause-promise
-returns-in-Err-new-clause-promise g c =
+pub returns-in-Err-clause-promise : goal.returns-in-Err-clause-promise
+returns-in-Err-clause-promise g c =
     unbegun g.A.Sink.held g.A.Sink.failed g.B.Sink.held g.B.Sink.failed c.args.prepared.now.scenario c.args.trace c.args.report c.end-end.ensures.sound
 
-pub returns-in-Err-new-clause-cause : goal.returns-in-Err-new-clause-cause
-returns-in-Err-new-clause-cause g c = (λ is. absurd (memory≢overflow is), λ is. absurd (memory≢relay is))
+pub returns-in-Err-clause-cause : goal.returns-in-Err-clause-cause
+returns-in-Err-clause-cause g c = (λ is. absurd (memory≢overflow is), λ is. absurd (memory≢relay is))
 
 pub returns-in-Err-outcome-clause-cause : goal.returns-in-Err-outcome-clause-cause
 returns-in-Err-outcome-clause-cause g c =
