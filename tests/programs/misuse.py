@@ -8,6 +8,7 @@ own, with a scenario that takes, prints what it tried, and is wrong where it end
 is wanted, or leaves other bytes. Its last line is `N passed, M failed`. Linux only; it takes seconds.
 """
 
+import hashlib
 import os
 import shutil
 import subprocess
@@ -20,6 +21,7 @@ from pathlib import Path
 import paths  # noqa: F401 (puts the folders of what follows on the path)
 from harness import call, end, first_line, parser_of, program_at
 from program import TWO_MEMBERS
+from tables import head, item, table
 
 RUN = ('run', 's.toml', '--trace')
 OLD = b'an older result\n'
@@ -376,6 +378,57 @@ def changed_digits(table):
             yield table[:place] + digit + table[place + 1:]
 
 
+def disagreeing(uses, room, whole):
+    """Tables with a line that has the right checksum, but isn't what a sweep writes there: its metadata isn't that of its other columns, its seed is
+    another one, or a number isn't written as a sweep writes it."""
+    folder = folder_of(room, 'disagreeing')
+    (folder / 's.toml').write_text(head(60000, seed=7) + table('link', delay=1) + item('group', name='n', count=8) + item('crash', member='n-3', at=2000))
+    asked = ['--set', 'swim.period=1000,1100', '--seeds', '7..10', '--table']
+    words = ['sweep', 's.toml', '--resume', '--shard', '1/1', *asked]
+    uses.call(folder, [*words, 'whole'])
+    text = (folder / 'whole').read_bytes()
+    header, *lines = text.splitlines(keepends=True)
+    for place in (0, len(lines) - 1):
+        for told, line in changed_cells(lines[place]).items():
+            lines_then = [*lines[:place], summed(header, line), *lines[place + 1:]]
+            judge_damages(uses, folder, f'with another {told} in line {place + 1}', [b''.join([header, *lines_then])], [], words, text)
+    same = b''.join([header, *(summed(header, line.split(b' ', 1)[1]) for line in lines)])
+    uses.judge('the checksums of this test are those of the table', same == text, same)
+    asked = ['--set', 'swim.period=1000,1100', '--shard', '1/1', '--resume', '--table']
+    uses.call(folder, ['sweep', 's.toml', *asked, 'own'])
+    text = (folder / 'own').read_bytes()
+    header, *lines = text.splitlines(keepends=True)
+    changed = [line.replace(b',7,', b',8,', 1) for line in (line.split(b' ', 1)[1] for line in lines)]
+    for place, line in enumerate(changed):
+        (folder / 't').write_bytes(b''.join([header, *lines[:place], summed(header, line), *lines[place + 1:]]))
+        left = uses.call(folder, ['sweep', 's.toml', *asked, 't'])
+        is_well = left == (0, b'', b'') and (folder / 't').read_bytes() == text != b''.join([header, summed(header, line)])
+        uses.judge(f'a line {place + 1} with another seed than the text is made again', is_well, left)
+
+
+def changed_cells(line):
+    """The line without its checksum, by what of it is changed: a number of its metadata that its columns say too, its seed, or a figure."""
+    metadata, *cells = line.split(b' ', 1)[1].split(b',')
+    numbers = metadata.split(b' ')
+    changed = {}
+    for place, told in ((0, 'count of false suspicions'), (1, 'count of members with a false death'), (3, 'count of messages'), (5, 'time of a suspicion'),
+                        (6, 'time of a detection'), (7, 'time of a last confirmation')):
+        instead = b'9' if numbers[place] == b'-' else b'%d' % (int(numbers[place]) + 1)
+        changed[f'{told} in the metadata'] = b','.join([b' '.join([*numbers[:place], instead, *numbers[place + 1:]]), *cells])
+    changed['crash in the metadata'] = b','.join([metadata + b' 1 2 3', *cells])
+    changed['seed'] = b','.join([metadata, cells[0], b'%d' % (int(cells[1]) + 1), *cells[2:]])
+    changed['figure, with a leading zero,'] = b','.join([metadata, *cells[:2], b'0' + cells[2], *cells[3:]])
+    changed['figure, which is missing,'] = b','.join([metadata, *cells[:2], b'', *cells[3:]])
+    changed['number of columns'] = b','.join([metadata, *cells[:-1], b'0', cells[-1]])
+    return changed
+
+
+def summed(header, line):
+    """The line with its checksum, as a line of the table with this header."""
+    name = header[1:header.index(b'"', 1)].split(b' ', 1)[1]
+    return hashlib.sha256(hashlib.sha256(name).digest() + line).hexdigest()[:8].encode() + b' ' + line
+
+
 def judge_damages(uses, folder, told, damages, others, words, table):
     """Judges whether each damaged table is refused, and made again."""
     seen = [refused(uses, folder, held, others, words, table) for held in damages]
@@ -404,7 +457,8 @@ def main():
         if status != 0:
             sys.exit(f'misuse: status {status} of a plain run')
         whole = (folder / 't').read_bytes()
-        for group in (names, texts, stacks, outputs, pipes, ends, words, sizes, removals, replaced, error_stream, pieces, going_on, damaged):
+        for group in (names, texts, stacks, outputs, pipes, ends, words, sizes, removals, replaced, error_stream, pieces, going_on, damaged,
+                      disagreeing):
             group(uses, room, whole)
     end(uses.well, uses.wrong)
 

@@ -9,5 +9,8 @@ pub mod Summaries
 mod Cells
 pub mod MetadataWords
 pub mod SameFigures
+pub mod SameNotes
 pub mod NoNotes
 pub mod Handing
+pub mod Told
+pub mod Fed

@@ -1,14 +1,11 @@
 -- A note and its figures, read from words.
-use Rattle.std.proofs.Common.{◌≡◌, ◌<◌, ◌≤◌, ◌+◌, ◌*◌, ◌^◌, ℕ, zero, suc, List, [], ◌∷◌, ◌++◌, map, length, get_or, take, drop, ◌==◌, sym, ap, subst, refl, ◌∙◌, append_assoc, append-nil, arith}
-use Rattle.std.specs.Prelude.{Option, Some, None, All, Result, Ok, Err, IfOk}
+use Rattle.std.proofs.Common.{◌≡◌, ◌<◌, ◌^◌, ℕ, List, map, ◌==◌, sym, ap, subst, ◌∙◌}
+use Rattle.std.specs.Prelude.{Option, All, Result, Ok, Err, IfOk}
 use Rattle.std.specs.Option.{ForSome}
-use Rattle.std.specs.List.{flat_map, slice_split, join_with_byte}
-use Rattle.std.proofs.lemmas.List.{take_more}
-use Rattle.std.proofs.lemmas.List.Concat.{flat_map-append}
+use Rattle.std.specs.List.{slice_split, join_with_byte}
 use Rattle.std.proofs.lemmas.List.Splits.{join_with_byte-slice_split}
 use Rattle.reports.specs.Text.{figure}
-use Rattle.figures.specs.declared.crashes.CrashTimes.{CrashTimes}
-use Rattle.figures.specs.Notes.{Note, times_in_order, note_figures, IsSmall, IsNoteWord, AreFigureWords}
+use Rattle.figures.specs.Notes.{Note, note_figures, IsNoteWord, AreFigureWords}
 
 -- what is said of a success, and what follows from that
 pub if_ok_then : {T E : Type 0} (r : Result T E) (G Q : T → Type 0) → IfOk r G → ((x : T) → G x → Q x) → IfOk r Q

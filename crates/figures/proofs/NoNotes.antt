@@ -10,7 +10,7 @@ use Rattle.decimals.specs.Numbers.{IsDecimal}
 use Rattle.figures.specs.declared.crashes.CrashTimes.{CrashTimes}
 use Rattle.figures.specs.declared.note_words.MetadataFault.{MetadataFault}
 use Rattle.figures.specs.declared.note_words.MetadataFault.TheVariants as unread
-use Rattle.figures.specs.Notes.{Note, AreFigureWords, IsFigureWord, RefusesFigures, RefusesNote, RefusesNoteOf, RefusesTimes, note_figures, times_in_order}
+use Rattle.figures.specs.Notes.{Note, AreFigureWords, AreWordsOf, IsFigureWord, IsWordOf, RefusesFigures, RefusesNote, RefusesNoteOf, RefusesTimes, note_figures, times_in_order}
 use Rattle.figures.proofs.SameFigures.{figures_cut, same_figures}
 
 -- a word that is no dash and no number says no figure
@@ -19,15 +19,15 @@ no_figure word other none None is = other (sym is.written)
 no_figure word other none (Some n) is = none n (record { written = is.written; low = is.small n refl })
 
 -- an item that says none is that of no figures
-pub no_figures : (items : List (List ℕ)) (k : ℕ) (word : List ℕ) → k < length items → word ≡ get_or items k word → ((f : Option ℕ) → ¬ (IsFigureWord word f))
-    → (fs : List (Option ℕ)) → ¬ (AreFigureWords items fs)
-no_figures items k word inside at none fs are =
+pub no_figures : (text_of : Option ℕ → List ℕ) (items : List (List ℕ)) (k : ℕ) (word : List ℕ) → k < length items → word ≡ get_or items k word → ((f : Option ℕ) → ¬ (IsWordOf text_of word f))
+    → (fs : List (Option ℕ)) → ¬ (AreWordsOf text_of items fs)
+no_figures text_of items k word inside at none fs are =
     let same = sym are.written in
-    let there : k < length (map figure fs) = subst (λ (l : List (List ℕ)). k < length l) same inside in
-    let here : word ≡ get_or (map figure fs) k word = subst (λ (l : List (List ℕ)). word ≡ get_or l k word) same at in
+    let there : k < length (map text_of fs) = subst (λ (l : List (List ℕ)). k < length l) same inside in
+    let here : word ≡ get_or (map text_of fs) k word = subst (λ (l : List (List ℕ)). word ≡ get_or l k word) same at in
     said fs k there here are.small
   where
-    said : (gs : List (Option ℕ)) (j : ℕ) → j < length (map figure gs) → word ≡ get_or (map figure gs) j word → All (λ f. ForSome f (λ m. m < 2 ^ 63)) gs → ⊥
+    said : (gs : List (Option ℕ)) (j : ℕ) → j < length (map text_of gs) → word ≡ get_or (map text_of gs) j word → All (λ f. ForSome f (λ m. m < 2 ^ 63)) gs → ⊥
     said [] j inside at small = absurd (omega (arith, inside))
     said (g ∷ gs) zero inside at small = none g (record { written = sym at; small = All-head (λ f. ForSome f (λ m. m < 2 ^ 63)) g gs small })
     said (g ∷ gs) (suc j) inside at small = said gs j (omega (arith, inside)) at (All-tail (λ f. ForSome f (λ m. m < 2 ^ 63)) g gs small)

@@ -1,5 +1,5 @@
 -- Figures of one text are the same.
-use Rattle.std.proofs.Common.{◌≡◌, ◌<◌, ◌^◌, ◌==◌, ℕ, suc, List, [], ◌∷◌, map, length, get_or, false, decimal, lit<, arith, refl, sym, ap, ◌∙◌}
+use Rattle.std.proofs.Common.{◌≡◌, ◌<◌, ◌^◌, ◌==◌, ℕ, suc, List, [], ◌∷◌, map, length, get_or, false, decimal, lit<, arith, refl, sym, ap}
 use Rattle.std.specs.Prelude.{Option, Some, None, All}
 use Rattle.std.specs.Option.{ForSome}
 use Rattle.std.specs.List.{slice_split, join_with_byte}
@@ -12,7 +12,7 @@ use Rattle.sweep_plan.proofs.Words.{Lacks, decimal_lacks, joined_split}
 abbrev pub Small : Option ℕ → Type 0
 Small f = ForSome f (λ n. n < 2 ^ 63)
 
-low64 : (n : ℕ) → n < 2 ^ 63 → n < 2 ^ 64
+pub low64 : (n : ℕ) → n < 2 ^ 63 → n < 2 ^ 64
 low64 n low = omega (arith, low)
 
 no_digit : (n : ℕ) → n < 2 ^ 63 → decimal n ≡ 45 ∷ [] → ⊥

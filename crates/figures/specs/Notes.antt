@@ -66,14 +66,20 @@ pub record IsNoteWord (word : List ℕ) (n : Note) : Type 0 where
   pub written : note_text n ≡ word
   pub small : IsSmall n
 
--- the same of one figure, and of several
-pub record IsFigureWord (word : List ℕ) (f : Option ℕ) : Type 0 where
-  pub written : figure f ≡ word
+-- the same of one figure, and of several, as they are written in some way
+pub record IsWordOf (text_of : Option ℕ → List ℕ) (word : List ℕ) (f : Option ℕ) : Type 0 where
+  pub written : text_of f ≡ word
   pub small : ForSome f (λ m. m < 2 ^ 63)
 
-pub record AreFigureWords (words : List (List ℕ)) (fs : List (Option ℕ)) : Type 0 where
-  pub written : map figure fs ≡ words
+pub record AreWordsOf (text_of : Option ℕ → List ℕ) (words : List (List ℕ)) (fs : List (Option ℕ)) : Type 0 where
+  pub written : map text_of fs ≡ words
   pub small : All (λ f. ForSome f (λ m. m < 2 ^ 63)) fs
+
+abbrev pub IsFigureWord : List ℕ → Option ℕ → Type 0
+IsFigureWord = IsWordOf figure
+
+abbrev pub AreFigureWords : List (List ℕ) → List (Option ℕ) → Type 0
+AreFigureWords = AreWordsOf figure
 
 -- the word says no note, or memory was refused
 abbrev pub RefusesNote : List ℕ → MetadataFault → Type 0

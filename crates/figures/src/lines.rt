@@ -61,7 +61,7 @@ pub(crate) fn run_text(
 }
 
 /// The figures of crashes and of false claims, in the order of their columns.
-fn claims_in_order(figures: &RunFigures) -> [Option<u64>; 12]
+pub(crate) fn claims_in_order(figures: &RunFigures) -> [Option<u64>; 12]
     ensures { result ≡ claims_in_order figures.now }
 {
     [
@@ -81,7 +81,7 @@ fn claims_in_order(figures: &RunFigures) -> [Option<u64>; 12]
 }
 
 /// The figures of the protocol, likewise.
-fn protocol_in_order(figures: &RunFigures) -> [Option<u64>; 6]
+pub(crate) fn protocol_in_order(figures: &RunFigures) -> [Option<u64>; 6]
     ensures { result ≡ protocol_in_order figures.now }
 {
     [

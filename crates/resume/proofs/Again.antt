@@ -1,9 +1,9 @@
 -- The first runs of a setting that was made, and others behind them, are that setting.
-use Rattle.std.proofs.Common.{◌≡◌, ◌∙◌, ◌<◌, ◌≤◌, ◌+◌, ◌-◌, ◌*◌, ◌⊎◌, ℕ, Bool, true, false, true≢false, List, [], ◌∷◌, ◌++◌, length, length-append, map, take, drop, inl, inr, ltb, refl, sym, ap, subst, arith}
+use Rattle.std.proofs.Common.{◌≡◌, ◌∙◌, ◌<◌, ◌≤◌, ◌+◌, ◌-◌, ◌*◌, ◌⊎◌, ℕ, Bool, true, false, true≢false, List, ◌++◌, length, length-append, map, take, drop, inl, inr, ltb, refl, sym, ap, subst, arith}
 use Rattle.std.specs.Prelude.{All}
 use Rattle.std.specs.List.{AllZip}
 use Rattle.std.proofs.lemmas.Bool.{ltb-true, ltb-false}
-use Rattle.std.proofs.lemmas.List.{drop-drop, length-map, length-take, map-append, take-map, take-take, take_at}
+use Rattle.std.proofs.lemmas.List.{drop-drop, length-map, length-take, map-append, take-take, take_at}
 use Rattle.std.proofs.Math.Seq.{take-add}
 use Rattle.toml.specs.Data.{Data}
 use Rattle.sweep_plan.specs.Sweep.{Sweep, seed_count}

@@ -1,5 +1,5 @@
 -- A shard of whole settings that was cut off goes on as the shard that it is.
-use Rattle.std.proofs.Common.{◌≡◌, ◌∙◌, ◌<◌, ◌≤◌, ◌+◌, ◌-◌, ◌⊎◌, ℕ, zero, suc, Bool, List, [], ◌∷◌, ◌++◌, Option, Some, inl, inr, length, length-append, map, take, take_at, drop, arith, refl, sym, ap, subst, append_assoc, append-nil}
+use Rattle.std.proofs.Common.{◌≡◌, ◌∙◌, ◌≤◌, ◌+◌, ◌-◌, ◌⊎◌, ℕ, zero, suc, Bool, List, [], ◌∷◌, ◌++◌, Option, Some, inl, inr, length, length-append, map, take, take_at, drop, arith, refl, sym, ap, subst, append_assoc, append-nil}
 use Rattle.std.specs.Prelude.{All}
 use Rattle.std.specs.List.{AllZip, flat_map, range_with_len}
 use Rattle.std.specs.Io.KnownBytes.{Appends}
@@ -10,9 +10,10 @@ use Rattle.std.proofs.lemmas.List.Concat.{flat_map-append}
 use Rattle.toml.specs.Data.{Data}
 use Rattle.sweep_plan.specs.Sweep.{Sweep, seed_count}
 use Rattle.shards.specs.declared.shard.Shard.{Shard}
-use Rattle.sweep.specs.Shards.{shard_header, shard_table}
+use Rattle.sweep.specs.Shards.{shard_header}
 use Rattle.sweep.specs.Resumed.{IsShort}
-use Rattle.sweep.specs.Sums.{sweep_key}
+use Rattle.sweep.specs.Sums.{key_of_text, sweep_key}
+use Rattle.sweep.specs.declared.summing.LineKey.{LineKey}
 use Rattle.sweep.proofs.Kept.{goes_behind, long_again, short_again}
 use Rattle.sweep.proofs.Numbers.{range_split}
 use Rattle.sweep.specs.declared.begun.BegunFault.TheVariants as begun_fault
@@ -78,6 +79,9 @@ module _ (tree : Data) (mark : List ℕ) (sweep : Sweep) (width : ℕ) (p : Shar
   abbrev key : List ℕ
   key = sweep_key mark sweep
 
+  abbrev own_key : LineKey
+  own_key = key_of_text tree mark sweep
+
   abbrev header : List ℕ
   header = shard_header revived mark sweep p
 
@@ -112,7 +116,7 @@ module _ (tree : Data) (mark : List ℕ) (sweep : Sweep) (width : ℕ) (p : Shar
 
   -- ---- the text is taken for a beginning of the shard
 
-  pub taken_for_one : ¬ (RefusesBegunSettings revived mark sweep p text begun_fault.Other)
+  pub taken_for_one : ¬ (RefusesBegunSettings tree mark sweep p text begun_fault.Other)
   taken_for_one apart = on (one_begins_with_other text cut.rest header table cut.written)
     where
       on : ((more : List ℕ) × (text ≡ header ++ more)) ⊎ ((more : List ℕ) × (header ≡ text ++ more)) → ⊥
@@ -122,7 +126,7 @@ module _ (tree : Data) (mark : List ℕ) (sweep : Sweep) (width : ℕ) (p : Shar
   -- ---- and what goes on behind what stands there is the shard
 
   -- The text of whole settings, and of the lines of the next one, is that of the first settings that were made, and of the first runs of the next one.
-  module _ (kept settings : ℕ) (before : List Note) (it : AreSettingsBehind key sweep width (first_setting sweep p) (settings_in sweep p) header text kept settings before) (few : settings ≤ settings_in sweep p) where
+  module _ (kept settings : ℕ) (before : List Note) (it : AreSettingsBehind own_key sweep width (first_setting sweep p) (settings_in sweep p) header text kept settings before) (few : settings ≤ settings_in sweep p) where
     abbrev own : List (List Line)
     own = it.begins.settings
 
@@ -131,8 +135,8 @@ module _ (tree : Data) (mark : List ℕ) (sweep : Sweep) (width : ℕ) (p : Shar
 
     split : (rest : List (List Line)) × (true_settings ≡ own ++ rest) × (more ≡ flat_map shard_setting rest ++ [])
     split =
-        let sound = whole_settings key sweep width (first_setting sweep p) settings own it.begins.are in
-        let many = settings_counted key sweep width (first_setting sweep p) settings own it.begins.are in
+        let sound = whole_settings own_key sweep width (first_setting sweep p) settings own it.begins.are in
+        let many = settings_counted own_key sweep width (first_setting sweep p) settings own it.begins.are in
         let start : flat_map shard_setting own ++ more ≡ it.rest ++ cut.rest =
         sym (append_assoc (flat_map shard_setting own) (it.left ++ it.unread) cut.rest)
         ∙ ap (λ l. l ++ cut.rest) (sym (append_assoc (flat_map shard_setting own) it.left it.unread) ∙ ap (λ l. l ++ it.unread) (sym it.begins.written) ∙ sym it.read.written) in
@@ -142,7 +146,7 @@ module _ (tree : Data) (mark : List ℕ) (sweep : Sweep) (width : ℕ) (p : Shar
 
     its_lines : flat_map shard_setting own ≡ flat_map (noted_line revived key) (all_of (take settings made))
     its_lines =
-        let many = settings_counted key sweep width (first_setting sweep p) settings own it.begins.are in
+        let many = settings_counted own_key sweep width (first_setting sweep p) settings own it.begins.are in
         let first : own ≡ take settings true_settings = sym (ap (take settings) split.1 ∙ take_at own split.0 settings many) in
         ap (flat_map shard_setting) (first ∙ take-map (setting_from revived key) settings made) ∙ settings_in_shard revived key (take settings made)
 
@@ -152,7 +156,7 @@ module _ (tree : Data) (mark : List ℕ) (sweep : Sweep) (width : ℕ) (p : Shar
 
     rest_lines : split.0 ≡ settings_from revived key rest_made
     rest_lines =
-        let many = settings_counted key sweep width (first_setting sweep p) settings own it.begins.are in
+        let many = settings_counted own_key sweep width (first_setting sweep p) settings own it.begins.are in
         sym (drop_at own split.0 settings many) ∙ ap (drop settings) (sym split.1) ∙ drop-map (setting_from revived key) settings made
 
     rest_are : AreMadeFrom tree sweep width (first_setting sweep p + settings) (settings_in sweep p - settings) rest_made
@@ -166,7 +170,7 @@ module _ (tree : Data) (mark : List ℕ) (sweep : Sweep) (width : ℕ) (p : Shar
 
     -- ---- the lines of the next setting begin those of the one that was made
 
-    module _ (b : BeginsWithOpen key sweep width one_first it.left it.after before) where
+    module _ (b : BeginsWithOpen own_key sweep width one_first it.left it.after before) where
       tail_text : shard_setting b.lines ++ ((it.after ++ it.unread) ++ cut.rest) ≡ more
       tail_text =
           sym (append_assoc (shard_setting b.lines) (it.after ++ it.unread) cut.rest)
@@ -190,7 +194,7 @@ module _ (tree : Data) (mark : List ℕ) (sweep : Sweep) (width : ℕ) (p : Shar
             ap shard_setting lines ∙ setting_in_shard revived key (take (length before) one),
           )
 
-  module _ (kept settings : ℕ) (before : List Note) (is : IsBegunSettings revived mark sweep width p text kept settings before) (new : Option (List ℕ))
+  module _ (kept settings : ℕ) (before : List Note) (is : IsBegunSettings tree mark sweep width p text kept settings before) (new : Option (List ℕ))
       (writes : WritesRestUntil tree mark sweep p kept settings before (Some (take kept text)) new) where
     abbrev later : List ℕ
     later = flat_map (noted_line revived key) (all_of writes.made)
@@ -218,7 +222,7 @@ module _ (tree : Data) (mark : List ℕ) (sweep : Sweep) (width : ℕ) (p : Shar
         (ap (λ l. l ++ later) are ∙ joined (take settings made) writes.made) again
 
     -- the whole settings, and what comes behind them
-    whole_behind : (it : AreSettingsBehind key sweep width (first_setting sweep p) (settings_in sweep p) header text kept settings before) → it.after ≡ it.left → before ≡ []
+    whole_behind : (it : AreSettingsBehind own_key sweep width (first_setting sweep p) (settings_in sweep p) header text kept settings before) → it.after ≡ it.left → before ≡ []
         → WritesShardUntil tree mark sweep p (Some []) new
     whole_behind it same none =
         let own = flat_map shard_setting it.begins.settings in
@@ -227,8 +231,8 @@ module _ (tree : Data) (mark : List ℕ) (sweep : Sweep) (width : ℕ) (p : Shar
         settings_again own (its_lines kept settings before it is.few) none (long_again header text kept own (it.left ++ it.unread) (it.written ∙ ap (λ l. header ++ l) whole) stay)
 
     -- the lines of the next setting, whose other runs come behind them
-    module _ (it : AreSettingsBehind key sweep width (first_setting sweep p) (settings_in sweep p) header text kept settings before)
-        (b : BeginsWithOpen key sweep width (first_setting sweep p + settings) it.left it.after before) where
+    module _ (it : AreSettingsBehind own_key sweep width (first_setting sweep p) (settings_in sweep p) header text kept settings before)
+        (b : BeginsWithOpen own_key sweep width (first_setting sweep p + settings) it.left it.after before) where
       open_again : (one : List Made) (others : List (List Made)) → drop settings made ≡ one ∷ others → AreMadeWithFirst tree sweep width (first_setting sweep p + settings) (settings_in sweep p - settings) before writes.made
           → IsMadeUntil tree sweep width (first_setting sweep p + settings) one → All IsTellable one → WritesShardUntil tree mark sweep p (Some []) new
       open_again one others left goes made_one told =
@@ -271,14 +275,14 @@ module _ (tree : Data) (mark : List ℕ) (sweep : Sweep) (width : ℕ) (p : Shar
           by (one ∷ others) left (suc count) some are told = open_again one others left goes are.0 (All-head (All IsTellable) one others told)
 
     -- without metadata no line of the next setting stands there
-    none_open : (it : AreSettingsBehind key sweep width (first_setting sweep p) (settings_in sweep p) header text kept settings before)
-        → BeginsWithOpen key sweep width (first_setting sweep p + settings) it.left it.after before → before ≡ [] → it.after ≡ it.left
+    none_open : (it : AreSettingsBehind own_key sweep width (first_setting sweep p) (settings_in sweep p) header text kept settings before)
+        → BeginsWithOpen own_key sweep width (first_setting sweep p + settings) it.left it.after before → before ≡ [] → it.after ≡ it.left
     none_open it b none =
         let no_lines : b.lines ≡ [] = none_left b.lines (sym (length-map b.lines (λ (l : Line). l.note)) ∙ ap length (b.noted ∙ none)) in
         sym (b.written ∙ ap (λ l. shard_setting l ++ it.after) no_lines)
 
-    behind_open : (it : AreSettingsBehind key sweep width (first_setting sweep p) (settings_in sweep p) header text kept settings before)
-        → BeginsWithOpen key sweep width (first_setting sweep p + settings) it.left it.after before → (notes : List Note) → before ≡ notes
+    behind_open : (it : AreSettingsBehind own_key sweep width (first_setting sweep p) (settings_in sweep p) header text kept settings before)
+        → BeginsWithOpen own_key sweep width (first_setting sweep p + settings) it.left it.after before → (notes : List Note) → before ≡ notes
         → AreMadeBehind tree sweep width (first_setting sweep p + settings) (settings_in sweep p - settings) notes writes.made → WritesShardUntil tree mark sweep p (Some []) new
     behind_open it b [] same goes = whole_behind it (none_open it b same) same
     behind_open it b (note ∷ notes) same goes =
@@ -287,7 +291,7 @@ module _ (tree : Data) (mark : List ℕ) (sweep : Sweep) (width : ℕ) (p : Shar
     pub going_on : WritesShardUntil tree mark sweep p (Some []) new
     going_on = by is.stands
       where
-        by : (IsShort header text kept settings × (before ≡ [])) ⊎ AreSettingsBehind key sweep width (first_setting sweep p) (settings_in sweep p) header text kept settings before
+        by : (IsShort header text kept settings × (before ≡ [])) ⊎ AreSettingsBehind own_key sweep width (first_setting sweep p) (settings_in sweep p) header text kept settings before
             → WritesShardUntil tree mark sweep p (Some []) new
         by (inl it) =
             let short = it.0 in
@@ -295,6 +299,6 @@ module _ (tree : Data) (mark : List ℕ) (sweep : Sweep) (width : ℕ) (p : Shar
             settings_again [] none it.1 (short_again header text kept short.rest short.written short.all ∙ sym (append-nil header))
         by (inr it) = on it.started
           where
-            on : AreLinesBehind key sweep width (first_setting sweep p) (settings_in sweep p) settings it.left it.after before → WritesShardUntil tree mark sweep p (Some []) new
+            on : AreLinesBehind own_key sweep width (first_setting sweep p) (settings_in sweep p) settings it.left it.after before → WritesShardUntil tree mark sweep p (Some []) new
             on (inl none) = whole_behind it none.2 none.1
             on (inr b) = behind_open it b.1 before refl behind_made

@@ -12,7 +12,10 @@ use Rattle.shards.specs.declared.shard.Shard.{Shard}
 use Rattle.sweep.specs.Runs.{IsAskedFor}
 use Rattle.sweep.specs.Resumed.{IsShort}
 use Rattle.sweep.specs.Shards.{shard_header}
-use Rattle.sweep.specs.Sums.{sweep_key}
+use Rattle.sweep.specs.Sums.{key_of_text}
+use Rattle.sweep.specs.Table.{counts_revived}
+use Rattle.sweep.specs.declared.summing.LineKey.{LineKey}
+use Rattle.toml.specs.Data.{Data}
 use Rattle.sweep_until.specs.Shards.{CanGoOn, settings_in, first_setting}
 use Rattle.sweep_until.specs.Until.{AreTooFew}
 use Rattle.sweep_until.proofs.ShardSettings.{none_yet}
@@ -38,12 +41,12 @@ pub rest_within : (header text rest : List ℕ) → text ≡ header ++ rest → 
 rest_within header text rest is = omega (arith, ap length is ∙ length-append header rest)
 
 -- nor is what is left of a front longer than that
-pub left_within : (key : List ℕ) (sweep : Sweep) (width first count : ℕ) (front left : List ℕ) → BeginsWithSettings key sweep width first front left count → length left ≤ length front
+pub left_within : (key : LineKey) (sweep : Sweep) (width first count : ℕ) (front left : List ℕ) → BeginsWithSettings key sweep width first front left count → length left ≤ length front
 left_within key sweep width first count front left begins =
     omega (arith, ap length begins.written ∙ length-append (flat_map shard_setting begins.settings) left)
 
 -- nor is what is left behind the lines of a setting that needs more
-pub after_within : (key : List ℕ) (sweep : Sweep) (width first most settings : ℕ) (left after : List ℕ) (before : List Note) → AreLinesBehind key sweep width first most settings left after before
+pub after_within : (key : LineKey) (sweep : Sweep) (width first most settings : ℕ) (left after : List ℕ) (before : List Note) → AreLinesBehind key sweep width first most settings left after before
     → length after ≤ length left
 after_within key sweep width first most settings left after before started = by started
   where
@@ -52,7 +55,7 @@ after_within key sweep width first most settings left after before started = by 
     by (inr it) = omega (arith, ap length it.1.written ∙ length-append (shard_setting it.1.lines) after)
 
 -- behind the whole settings stand those lines
-pub lines_behind : (key : List ℕ) (sweep : Sweep) (width first most settings number past : ℕ) (left after : List ℕ) (before : List Note) → number ≡ first + settings → past ≡ first + most
+pub lines_behind : (key : LineKey) (sweep : Sweep) (width first most settings number past : ℕ) (left after : List ℕ) (before : List Note) → number ≡ first + settings → past ≡ first + most
     → settings ≤ most → (settings ≡ most) ⊎ ¬ (HasSettingOf key sweep width (first + settings) left) → (past ≤ number → (before ≡ []) × (after ≡ left))
     → (number < past → (w : ℕ) → ¬ (HasSettingOf key sweep w number left) → BeginsWithOpen key sweep w number left after before)
     → AreLinesBehind key sweep width first most settings left after before
@@ -76,23 +79,23 @@ lines_behind key sweep width first most settings number past left after before a
 
 -- ---- what stands of a shard's table
 
-module _ (revived : Bool) (mark : List ℕ) (sweep : Sweep) (width : ℕ) (p : Shard) (text : List ℕ) where
+module _ (tree : Data) (mark : List ℕ) (sweep : Sweep) (width : ℕ) (p : Shard) (text : List ℕ) where
   abbrev header : List ℕ
-  header = shard_header revived mark sweep p
+  header = shard_header (counts_revived tree) mark sweep p
 
   -- a beginning of the first line
-  pub short_stands : (before : List Note) → before ≡ [] → (rest : List ℕ) × (header ≡ text ++ rest) → IsBegunSettings revived mark sweep width p text (length text) 0 before
+  pub short_stands : (before : List Note) → before ≡ [] → (rest : List ℕ) × (header ≡ text ++ rest) → IsBegunSettings tree mark sweep width p text (length text) 0 before
   short_stands before none split = record {
     stands = inl (record { rest = split.0; written = split.1; all = refl; no_run = refl }, none);
     few = omega arith;
   }
 
   -- the first line, and whole settings
-  pub long_stands : (key : List ℕ) (first most : ℕ) → key ≡ sweep_key mark sweep → first ≡ first_setting sweep p → most ≡ settings_in sweep p → (rest front left after : List ℕ) (kept settings : ℕ)
+  pub long_stands : (key : LineKey) (first most : ℕ) → key ≡ key_of_text tree mark sweep → first ≡ first_setting sweep p → most ≡ settings_in sweep p → (rest front left after : List ℕ) (kept settings : ℕ)
       (before : List Note)
       → text ≡ header ++ rest → (unread : List ℕ) × IsRead rest front unread → BeginsWithSettings key sweep width first front left settings
       → kept + (length rest - length front) + length after ≡ length text → settings ≤ most → AreLinesBehind key sweep width first most settings left after before
-      → IsBegunSettings revived mark sweep width p text kept settings before
+      → IsBegunSettings tree mark sweep width p text kept settings before
   long_stands key first most its_key at all rest front left after kept settings before behind read begins stay few started =
       let unread = read.0 in
       let long : length rest ≡ length front + length unread = ap length read.1.written ∙ length-append front unread in
@@ -107,7 +110,7 @@ module _ (revived : Bool) (mark : List ℕ) (sweep : Sweep) (width : ℕ) (p : S
           left = left;
           begins = subst (λ k. BeginsWithSettings k sweep width (first_setting sweep p) front left settings) its_key (subst (λ n. BeginsWithSettings key sweep width n front left settings) at begins);
           after = after;
-          started = subst (λ n. AreLinesBehind (sweep_key mark sweep) sweep width (first_setting sweep p) n settings left after before) all
+          started = subst (λ n. AreLinesBehind (key_of_text tree mark sweep) sweep width (first_setting sweep p) n settings left after before) all
               (subst (λ k. AreLinesBehind k sweep width (first_setting sweep p) most settings left after before) its_key
               (subst (λ n. AreLinesBehind key sweep width n most settings left after before) at started));
           stay = omega (arith, stay, long, more);
@@ -116,7 +119,7 @@ module _ (revived : Bool) (mark : List ℕ) (sweep : Sweep) (width : ℕ) (p : S
       }
 
   -- behind what stands the shard can go on
-  module _ (kept settings : ℕ) (before : List Note) (asked : IsAskedFor sweep) (wanted : sweep.until ≡ Some width) (is : IsBegunSettings revived mark sweep width p text kept settings before) where
+  module _ (kept settings : ℕ) (before : List Note) (asked : IsAskedFor sweep) (wanted : sweep.until ≡ Some width) (is : IsBegunSettings tree mark sweep width p text kept settings before) where
     none_stands : before ≡ [] → CanGoOn sweep p header kept settings before
     none_stands none = record {
       few = is.few;
@@ -128,11 +131,11 @@ module _ (revived : Bool) (mark : List ℕ) (sweep : Sweep) (width : ℕ) (p : S
     can_go_on = by is.stands
       where
         by : (IsShort header text kept settings × (before ≡ []))
-            ⊎ AreSettingsBehind (sweep_key mark sweep) sweep width (first_setting sweep p) (settings_in sweep p) header text kept settings before → CanGoOn sweep p header kept settings before
+            ⊎ AreSettingsBehind (key_of_text tree mark sweep) sweep width (first_setting sweep p) (settings_in sweep p) header text kept settings before → CanGoOn sweep p header kept settings before
         by (inl short) = none_stands short.1
         by (inr it) = on it.started
           where
-            on : AreLinesBehind (sweep_key mark sweep) sweep width (first_setting sweep p) (settings_in sweep p) settings it.left it.after before → CanGoOn sweep p header kept settings before
+            on : AreLinesBehind (key_of_text tree mark sweep) sweep width (first_setting sweep p) (settings_in sweep p) settings it.left it.after before → CanGoOn sweep p header kept settings before
             on (inl none) = none_stands none.1
             on (inr b) =
                 let own = flat_map shard_setting it.begins.settings in

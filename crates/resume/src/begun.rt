@@ -4,7 +4,6 @@ ghost use Rattle.std.specs.Str.{IsValidUpTo};
 ghost use Rattle.toml.specs.View.{view};
 ghost use Rattle.shards.specs.Shards.{IsShard};
 ghost use Rattle.sweep.specs.Runs.{IsAskedFor};
-ghost use Rattle.sweep.specs.Table.{counts_revived};
 ghost use Rattle.sweep_plan.specs.Sweep.{setting_count};
 ghost use Rattle.table_rows.specs.Open.{BeginsWithOpen};
 ghost use Rattle.table_rows.specs.Settings.{HasSettingOf};
@@ -15,7 +14,7 @@ use figures::RunMetadata;
 use shards::Shard;
 use std::alloc::Global;
 use std::str::from_utf8;
-use sweep::{BegunFault, lines_behind, sweep_key};
+use sweep::{BegunFault, LineKey, key_of_text, lines_behind};
 use sweep_plan::Plan;
 use table_rows::{open_rows, settings_of_runs};
 use toml::Value;
@@ -33,8 +32,7 @@ pub struct BegunSettings {
 
 /// What stands of a shard's table in a text, where a setting has as many runs as make its interval so many hundredths wide at
 /// most: its first line or a beginning of that, and behind it the lines of its first settings, and of the first runs of the next one.
-/// Each line has its checksum, and the values and the seed that the plan asks for at its place. From the first line that isn't so on
-/// nothing counts.
+/// Each line is genuine at its place. From the first line that isn't so on nothing counts.
 ///
 /// Faults: `Other` where the text begins otherwise; `Older` where it goes on with a line without a checksum; `Memory`.
 pub fn begun_settings_of(
@@ -49,8 +47,8 @@ pub fn begun_settings_of(
     requires asked { IsAskedFor plan.now }
     requires shard { IsShard shard }
     requires wanted { plan.now.until ≡ Some width }
-    ensures begun { IfOk result (λ begun. IsBegunSettings (counts_revived (view document.now)) mark.now plan.now width shard text.now begun.kept begun.settings begun.started.items) }
-    ensures refused { IfErr result (RefusesBegunSettings (counts_revived (view document.now)) mark.now plan.now shard text.now) }
+    ensures begun { IfOk result (λ begun. IsBegunSettings (view document.now) mark.now plan.now width shard text.now begun.kept begun.settings begun.started.items) }
+    ensures refused { IfErr result (RefusesBegunSettings (view document.now) mark.now plan.now shard text.now) }
 {
     let Some(lines) = lines_behind(alloc, plan, shard, mark, document, text)? else {
         return Ok(BegunSettings {
@@ -59,7 +57,7 @@ pub fn begun_settings_of(
             started: Vec::new(alloc),
         });
     };
-    let key = sweep_key(alloc, plan, mark)?;
+    let key = key_of_text(alloc, plan, mark, document)?;
     let count = plan.settings();
     let first = shard.first(count);
     let most = shard.past(count) - first;
@@ -90,7 +88,7 @@ pub fn begun_settings_of(
 fn behind_open<'a>(
     alloc: Global,
     plan: &Plan,
-    key: &[u8],
+    key: &LineKey,
     number: usize,
     past: usize,
     text: &'a str,

@@ -1,10 +1,10 @@
 -- A shard that was cut off goes on as the shard that it is.
-use Rattle.std.proofs.Common.{◌≡◌, ◌⊎◌, ◌≤◌, ◌+◌, ◌-◌, ℕ, zero, suc, Bool, List, [], ◌∷◌, ◌++◌, inl, inr, length, take, drop, lit<, arith, refl, sym, ap, subst, ◌∙◌, append_assoc, append-nil}
+use Rattle.std.proofs.Common.{◌≡◌, ◌⊎◌, ◌≤◌, ◌+◌, ◌-◌, ℕ, zero, suc, Bool, List, [], ◌∷◌, ◌++◌, inl, inr, length, take, drop, lit<, arith, refl, sym, ap, subst, ◌∙◌, append_assoc}
 use Rattle.std.specs.Prelude.{Option, Some, All}
 use Rattle.std.specs.List.{AllZip, flat_map}
 use Rattle.std.specs.Io.KnownBytes.{Appends}
 use Rattle.std.proofs.Math.Seq.{take-add, take-take}
-use Rattle.std.proofs.lemmas.List.{append_cancel_left, drop-drop, length-take}
+use Rattle.std.proofs.lemmas.List.{append_cancel_left, drop-drop}
 use Rattle.std.proofs.lemmas.List.Concat.{flat_map-append}
 use Rattle.std.proofs.lemmas.List.Elements.{All-head, All-tail}
 use Rattle.toml.specs.Data.{Data}
@@ -14,18 +14,20 @@ use Rattle.figures.specs.Notes.{note_cell, note_text}
 use Rattle.line_sums.proofs.Cuts.{sum_no_feed}
 use Rattle.shards.specs.declared.shard.Shard.{Shard}
 use Rattle.shards.specs.Shards.{first_run, past_run}
-use Rattle.sweep.specs.Runs.{Made, AreMadeBetween, IsMadeAs, noted, runs_between, runs_of}
+use Rattle.sweep.specs.Runs.{Made, AreMadeBetween, IsMadeAs, noted, runs_of}
 use Rattle.sweep.specs.Table.{made_line, noted_line, counts_revived}
 use Rattle.sweep.specs.Shards.{WritesShard, shard_header}
 use Rattle.sweep.specs.Resumed.{AreMadeBehind, IsBegun, IsLong, IsShort, RefusesBegun, WritesRest, runs_in}
-use Rattle.sweep.specs.Sums.{IsFed, sweep_key}
+use Rattle.sweep.specs.Sums.{IsFed, key_of_text, sweep_key}
+use Rattle.sweep.specs.declared.summing.LineKey.{LineKey}
 use Rattle.sweep.specs.declared.begun.BegunFault.TheVariants as begun_fault
 use Rattle.sweep.proofs.Kept.{goes_behind, long_again, short_again}
 use Rattle.sweep.proofs.LinesOf.{all_fed, lines_counted}
 use Rattle.sweep.proofs.ShardCourse.{all_runs}
 use Rattle.table_rows.specs.Made.{IsTellable}
 use Rattle.table_rows.proofs.Beginnings.{one_begins_with_other}
-use Rattle.table_rows.proofs.Bytes.{lacks_both, lacks_cons, note_lacks}
+use Rattle.table_rows.proofs.Bytes.{lacks_both, lacks_cons}
+use Rattle.figures.proofs.SameNotes.{note_lacks}
 use Rattle.table_rows.proofs.MadeLines.{line_from, line_in_shard, line_sound}
 use Rattle.table_rows.proofs.Read.{zipped_both}
 use Rattle.shard_merge.specs.Genuine.{IsCutShard}
@@ -114,11 +116,14 @@ module _ (tree : Data) (mark : List ℕ) (sweep : Sweep) (p : Shard) (made : Lis
   abbrev key : List ℕ
   key = sweep_key mark sweep
 
+  abbrev own_key : LineKey
+  own_key = key_of_text tree mark sweep
+
   abbrev first : ℕ
   first = first_run p (run_count sweep)
 
   abbrev Long : ℕ → ℕ → Type 0
-  Long kept runs = IsLong key sweep first (runs_in sweep p) header text kept runs
+  Long kept runs = IsLong own_key sweep first (runs_in sweep p) header text kept runs
 
   first_of : (kept runs : ℕ) (long : Long kept runs) → AreFirst revived key long.begins.lines made
   first_of kept runs long =
@@ -127,9 +132,9 @@ module _ (tree : Data) (mark : List ℕ) (sweep : Sweep) (p : Shard) (made : Lis
       let body : long.rest ++ cut.rest ≡ table =
       append_cancel_left header (long.rest ++ cut.rest) table (sym (append_assoc header long.rest cut.rest) ∙ ap (λ l. l ++ cut.rest) (sym long.written) ∙ cut.written) in
       let start : lines ++ (long.left ++ cut.rest) ≡ table = sym (append_assoc lines long.left cut.rest) ∙ ap (λ l. l ++ cut.rest) (sym long.begins.written) ∙ body in
-      first_lines revived key long.begins.lines made (long.left ++ cut.rest) (all_fed key sweep first runs long.begins.lines long.begins.are) cut.told start
+      first_lines revived key long.begins.lines made (long.left ++ cut.rest) (all_fed own_key sweep first runs long.begins.lines long.begins.are) cut.told start
 
-  pub going_on : (kept runs : ℕ) (new : Option (List ℕ)) → IsBegun revived mark sweep p text kept runs → WritesRest tree mark sweep p kept runs (Some (take kept text)) new
+  pub going_on : (kept runs : ℕ) (new : Option (List ℕ)) → IsBegun tree mark sweep p text kept runs → WritesRest tree mark sweep p kept runs (Some (take kept text)) new
       → WritesShard tree mark sweep p (Some []) new
   going_on kept runs new begun writes = by begun.stands
     where
@@ -145,7 +150,7 @@ module _ (tree : Data) (mark : List ℕ) (sweep : Sweep) (p : Shard) (made : Lis
       by (inr long) =
           let its = first_of kept runs long in
           let lines = flat_map (λ (one : List ℕ). one) long.begins.lines in
-          let count = lines_counted key sweep first runs long.begins.lines long.begins.are in
+          let count = lines_counted own_key sweep first runs long.begins.lines long.begins.are in
           let before : lines ≡ flat_map made_lines (take runs made) = its.same ∙ ap (λ n. flat_map made_lines (take n made)) count in
           let text_is : (header ++ lines) ++ flat_map made_lines writes.made ≡ header ++ flat_map made_lines (take runs made ++ writes.made) =
           append_assoc header lines (flat_map made_lines writes.made)
@@ -157,7 +162,7 @@ module _ (tree : Data) (mark : List ℕ) (sweep : Sweep) (p : Shard) (made : Lis
             written = subst (Appends (Some []) new) text_is (goes_behind header text kept (header ++ lines) again new (flat_map made_lines writes.made) writes.written);
           }
 
-  pub taken_for_one : RefusesBegun revived mark sweep p text begun_fault.Other → ⊥
+  pub taken_for_one : RefusesBegun tree mark sweep p text begun_fault.Other → ⊥
   taken_for_one apart = on (one_begins_with_other text cut.rest header (flat_map (noted_line revived key) made) cut.written)
     where
       on : ((more : List ℕ) × (text ≡ header ++ more)) ⊎ ((more : List ℕ) × (header ≡ text ++ more)) → ⊥

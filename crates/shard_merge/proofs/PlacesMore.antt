@@ -13,7 +13,7 @@ use Rattle.sweep.specs.Shards.{shard_header}
 use Rattle.sweep.specs.Table.{names_of}
 use Rattle.shard_merge.specs.declared.fault.JoinFault.{JoinFault}
 use Rattle.shard_merge.specs.declared.fault.JoinFault.TheVariants as fault
-use Rattle.sweep.specs.Sums.{IsOlder, sweep_key}
+use Rattle.sweep.specs.Sums.{IsOlder, line_key}
 use Rattle.shard_merge.specs.Among.{IsAmongTexts, shard_at}
 use Rattle.shard_merge.specs.Reasons.{AreIts, ArePlaces, BeginsAs, IsBehind, IsDoubled, IsFirst, IsMissing, IsOlderAt, IsNoShard, IsOfSink, IsOther, IsReason, IsTextAt, IsTorn, RefusesLines, RefusesPlace, RefusesText}
 use Rattle.shard_merge.proofs.SameSweep.{same_heads}
@@ -168,7 +168,7 @@ module _ (texts : List (Vec ℕ Global)) (mark : List ℕ) (revived : Bool) (swe
 
     -- a text whose lines aren't those of its shard
     module _ (number place : ℕ) (rest : List ℕ) (behind : IsBehind texts mark revived sweep p.of places number place rest) where
-      pub torn : (at : ℕ) → at ≡ place → ¬ (AreIts sweep.until (sweep_key mark sweep) sweep (shard_at number p.of) rest) → IsTorn texts at
+      pub torn : (at : ℕ) → at ≡ place → ¬ (AreIts sweep.until (line_key revived None mark sweep) sweep (shard_at number p.of) rest) → IsTorn texts at
       torn at same not =
           let held = are.held number place behind.found in
           let its = held.1.2 in

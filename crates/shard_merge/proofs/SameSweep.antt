@@ -29,7 +29,8 @@ use Rattle.shards.specs.Shards.{IsShard, shard_text}
 use Rattle.shards.specs.Names.{head_cell, shard_name, plan_text, seeds_word, until_text}
 use Rattle.sweep.specs.Runs.{IsAskedFor}
 use Rattle.shard_merge.specs.Joined.{IsMark}
-use Rattle.table_rows.proofs.Bytes.{lacks_both, lacks_cons, lacks_joined, value_lacks}
+use Rattle.table_rows.proofs.Bytes.{lacks_both, lacks_cons, lacks_joined}
+use Rattle.sweep.proofs.Cells.{value_lacks}
 
 -- ---- which bytes the words of a sweep don't have
 

@@ -16,7 +16,8 @@ use Rattle.shards.specs.Shards.{IsShard, first_run, past_run}
 use Rattle.shards.proofs.Bounds.{share_grows, whole_share}
 use Rattle.sweep.specs.Shards.{shard_header}
 use Rattle.sweep.specs.Summaries.{IsGathered, SumUp}
-use Rattle.sweep.specs.Sums.{AreLinesOf, sweep_key}
+use Rattle.sweep.specs.Sums.{AreLinesOf, line_key}
+use Rattle.sweep.specs.declared.summing.LineKey.{LineKey}
 use Rattle.sweep.proofs.LinesOf.{both_lines, none_yet as no_lines}
 use Rattle.sweep.proofs.Gathered.{all_through}
 use Rattle.sweep.proofs.Steps.{zipped_long}
@@ -83,7 +84,7 @@ module _ {X : Type 0} (Sound : X → Type 0) (text_of : X → List ℕ) (total :
 
   -- all shards
   joined : (Holds Sums : List X → Type 0) (old new : Option (List ℕ)) → 0 < of → (all : Shards Holds of old new) → Sums all.things → (until : Option ℕ) (settings : List SettingSummary)
-      → (length all.things ≡ total → length settings ≡ setting_count sweep.swept_keys) → ((body : Shard → List ℕ) → AreShared Sound text_of total Sums body → AreOf until mark sweep body settings)
+      → (length all.things ≡ total → length settings ≡ setting_count sweep.swept_keys) → ((body : Shard → List ℕ) → AreShared Sound text_of total Sums body → AreOf until (line_key revived None mark sweep) sweep body settings)
       → JoinsBehind [] texts mark revived sweep of old new until settings
   joined Holds Sums old new some all sums until settings each so =
       let many : length all.things ≡ total = all.many ∙ whole_share of total some in
@@ -102,19 +103,19 @@ module _ (texts : List (Vec ℕ Global)) (mark : List ℕ) (revived : Bool) (swe
   abbrev each : ℕ
   each = seed_count sweep.seeds
 
-  abbrev key : List ℕ
-  key = sweep_key mark sweep
+  abbrev key : LineKey
+  key = line_key revived None mark sweep
 
   abbrev Gathered : Told → List Line → Type 0
-  Gathered told lines = IsGathered each (notes_of lines) told.gathering × ArePlaced mark sweep lines
+  Gathered told lines = IsGathered each (notes_of lines) told.gathering × ArePlaced key sweep lines
 
   abbrev SummedUp : ℕ → List SettingSummary → List (List Line) → Type 0
-  SummedUp width settings own = AllZip SumsUpLines own settings × ArePlacedSettings mark sweep width own
+  SummedUp width settings own = AllZip SumsUpLines own settings × ArePlacedSettings key sweep width own
 
   -- the lines of the first shards, and behind them those of one more
-  placed_more : (number : ℕ) (lines more : List Line) (body : List ℕ) → length lines ≡ number * run_count sweep / of → ArePlaced mark sweep lines → body ≡ flat_map shard_line more
+  placed_more : (number : ℕ) (lines more : List Line) (body : List ℕ) → length lines ≡ number * run_count sweep / of → ArePlaced key sweep lines → body ≡ flat_map shard_line more
       → length more ≡ share (run_count sweep) (shard_at number of)
-      → AreLinesOf key sweep (first_run (shard_at number of) (run_count sweep)) body (share (run_count sweep) (shard_at number of)) → ArePlaced mark sweep (lines ++ more)
+      → AreLinesOf key sweep (first_run (shard_at number of) (run_count sweep)) body (share (run_count sweep) (shard_at number of)) → ArePlaced key sweep (lines ++ more)
   placed_more number lines more body long placed is many there =
       let counted : length lines ≡ 0 + length lines = omega arith in
       let at : first_run (shard_at number of) (run_count sweep) ≡ 0 + length lines = first_is of (run_count sweep) number ∙ sym long ∙ counted in
@@ -127,10 +128,10 @@ module _ (texts : List (Vec ℕ Global)) (mark : List ℕ) (revived : Bool) (swe
       (both_lines key sweep 0 (length lines) (length more) (flat_map shard_line lines) (flat_map shard_line more) placed behind))
 
   -- the same of settings
-  settings_more : (width number : ℕ) (own more : List (List Line)) (body : List ℕ) → length own ≡ number * setting_count sweep.swept_keys / of → ArePlacedSettings mark sweep width own
+  settings_more : (width number : ℕ) (own more : List (List Line)) (body : List ℕ) → length own ≡ number * setting_count sweep.swept_keys / of → ArePlacedSettings key sweep width own
       → body ≡ flat_map shard_setting more → length more ≡ share (setting_count sweep.swept_keys) (shard_at number of)
       → AreSettingsOf key sweep width (first_run (shard_at number of) (setting_count sweep.swept_keys)) body (share (setting_count sweep.swept_keys) (shard_at number of))
-      → ArePlacedSettings mark sweep width (own ++ more)
+      → ArePlacedSettings key sweep width (own ++ more)
   settings_more width number own more body long placed is many there =
       let total = setting_count sweep.swept_keys in
       let counted : length own ≡ 0 + length own = omega arith in
@@ -171,7 +172,7 @@ module _ (texts : List (Vec ℕ Global)) (mark : List ℕ) (revived : Bool) (swe
   pub all_joined : (until : Option ℕ) (old new : Option (List ℕ)) (told : Told) (settings : List SettingSummary) → 0 < of → JoinsShards until texts mark revived sweep of of old new told
       → settings ≡ summaries_told until told → JoinsBehind [] texts mark revived sweep of old new until settings
   all_joined None old new told settings some all same =
-      joined IsLine shard_line (run_count sweep) texts mark revived sweep of (Gathered told) (λ lines. SumUp each (notes_of lines) settings × ArePlaced mark sweep lines) old new some all
+      joined IsLine shard_line (run_count sweep) texts mark revived sweep of (Gathered told) (λ lines. SumUp each (notes_of lines) settings × ArePlaced key sweep lines) old new some all
       (subst (SumUp each (notes_of all.things)) (sym same) all.holds.0.told, all.holds.1) None settings
       (λ long. ap length same ∙ all_through sweep (notes_of all.things) told.gathering (length-map all.things (λ (l : Line). l.note) ∙ long) all.holds.0) (λ body are. are)
   all_joined (Some width) old new told settings some all same =

@@ -13,6 +13,8 @@ use Rattle.shards.specs.declared.shard.Shard.{Shard}
 use Rattle.shards.specs.Shards.{whole}
 use Rattle.sweep.specs.Shards.{shard_header}
 use Rattle.sweep.specs.Runs.{IsAskedFor}
+use Rattle.sweep.specs.Sums.{line_key}
+use Rattle.sweep.specs.declared.summing.LineKey.{LineKey}
 use Rattle.sweep.proofs.Sizes.{few_of, few_runs, few_with_all}
 use Rattle.table_rows.specs.Lines.{Line, notes_of}
 use Rattle.table_rows.specs.Settings.{IsSetting, SumsUpLines}
@@ -50,10 +52,10 @@ few_with_own width each (lines ∷ own) (setting ∷ settings) few sound told =
     All-cons HasFewRuns setting settings (few_of setting (notes_of lines) (omega (arith, here.enough.few, few)) told.0)
     (few_with_own width each own settings few (All-tail (IsSetting width each) lines own sound) told.1)
 
-few_by : (until : Option ℕ) (mark : List ℕ) (sweep : Sweep) (body : Shard → List ℕ) (settings : List SettingSummary) → seed_count sweep.seeds ≤ 1000000 → AreOf until mark sweep body settings → All HasFewRuns settings
-few_by None mark sweep body settings few are = few_with_all (seed_count sweep.seeds) (notes_of are.things) settings few are.holds.0
-few_by (Some width) mark sweep body settings few are = few_with_own width (seed_count sweep.seeds) are.things settings few are.sound are.holds.0
+few_by : (until : Option ℕ) (key : LineKey) (sweep : Sweep) (body : Shard → List ℕ) (settings : List SettingSummary) → seed_count sweep.seeds ≤ 1000000 → AreOf until key sweep body settings → All HasFewRuns settings
+few_by None key sweep body settings few are = few_with_all (seed_count sweep.seeds) (notes_of are.things) settings few are.holds.0
+few_by (Some width) key sweep body settings few are = few_with_own width (seed_count sweep.seeds) are.things settings few are.sound are.holds.0
 
 pub few_joined : (texts : List (Vec ℕ Global)) (mark : List ℕ) (revived : Bool) (sweep : Sweep) (of : ℕ) (old new : Option (List ℕ)) (until : Option ℕ) (settings : List SettingSummary) → IsAskedFor sweep
     → JoinsBehind [] texts mark revived sweep of old new until settings → All HasFewRuns settings
-few_joined texts mark revived sweep of old new until settings asked put = few_by until mark sweep put.body settings (few_runs sweep asked) put.are
+few_joined texts mark revived sweep of old new until settings asked put = few_by until (line_key revived None mark sweep) sweep put.body settings (few_runs sweep asked) put.are

@@ -6,6 +6,7 @@ use Rattle.figures.specs.declared.summary.SettingSummary.{SettingSummary}
 use Rattle.shards.specs.declared.shard.Shard.{Shard}
 use Rattle.shards.specs.Shards.{first_run, past_run}
 use Rattle.sweep.specs.Sums.{AreLinesOf}
+use Rattle.sweep.specs.declared.summing.LineKey.{LineKey}
 use Rattle.sweep.specs.Summaries.{IsGathered, summaries_in}
 use Rattle.sweep.specs.declared.gathering.Gathering.{Gathering}
 use Rattle.table_rows.specs.Lines.{AreLines, ReadsLines}
@@ -23,9 +24,8 @@ share_of total p things = take (share total p) (drop (first_run p total) things)
 abbrev pub GathersMore : Gathering → Gathering → List Note → Type 0
 GathersMore before after more = (each : ℕ) (notes : List Note) → IsGathered each notes before → IsGathered each (notes ++ more) after
 
--- The text is that of a sweep that has a width, or none: a line for each run of the shard, or its settings. Each line has its checksum with this key, and the
--- values and the seed of the run at its place.
-abbrev pub AreBehind : Option ℕ → List ℕ → Sweep → Shard → List ℕ → Type 0
+-- The text is that of a sweep that has a width, or none: a line for each run of the shard, or its settings. Each line is genuine at its place.
+abbrev pub AreBehind : Option ℕ → LineKey → Sweep → Shard → List ℕ → Type 0
 AreBehind None key sweep p text =
     AreLines text (share (run_count sweep) p) × AreLinesOf key sweep (first_run p (run_count sweep)) text (share (run_count sweep) p)
 AreBehind (Some width) key sweep p text =
@@ -33,7 +33,7 @@ AreBehind (Some width) key sweep p text =
     × AreSettingsOf key sweep width (first_run p (setting_count sweep.swept_keys)) text (share (setting_count sweep.swept_keys) p)
 
 -- the same, with what was told before, and is told then: the notes of the lines are gathered, or the settings summed up
-abbrev pub ReadsBehind : Option ℕ → List ℕ → Sweep → Shard → List ℕ → Told → Told → Type 0
+abbrev pub ReadsBehind : Option ℕ → LineKey → Sweep → Shard → List ℕ → Told → Told → Type 0
 ReadsBehind None key sweep p text before after =
     ReadsLines text (share (run_count sweep) p) (GathersMore before.gathering after.gathering)
     × AreLinesOf key sweep (first_run p (run_count sweep)) text (share (run_count sweep) p)

@@ -10,7 +10,8 @@ use Rattle.shards.specs.Shards.{IsShard, whole}
 use Rattle.sweep.specs.Runs.{IsAskedFor}
 use Rattle.sweep.specs.Summaries.{SumUp, IsGathered}
 use Rattle.sweep.specs.Shards.{shard_header}
-use Rattle.sweep.specs.Sums.{AreLinesOf, sweep_key}
+use Rattle.sweep.specs.Sums.{AreLinesOf, line_key}
+use Rattle.sweep.specs.declared.summing.LineKey.{LineKey}
 use Rattle.table_rows.specs.Lines.{Line, IsLine, shard_line, notes_of}
 use Rattle.table_rows.specs.Settings.{AreSettingsOf, IsSetting, SumsUpLines, shard_setting}
 use Rattle.shard_merge.specs.Among.{IsAmongTexts, shard_at}
@@ -29,7 +30,7 @@ pub record JoinsShard (until : Option ℕ) (texts : List (Vec ℕ Global)) (mark
     (before after : Told) : Type 0 where
   pub body : List ℕ
   pub there : IsAmongTexts texts (shard_header revived mark sweep (shard_at number of) ++ body)
-  pub read : ReadsBehind until (sweep_key mark sweep) sweep (shard_at number of) body before after
+  pub read : ReadsBehind until (line_key revived None mark sweep) sweep (shard_at number of) body before after
   pub put : Appends old new body
 
 -- The first shards, so many, are among the texts: behind the first line of each stands its share of these things, of which there are so many in the whole.
@@ -43,19 +44,19 @@ pub record JoinsThings {X : Type 0} (Sound : X → Type 0) (text_of : X → List
   pub put : Appends old new (flat_map text_of things)
   pub holds : Holds things
 
--- lines are those of the first runs of a sweep, each with its checksum, or of its first settings
-abbrev pub ArePlaced : List ℕ → Sweep → List Line → Type 0
-ArePlaced mark sweep lines = AreLinesOf (sweep_key mark sweep) sweep 0 (flat_map shard_line lines) (length lines)
+-- lines are those of the first runs of a sweep, each genuine at its place, or of its first settings
+abbrev pub ArePlaced : LineKey → Sweep → List Line → Type 0
+ArePlaced key sweep lines = AreLinesOf key sweep 0 (flat_map shard_line lines) (length lines)
 
-abbrev pub ArePlacedSettings : List ℕ → Sweep → ℕ → List (List Line) → Type 0
-ArePlacedSettings mark sweep width own = AreSettingsOf (sweep_key mark sweep) sweep width 0 (flat_map shard_setting own) (length own)
+abbrev pub ArePlacedSettings : LineKey → Sweep → ℕ → List (List Line) → Type 0
+ArePlacedSettings key sweep width own = AreSettingsOf key sweep width 0 (flat_map shard_setting own) (length own)
 
 -- things are the lines of runs, whose notes are gathered, or settings of as many runs as are enough, which are summed up
 abbrev pub JoinsShards : Option ℕ → List (Vec ℕ Global) → List ℕ → Bool → Sweep → ℕ → ℕ → Option (List ℕ) → Option (List ℕ) → Told → Type 0
 JoinsShards None texts mark revived sweep of count old new told =
-    JoinsThings IsLine shard_line (run_count sweep) (λ lines. IsGathered (seed_count sweep.seeds) (notes_of lines) told.gathering × ArePlaced mark sweep lines) texts mark revived sweep of count old new
+    JoinsThings IsLine shard_line (run_count sweep) (λ lines. IsGathered (seed_count sweep.seeds) (notes_of lines) told.gathering × ArePlaced (line_key revived None mark sweep) sweep lines) texts mark revived sweep of count old new
 JoinsShards (Some width) texts mark revived sweep of count old new told =
-    JoinsThings (IsSetting width (seed_count sweep.seeds)) shard_setting (setting_count sweep.swept_keys) (λ own. AllZip SumsUpLines own told.settings.items × ArePlacedSettings mark sweep width own) texts mark revived sweep of
+    JoinsThings (IsSetting width (seed_count sweep.seeds)) shard_setting (setting_count sweep.swept_keys) (λ own. AllZip SumsUpLines own told.settings.items × ArePlacedSettings (line_key revived None mark sweep) sweep width own) texts mark revived sweep of
     count old new
 
 -- ---- all shards
@@ -69,11 +70,11 @@ pub record AreShared {X : Type 0} (Sound : X → Type 0) (text_of : X → List �
   pub holds : Holds things
 
 -- the shards of a sweep that has a width, or none, whatever their number, and the summaries of its settings
-abbrev pub AreOf : Option ℕ → List ℕ → Sweep → (Shard → List ℕ) → List SettingSummary → Type 0
-AreOf None mark sweep body settings =
-    AreShared IsLine shard_line (run_count sweep) (λ lines. SumUp (seed_count sweep.seeds) (notes_of lines) settings × ArePlaced mark sweep lines) body
-AreOf (Some width) mark sweep body settings =
-    AreShared (IsSetting width (seed_count sweep.seeds)) shard_setting (setting_count sweep.swept_keys) (λ own. AllZip SumsUpLines own settings × ArePlacedSettings mark sweep width own) body
+abbrev pub AreOf : Option ℕ → LineKey → Sweep → (Shard → List ℕ) → List SettingSummary → Type 0
+AreOf None key sweep body settings =
+    AreShared IsLine shard_line (run_count sweep) (λ lines. SumUp (seed_count sweep.seeds) (notes_of lines) settings × ArePlaced key sweep lines) body
+AreOf (Some width) key sweep body settings =
+    AreShared (IsSetting width (seed_count sweep.seeds)) shard_setting (setting_count sweep.swept_keys) (λ own. AllZip SumsUpLines own settings × ArePlacedSettings key sweep width own) body
 
 -- The texts have all shards of the sweep, of so many: each is one of them. What stands behind the first line of its only shard was put behind this front,
 -- and there is a summary for each setting.
@@ -83,7 +84,7 @@ pub record JoinsBehind (front : List ℕ) (texts : List (Vec ℕ Global)) (mark 
   pub there : (p : Shard) → IsShard p → p.of ≡ of → IsAmongTexts texts (shard_header revived mark sweep p ++ body p)
   pub written : Appends old new (front ++ body whole)
   pub each : length settings ≡ setting_count sweep.swept_keys
-  pub are : AreOf until mark sweep body settings
+  pub are : AreOf until (line_key revived None mark sweep) sweep body settings
 
 -- The texts have all shards of this sweep, whose tables tell, or don't, of members that were taken for alive again. Its only shard was appended, which is the
 -- table of the whole, and these are the summaries of its settings.

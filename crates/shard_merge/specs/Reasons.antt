@@ -9,7 +9,8 @@ use Rattle.shards.specs.declared.shard.Shard.{Shard}
 use Rattle.shards.specs.Shards.{IsShard}
 use Rattle.sweep.specs.Shards.{shard_header}
 use Rattle.sweep.specs.Runs.{IsAskedFor}
-use Rattle.sweep.specs.Sums.{IsOlder, sweep_key}
+use Rattle.sweep.specs.Sums.{IsOlder, line_key}
+use Rattle.sweep.specs.declared.summing.LineKey.{LineKey}
 use Rattle.shard_merge.specs.Among.{shard_at}
 use Rattle.shard_merge.specs.Behind.{AreBehind}
 use Rattle.shard_merge.specs.Joined.{IsMark}
@@ -32,8 +33,8 @@ pub record BeginsAs (text mark : List ℕ) (revived : Bool) (sweep : Sweep) (p :
 abbrev pub BeginsAsNone : List ℕ → Type 0
 BeginsAsNone text = (mark : List ℕ) (revived : Bool) (sweep : Sweep) (p : Shard) → ¬ (BeginsAs text mark revived sweep p)
 
--- what stands behind the first line of the shard is in UTF-8, and a line for each of its runs, or its settings, each line with its checksum and at its place
-pub record AreIts (until : Option ℕ) (key : List ℕ) (sweep : Sweep) (p : Shard) (text : List ℕ) : Type 0 where
+-- what stands behind the first line of the shard is in UTF-8, and a line for each of its runs, or its settings, each line genuine at its place
+pub record AreIts (until : Option ℕ) (key : LineKey) (sweep : Sweep) (p : Shard) (text : List ℕ) : Type 0 where
   pub encoded : IsUtf8 text
   pub are : AreBehind until key sweep p text
 
@@ -82,7 +83,7 @@ pub record IsTorn (texts : List (Vec ℕ Global)) (place : ℕ) : Type 0 where
   pub text : List ℕ
   pub there : IsTextAt texts place text
   pub begins : BeginsAs text mark revived sweep p
-  pub torn : ¬ (AreIts sweep.until (sweep_key mark sweep) sweep p begins.rest)
+  pub torn : ¬ (AreIts sweep.until (line_key revived None mark sweep) sweep p begins.rest)
 
 -- the text at this place begins as a shard, and then comes a line without a checksum
 pub record IsOlderAt (texts : List (Vec ℕ Global)) (place : ℕ) : Type 0 where

@@ -16,7 +16,7 @@ use figures::SettingSummary;
 use shards::Shard;
 use std::alloc::Global;
 use std::str::from_utf8;
-use sweep::{sweep_key, write_front};
+use sweep::{line_key, write_front};
 use sweep_plan::Plan;
 use table_rows::LineFault;
 use trace::{Sink, Stopped, WriteError, put_all};
@@ -103,7 +103,7 @@ fn join_shard<S: Sink>(
 {
     let behind = lines_behind(alloc, texts, head, places, number)?;
     let shard = shard_at(number, head.shard.of);
-    let key = sweep_key(alloc, &head.plan, head.mark)?;
+    let key = line_key(alloc, &head.plan, head.mark, head.revived, None)?;
     match told.read(alloc, &head.plan, &key, shard, behind.lines) {
         Ok(()) => put_lines(behind.lines, table),
         Err(LineFault::Torn) => Err(JoinFault::Torn(behind.place)),

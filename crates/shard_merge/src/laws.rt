@@ -10,7 +10,6 @@ ghost use Rattle.shard_merge.specs.Joined.{IsMark, Joins};
 ghost use Rattle.shards.specs.declared.shard.Shard.{Shard};
 ghost use Rattle.sweep.specs.Shards.{WritesShard};
 ghost use Rattle.sweep.specs.Resumed.{IsBegun, RefusesBegun, WritesRest};
-ghost use Rattle.sweep.specs.Table.{counts_revived};
 ghost use Rattle.sweep.specs.declared.begun.BegunFault.TheVariants as begun_fault;
 ghost use Rattle.table_rows.specs.Made.{IsTellable};
 ghost use Rattle.shard_merge.specs.Genuine.{AreAll, AreShards, AreShardsOfSettings, IsAgain, IsCutShard, IsWhole, IsWholeUntil};
@@ -37,10 +36,10 @@ pub fn all_shards_of_settings_are_the_whole()
 /// stay, its whole lines, is that shard with them.
 pub fn a_cut_shard_goes_on()
     ensures goes_on { (tree : Data) (mark : List ℕ) (sweep : Sweep) (p : Shard) (made : List Made) (text : List ℕ) (kept runs : ℕ) (new : Option (List ℕ))
-        → IsCutShard tree mark sweep p made text → IsBegun (counts_revived tree) mark sweep p text kept runs → WritesRest tree mark sweep p kept runs (Some (take kept text)) new
+        → IsCutShard tree mark sweep p made text → IsBegun tree mark sweep p text kept runs → WritesRest tree mark sweep p kept runs (Some (take kept text)) new
         → WritesShard tree mark sweep p (Some []) new }
     ensures taken { (tree : Data) (mark : List ℕ) (sweep : Sweep) (p : Shard) (made : List Made) (text : List ℕ)
-        → IsCutShard tree mark sweep p made text → ¬ (RefusesBegun (counts_revived tree) mark sweep p text begun_fault.Other) }
+        → IsCutShard tree mark sweep p made text → ¬ (RefusesBegun tree mark sweep p text begun_fault.Other) }
 {}
 
 /// Where the table to which shards were put together is put together alone, it is put again, of the same sweep.

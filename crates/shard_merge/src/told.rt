@@ -12,7 +12,7 @@ ghost use Rattle.sweep.specs.Sums.{AreLinesOf};
 use figures::SettingSummary;
 use shards::Shard;
 use std::alloc::Global;
-use sweep::{Gathering, are_lines_of};
+use sweep::{Gathering, LineKey, are_lines_of};
 use sweep_plan::Plan;
 use table_rows::{LineFault, are_settings_of, read_lines, read_settings};
 
@@ -42,13 +42,12 @@ impl Told {
         }
     }
 
-    /// Reads what stands behind the first line of a shard, each line of which must have its checksum with this key, and stand at
-    /// its place.
+    /// Reads what stands behind the first line of a shard, each line of which must be genuine at its place.
     pub(crate) fn read(
         &mut self,
         alloc: Global,
         plan: &Plan,
-        key: &[u8],
+        key: &LineKey,
         shard: Shard,
         lines: &str,
     ) -> Result<(), LineFault>
@@ -97,7 +96,7 @@ impl Told {
 fn read_placed_lines(
     alloc: Global,
     plan: &Plan,
-    key: &[u8],
+    key: &LineKey,
     first: usize,
     count: usize,
     lines: &str,
@@ -119,7 +118,7 @@ fn read_placed_lines(
 fn read_placed_settings(
     alloc: Global,
     plan: &Plan,
-    key: &[u8],
+    key: &LineKey,
     width: u64,
     first: usize,
     count: usize,

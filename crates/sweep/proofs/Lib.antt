@@ -1,3 +1,4 @@
+pub mod Cells
 pub mod Flat
 pub mod Handing
 mod Lots

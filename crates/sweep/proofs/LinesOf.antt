@@ -1,16 +1,15 @@
 -- The lines of runs with which a text begins.
-use Rattle.std.proofs.Common.{◌≡◌, ◌∙◌, ◌+◌, ◌<◌, ◌≤◌, ◌⊎◌, ℕ, zero, suc, List, [], ◌∷◌, ◌++◌, length, length-append, inl, inr, refl, sym, ap, subst, arith, append_assoc, append-nil}
-use Rattle.std.specs.Prelude.{All, slice_get, Some}
+use Rattle.std.proofs.Common.{◌≡◌, ◌∙◌, ◌+◌, ◌<◌, ◌⊎◌, ℕ, zero, suc, List, [], ◌∷◌, ◌++◌, length, length-append, inl, inr, refl, sym, ap, subst, arith, append_assoc, append-nil}
+use Rattle.std.specs.Prelude.{All}
 use Rattle.std.specs.List.{AllZip, flat_map, range_with_len}
 use Rattle.std.proofs.lemmas.List.Concat.{flat_map-append}
 use Rattle.std.proofs.lemmas.List.Elements.{All-cons, All-nil}
-use Rattle.std.proofs.lemmas.Option.{same_Some}
 use Rattle.std.proofs.lemmas.Slice.Zip.{all_zipped_more}
 use Rattle.sweep_plan.specs.Sweep.{Sweep}
-use Rattle.line_sums.specs.Sums.{IsCut, IsFirstLine, summed}
-use Rattle.line_sums.proofs.Cuts.{Lacks, cut_one, not_cut, one_summed, same_first}
-use Rattle.sweep.specs.Runs.{Planned, IsRunAt}
-use Rattle.sweep.specs.Sums.{AreLinesOf, BeginsWithLine, BeginsWithLines, HasLineOf, IsFed, IsLineOf, IsPlaced, lead_of}
+use Rattle.line_sums.specs.Sums.{IsFirstLine, summed}
+use Rattle.line_sums.proofs.Cuts.{one_summed, same_first}
+use Rattle.sweep.specs.Sums.{AreLinesOf, BeginsWithLine, BeginsWithLines, HasLineOf, IsFed, IsLineOf, IsPlaced}
+use Rattle.sweep.specs.declared.summing.LineKey.{LineKey}
 use Rattle.rayon.proofs.ListFacts.{AllZip-append}
 use Rattle.sweep.proofs.Numbers.{range_more, range_split}
 
@@ -25,7 +24,7 @@ fed_some line more fed none =
     let no_bytes : length (line ++ more) ≡ 0 = ap length none in
     omega (arith, long, length-append fed.body (10 ∷ []), length-append line more, no_bytes)
 
-module _ (key : List ℕ) (sweep : Sweep) where
+module _ (key : LineKey) (sweep : Sweep) where
   pub none_yet : (first : ℕ) (text : List ℕ) → BeginsWithLines key sweep first text text 0
   none_yet first text = record { lines = []; are = tt; written = refl }
 
@@ -121,7 +120,7 @@ module _ (key : List ℕ) (sweep : Sweep) where
 
   module _ (number : ℕ) (text : List ℕ) where
     -- the first line of the text, its checksum and its place
-    pub line_there : (line left rest : List ℕ) → IsFirstLine text line left → line ≡ summed key rest → IsPlaced sweep number rest → BeginsWithLine key sweep number text left
+    pub line_there : (line left rest : List ℕ) → IsFirstLine text line left → line ≡ summed key.digest rest → IsPlaced key sweep number rest → BeginsWithLine key sweep number text left
     line_there line left rest first sum placed = record {
       line = line;
       is = record { fed = record { body = first.body; one = first.one; fed = first.fed }; rest = rest; sum = sum; placed = placed };
@@ -135,33 +134,10 @@ module _ (key : List ℕ) (sweep : Sweep) where
       the_line : (has : HasLineOf key sweep number text) → has.1.line ≡ line
       the_line has = (same_first text has.1.line has.0 line left (fed_first text has.1.line has.0 has.1.is.fed has.1.written) first).0
 
-      pub no_sum : ((rest : List ℕ) → ¬ (line ≡ summed key rest)) → ¬ (HasLineOf key sweep number text)
+      pub no_sum : ((rest : List ℕ) → ¬ (line ≡ summed key.digest rest)) → ¬ (HasLineOf key sweep number text)
       no_sum none has = none has.1.is.rest (sym (the_line has) ∙ has.1.is.sum)
 
-      pub no_place : (rest : List ℕ) → line ≡ summed key rest → ¬ (IsPlaced sweep number rest) → ¬ (HasLineOf key sweep number text)
+      pub no_place : (rest : List ℕ) → line ≡ summed key.digest rest → ¬ (IsPlaced key sweep number rest) → ¬ (HasLineOf key sweep number text)
       no_place rest sum none has =
-          let same : has.1.is.rest ≡ rest = one_summed key has.1.is.rest rest (sym has.1.is.sum ∙ the_line has ∙ sum) in
-          none (subst (IsPlaced sweep number) same has.1.is.placed)
-
--- ---- the place of a line
-
-module _ (sweep : Sweep) (number : ℕ) (line note behind : List ℕ) (cut : IsCut 44 line note behind) where
-  pub placed_so : (lead : List ℕ) → (p : Planned) × IsRunAt sweep number p × (lead ≡ lead_of p) → (more : List ℕ) × (behind ≡ lead ++ more) → IsPlaced sweep number line
-  placed_so lead run split = record {
-    planned = run.0;
-    there = run.1;
-    note = note;
-    behind = behind;
-    cut = cut;
-    more = split.0;
-    written = split.1 ∙ ap (λ l. l ++ split.0) run.2;
-  }
-
-  pub not_placed : (lead : List ℕ) → (p : Planned) × IsRunAt sweep number p × (lead ≡ lead_of p) → ((more : List ℕ) → ¬ (behind ≡ lead ++ more)) → ¬ (IsPlaced sweep number line)
-  not_placed lead run none placed =
-      let same : placed.behind ≡ behind = (cut_one 44 placed.note note placed.behind behind placed.cut.lacks cut.lacks (sym placed.cut.written ∙ cut.written)).1 in
-      let planned : placed.planned ≡ run.0 = same_Some placed.planned run.0 (sym placed.there ∙ run.1) in
-      none placed.more (sym same ∙ placed.written ∙ ap (λ p. lead_of p ++ placed.more) planned ∙ ap (λ l. l ++ placed.more) (sym run.2))
-
-pub no_comma : (sweep : Sweep) (number : ℕ) (line : List ℕ) → Lacks 44 line → ¬ (IsPlaced sweep number line)
-no_comma sweep number line lacks placed = not_cut 44 line placed.note placed.behind lacks placed.cut.written
+          let same : has.1.is.rest ≡ rest = one_summed key.digest has.1.is.rest rest (sym has.1.is.sum ∙ the_line has ∙ sum) in
+          none (subst (IsPlaced key sweep number) same has.1.is.placed)

@@ -1,5 +1,5 @@
 -- How many runs a setting has.
-use Rattle.std.proofs.Common.{ℕ, suc, suc-mul, ◌+◌, ◌<◌, ◌≤◌, ◌*◌, ◌==◌, List, [], ◌∷◌, Option, Some, None, not, length, drop, get_or, arith}
+use Rattle.std.proofs.Common.{ℕ, suc, suc-mul, ◌+◌, ◌<◌, ◌≤◌, ◌*◌, ◌==◌, List, Option, Some, None, not, length, drop, get_or, arith}
 use Rattle.std.specs.Prelude.{All}
 use Rattle.std.proofs.lemmas.Nat.{mul-le}
 use Rattle.std.proofs.lemmas.List.{length-take}

@@ -1,7 +1,7 @@
 -- The table of a whole sweep is that of its only shard.
 use Rattle.std.proofs.Common.{◌≡◌, ℕ, ◌+◌, List, ◌++◌, Option, sym, ap, subst, ◌∙◌, drop, length, map, add-zero}
 use Rattle.std.proofs.lemmas.List.{length-map}
-use Rattle.std.specs.List.{AllZip, flat_map}
+use Rattle.std.specs.List.{flat_map}
 use Rattle.std.specs.Io.KnownBytes.{Appends}
 use Rattle.toml.specs.Data.{Data}
 use Rattle.trace.specs.Sinks.{AppendsBeginning}

@@ -10,7 +10,8 @@ use Rattle.shards.specs.Shards.{first_run, past_run}
 use Rattle.sweep.specs.Runs.{Made, AreMadeBetween}
 use Rattle.sweep.specs.Table.{Course, noted_line, counts_revived}
 use Rattle.sweep.specs.Shards.{shard_header}
-use Rattle.sweep.specs.Sums.{BeginsWithLines, HasLineOf, IsOlder, sweep_key}
+use Rattle.sweep.specs.Sums.{BeginsWithLines, HasLineOf, IsOlder, key_of_text, sweep_key}
+use Rattle.sweep.specs.declared.summing.LineKey.{LineKey}
 use Rattle.sweep.specs.declared.begun.BegunFault.{BegunFault}
 use Rattle.sweep.specs.declared.begun.BegunFault.TheVariants.{Other, Older, Memory}
 
@@ -22,7 +23,7 @@ pub record IsShort (header text : List ℕ) (kept runs : ℕ) : Type 0 where
   pub no_run : runs ≡ 0
 
 -- Behind that line come those of so many runs, from that of a number on, and no more of them than so many: the first bytes of the text, up to what is left.
-pub record IsLong (key : List ℕ) (sweep : Sweep) (first most : ℕ) (header text : List ℕ) (kept runs : ℕ) : Type 0 where
+pub record IsLong (key : LineKey) (sweep : Sweep) (first most : ℕ) (header text : List ℕ) (kept runs : ℕ) : Type 0 where
   pub rest : List ℕ
   pub written : text ≡ header ++ rest
   pub left : List ℕ
@@ -34,11 +35,11 @@ pub record IsLong (key : List ℕ) (sweep : Sweep) (first most : ℕ) (header te
 abbrev pub runs_in : Sweep → Shard → ℕ
 runs_in sweep p = past_run p (run_count sweep) - first_run p (run_count sweep)
 
--- So much of the table of a shard stands in the text: so many bytes stay, with the lines of so many runs. Each has its checksum, and the values and the
--- seed of the run at its place. They are all such lines with which the text goes on behind its first one.
-pub record IsBegun (revived : Bool) (mark : List ℕ) (sweep : Sweep) (p : Shard) (text : List ℕ) (kept runs : ℕ) : Type 0 where
-  pub stands : IsShort (shard_header revived mark sweep p) text kept runs
-      ⊎ IsLong (sweep_key mark sweep) sweep (first_run p (run_count sweep)) (runs_in sweep p) (shard_header revived mark sweep p) text kept runs
+-- So much of the table of a shard stands in the text, of a sweep of this document: so many bytes stay, with the lines of so many runs. Each is genuine at its
+-- place. They are all such lines with which the text goes on behind its first one.
+pub record IsBegun (tree : Data) (mark : List ℕ) (sweep : Sweep) (p : Shard) (text : List ℕ) (kept runs : ℕ) : Type 0 where
+  pub stands : IsShort (shard_header (counts_revived tree) mark sweep p) text kept runs
+      ⊎ IsLong (key_of_text tree mark sweep) sweep (first_run p (run_count sweep)) (runs_in sweep p) (shard_header (counts_revived tree) mark sweep p) text kept runs
   pub few : first_run p (run_count sweep) + runs ≤ past_run p (run_count sweep)
 
 -- of the text and the first line neither begins with the other
@@ -58,8 +59,8 @@ RefusesStart header text Other = IsApart header text
 RefusesStart header text Older = IsOfBefore header text
 RefusesStart header text Memory = Unit {0}
 
-abbrev pub RefusesBegun : Bool → List ℕ → Sweep → Shard → List ℕ → BegunFault → Type 0
-RefusesBegun revived mark sweep p text fault = RefusesStart (shard_header revived mark sweep p) text fault
+abbrev pub RefusesBegun : Data → List ℕ → Sweep → Shard → List ℕ → BegunFault → Type 0
+RefusesBegun tree mark sweep p text fault = RefusesStart (shard_header (counts_revived tree) mark sweep p) text fault
 
 -- what comes behind so many bytes of a shard's table: what they lack of its first line, and the lines of the runs that were left
 abbrev pub rest_text : Bool → List ℕ → Sweep → Shard → ℕ → List Made → List ℕ

@@ -11,7 +11,7 @@ ghost use Rattle.sweep.specs.declared.begun.BegunFault.TheVariants as begun_faul
 use crate::revived::counts_revived;
 use crate::shard_tables::front_of;
 use crate::standing::{is_older, lines_of_runs};
-use crate::summing::sweep_key;
+use crate::summing::key_of_text;
 use base::Memory;
 use shards::Shard;
 use std::alloc::Global;
@@ -61,8 +61,7 @@ impl From<Memory> for BegunFault {
 }
 
 /// What stands of a shard's table in a text: its first line or a beginning of that, and behind it the lines of its first
-/// runs, each with its checksum, and with the values and the seed that the plan asks for at its place. From the first line
-/// that isn't so on nothing counts.
+/// runs, each genuine at its place. From the first line that isn't so on nothing counts.
 ///
 /// Faults: `Other` where the text begins otherwise; `Older` where it goes on with a line without a checksum; `Memory`.
 pub fn begun_of(
@@ -75,8 +74,8 @@ pub fn begun_of(
 ) -> Result<Begun, BegunFault>
     requires asked { IsAskedFor plan.now }
     requires shard { IsShard shard }
-    ensures begun { IfOk result (λ begun. IsBegun (counts_revived (view document.now)) mark.now plan.now shard text.now begun.kept begun.runs) }
-    ensures refused { IfErr result (RefusesBegun (counts_revived (view document.now)) mark.now plan.now shard text.now) }
+    ensures begun { IfOk result (λ begun. IsBegun (view document.now) mark.now plan.now shard text.now begun.kept begun.runs) }
+    ensures refused { IfErr result (RefusesBegun (view document.now) mark.now plan.now shard text.now) }
 {
     let Some(lines) = lines_behind(alloc, plan, shard, mark, document, text)? else {
         return Ok(Begun {
@@ -84,7 +83,7 @@ pub fn begun_of(
             runs: 0,
         });
     };
-    let key = sweep_key(alloc, plan, mark)?;
+    let key = key_of_text(alloc, plan, mark, document)?;
     let runs = plan.runs();
     let first = shard.first(runs);
     let stood = lines_of_runs(alloc, plan, &key, first, shard.past(runs) - first, lines)?;
@@ -140,7 +139,7 @@ fn header_of(
 }
 
 /// Whether a text is a beginning of the first line.
-pub(crate) fn is_beginning(text: &[u8], header: &[u8]) -> bool
+fn is_beginning(text: &[u8], header: &[u8]) -> bool
     ensures begins { result ≡ true → (rest : List ℕ) × (header.now ≡ text.now ++ rest) }
     ensures none { result ≡ false → (rest : List ℕ) → header.now ≢ text.now ++ rest }
 {
@@ -148,7 +147,7 @@ pub(crate) fn is_beginning(text: &[u8], header: &[u8]) -> bool
 }
 
 /// What comes behind the first line in a text that begins with it.
-fn rest_behind<'a>(text: &'a [u8], header: &[u8]) -> Option<&'a [u8]>
+pub(crate) fn rest_behind<'a>(text: &'a [u8], header: &[u8]) -> Option<&'a [u8]>
     ensures some { IfSome result (λ rest. text.entry.now ≡ header.now ++ rest.now) }
     ensures none { IsNone result → (rest : List ℕ) → text.entry.now ≢ header.now ++ rest }
 {

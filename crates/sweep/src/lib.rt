@@ -31,7 +31,7 @@ pub use revived::counts_revived;
 pub use shard_tables::{write_front, write_front_behind, write_rest, write_shard};
 pub use shares::{Lot, LotSize, Share, next_lot};
 pub use standing::{Standing, are_lines_of, is_older, lines_of_runs};
-pub use summing::sweep_key;
+pub use summing::{LineKey, key_of_text, line_key, sweep_key};
 pub use texts::{lines_of_settings, settings_text};
 pub use work::{SECOND_OF_WORK, work_of};
 pub use writing::write_line;

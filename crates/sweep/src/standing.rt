@@ -1,13 +1,15 @@
 //! The lines of runs that stand in a text.
-ghost use Rattle.std.specs.Prelude.{◌≡◌, ◌≢◌, ◌⊎◌, ◌+◌, ◌<◌, ◌≤◌, ◌++◌, true, false, List, ℕ, IfOk, IfSome, IsNone};
+ghost use Rattle.std.specs.Prelude.{◌≡◌, ◌⊎◌, ◌+◌, ◌<◌, ◌≤◌, true, false, IfOk, IfSome, IsNone};
 ghost use Rattle.sweep_plan.specs.Sweep.{run_count};
 ghost use Rattle.sweep.specs.Runs.{IsAskedFor};
-ghost use Rattle.sweep.specs.Sums.{AreLinesOf, BeginsWithLine, BeginsWithLines, HasLineOf, IsOlder, IsPlaced};
+ghost use Rattle.sweep.specs.Sums.{AreLinesOf, BeginsWithLine, BeginsWithLines, HasLineOf, IsOlder, IsPlaced, IsToldOf};
+ghost use Rattle.figures.specs.Notes.{IsNoteWord, Note};
 
-use crate::begun::is_beginning;
-use crate::summing::lead_of;
+use crate::begun::rest_behind;
+use crate::planned::planned;
+use crate::summing::{LineKey, known_seed, value_cells};
 use base::Memory;
-use figures::{MetadataFault, RunMetadata};
+use figures::{MetadataFault, RunMetadata, are_cells_of};
 use line_sums::{cut_at, first_line, unsummed};
 use std::alloc::Global;
 use std::str::from_utf8;
@@ -22,12 +24,13 @@ pub struct Standing<'a> {
     pub left: &'a [u8],
 }
 
-/// The lines of runs with which a text begins, from the run of this number on, so many at most: each has its checksum with
-/// this key, and the values and the seed that the plan asks for at its place.
+/// The lines of runs with which a text begins, from the run of this number on, so many at most: each is genuine at its
+/// place. It has its checksum with this key; it is what is written of the run that the plan asks for there, with some
+/// figures and some metadata, which agree.
 pub fn lines_of_runs<'a>(
     alloc: Global,
     plan: &Plan,
-    key: &[u8],
+    key: &LineKey,
     first: usize,
     most: usize,
     text: &'a [u8],
@@ -52,7 +55,7 @@ pub fn lines_of_runs<'a>(
 pub fn are_lines_of(
     alloc: Global,
     plan: &Plan,
-    key: &[u8],
+    key: &LineKey,
     first: usize,
     count: usize,
     text: &[u8],
@@ -70,7 +73,7 @@ pub fn are_lines_of(
 fn behind_line<'a>(
     alloc: Global,
     plan: &Plan,
-    key: &[u8],
+    key: &LineKey,
     number: usize,
     text: &'a [u8],
 ) -> Result<Option<&'a [u8]>, Memory>
@@ -82,27 +85,73 @@ fn behind_line<'a>(
     let Some((line, left)) = first_line(text) else {
         return Ok(None);
     };
-    let Some(rest) = unsummed(alloc, key, line)? else {
+    let Some(rest) = unsummed(alloc, &key.digest, line)? else {
         return Ok(None);
     };
-    if !is_placed(alloc, plan, number, rest)? {
+    if !is_placed(alloc, plan, key, number, rest)? {
         return Ok(None);
     }
     Ok(Some(left))
 }
 
-/// Whether behind the first cell of a line stand the values and the seed of the run of this number.
-fn is_placed(alloc: Global, plan: &Plan, number: usize, line: &[u8]) -> Result<bool, Memory>
+/// Whether a line without its checksum is that of the run of this number.
+fn is_placed(
+    alloc: Global,
+    plan: &Plan,
+    key: &LineKey,
+    number: usize,
+    line: &[u8],
+) -> Result<bool, Memory>
     requires asked { IsAskedFor plan.now }
     requires within { number < run_count plan.now }
-    ensures placed { IfOk result (λ it. it ≡ true → IsPlaced plan.now number line.now) }
-    ensures none { IfOk result (λ it. it ≡ false → ¬ (IsPlaced plan.now number line.now)) }
+    ensures placed { IfOk result (λ it. it ≡ true → IsPlaced key.now plan.now number line.now) }
+    ensures none { IfOk result (λ it. it ≡ false → ¬ (IsPlaced key.now plan.now number line.now)) }
 {
-    let Some((_note, behind)) = cut_at(b',', line) else {
+    let Some((word, behind)) = cut_at(b',', line) else {
         return Ok(false);
     };
-    let lead = lead_of(alloc, plan, number)?;
-    Ok(is_beginning(lead.as_bytes(), behind))
+    match metadata_of(alloc, word)? {
+        Some(metadata) => is_told_of(alloc, plan, key, number, &metadata, behind),
+        None => Ok(false),
+    }
+}
+
+/// The metadata that a word says.
+fn metadata_of(alloc: Global, word: &[u8]) -> Result<Option<RunMetadata>, Memory>
+    ensures some { IfOk result (λ found. IfSome found (IsNoteWord word.now)) }
+    ensures none { IfOk result (λ found. IsNone found → (note : Note) → ¬ (IsNoteWord word.now note)) }
+{
+    let Ok(word) = from_utf8(word) else {
+        return Ok(None);
+    };
+    match RunMetadata::read(alloc, word) {
+        Ok(metadata) => Ok(Some(metadata)),
+        Err(MetadataFault::Word) => Ok(None),
+        Err(MetadataFault::Memory) => Err(Memory),
+    }
+}
+
+/// Whether a text is what the line of the run of this number has behind this metadata.
+fn is_told_of(
+    alloc: Global,
+    plan: &Plan,
+    key: &LineKey,
+    number: usize,
+    metadata: &RunMetadata,
+    behind: &[u8],
+) -> Result<bool, Memory>
+    requires asked { IsAskedFor plan.now }
+    requires within { number < run_count plan.now }
+    ensures told { IfOk result (λ it. it ≡ true → IsToldOf key.now plan.now number metadata.now behind.now) }
+    ensures none { IfOk result (λ it. it ≡ false → ¬ (IsToldOf key.now plan.now number metadata.now behind.now)) }
+{
+    let run = planned(alloc, plan, number)?;
+    let values = value_cells(alloc, &run.setting)?;
+    let Some(cells) = rest_behind(behind, values.as_bytes()) else {
+        return Ok(false);
+    };
+    let seed = known_seed(run.seed, key.own);
+    are_cells_of(alloc, metadata, seed, key.revived, cells)
 }
 
 /// Whether a text begins with a note where a line has its checksum, as the lines of versions before 1.11.0 did.
@@ -113,12 +162,6 @@ pub fn is_older(alloc: Global, text: &[u8]) -> Result<bool, Memory>
     let Some((word, _behind)) = cut_at(b',', text) else {
         return Ok(false);
     };
-    let Ok(word) = from_utf8(word) else {
-        return Ok(false);
-    };
-    match RunMetadata::read(alloc, word) {
-        Ok(_note) => Ok(true),
-        Err(MetadataFault::Word) => Ok(false),
-        Err(MetadataFault::Memory) => Err(Memory),
-    }
+    let found = metadata_of(alloc, word)?;
+    Ok(found.is_some())
 }

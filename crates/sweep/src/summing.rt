@@ -1,15 +1,16 @@
 //! By what the line of a run is known.
-ghost use Rattle.std.specs.Prelude.{◌≡◌, ◌<◌, ◌++◌, IfOk, OnOk, string_bytes};
-ghost use Rattle.sweep_plan.specs.Sweep.{run_count};
-ghost use Rattle.sweep.specs.Runs.{IsAskedFor, IsRunAt, Planned};
-ghost use Rattle.sweep.specs.Sums.{lead_of, seed_cell, sweep_key, value_cells};
+ghost use Rattle.std.specs.Prelude.{◌≡◌, IfOk, string_bytes};
+ghost use Rattle.toml.specs.View.{view};
+ghost use Rattle.sweep.specs.Sums.{key_of_text, known_seed, line_key, sweep_key, text_seed, value_cells};
 
-use crate::planned::planned;
+use crate::revived::counts_revived;
 use base::Memory;
 use line_sums::key_of;
+use schema::{FormatKey, Section, number};
 use shards::plan_text;
 use std::alloc::Global;
 use sweep_plan::{Choice, Plan};
+use toml::Value;
 
 /// What the checksums of a sweep's lines have in common: `mark` tells which scenario's text is meant.
 pub fn sweep_key(alloc: Global, plan: &Plan, mark: &str) -> Result<[u8; 32], Memory>
@@ -19,20 +20,68 @@ pub fn sweep_key(alloc: Global, plan: &Plan, mark: &str) -> Result<[u8; 32], Mem
     Ok(key_of(mark, words.as_str()))
 }
 
-/// The cells that the plan of a run tells, each with a comma behind it: the values of its setting, and its seed.
-pub(crate) fn lead_of(alloc: Global, plan: &Plan, number: usize) -> Result<String, Memory>
-    requires asked { IsAskedFor plan.now }
-    requires within { number < run_count plan.now }
-    ensures { IfOk result (λ lead. (p : Planned) × IsRunAt plan.now number p × (string_bytes lead ≡ lead_of p)) }
+/// What makes the lines of a table genuine.
+#[derive(Clone, Copy)]
+pub struct LineKey {
+    /// The key of their checksums.
+    pub digest: [u8; 32],
+    /// Whether they tell of members taken for alive again.
+    pub revived: bool,
+    /// The seed of the scenario's text, where it is known.
+    pub own: Option<u64>,
+}
+
+/// What makes the lines of a sweep genuine: `mark` tells which scenario's text is meant, of which the seed may be known.
+pub fn line_key(
+    alloc: Global,
+    plan: &Plan,
+    mark: &str,
+    revived: bool,
+    own: Option<u64>,
+) -> Result<LineKey, Memory>
+    ensures { IfOk result (λ key. key ≡ line_key revived own mark.now plan.now) }
 {
-    let run = planned(alloc, plan, number)?;
-    let mut lead = value_cells(alloc, &run.setting)?;
-    push_seed(alloc, &mut lead, run.seed)?;
-    Ok(lead)
+    let digest = sweep_key(alloc, plan, mark)?;
+    Ok(LineKey {
+        digest,
+        revived,
+        own,
+    })
+}
+
+/// The same of a sweep of a document, whose seed is known.
+pub fn key_of_text(
+    alloc: Global,
+    plan: &Plan,
+    mark: &str,
+    document: &Value,
+) -> Result<LineKey, Memory>
+    ensures { IfOk result (λ key. key ≡ key_of_text (view document.now) mark.now plan.now) }
+{
+    let revived = counts_revived(document);
+    let own = text_seed(document);
+    line_key(alloc, plan, mark, revived, Some(own))
+}
+
+/// The seed that a text itself gives its runs.
+fn text_seed(document: &Value) -> u64
+    ensures { result ≡ text_seed (view document.now) }
+{
+    number(Section::Top, FormatKey::Seed, Some(document))
+}
+
+/// The seed of a run, where it is known: the one that is asked for, else the text's.
+pub(crate) fn known_seed(asked: Option<u64>, own: Option<u64>) -> Option<u64>
+    ensures { result ≡ known_seed asked own }
+{
+    match asked {
+        Some(_seed) => asked,
+        None => own,
+    }
 }
 
 /// The values of a setting, each with a comma behind it.
-fn value_cells(alloc: Global, setting: &[Choice]) -> Result<String, Memory>
+pub(crate) fn value_cells(alloc: Global, setting: &[Choice]) -> Result<String, Memory>
     ensures { IfOk result (λ cells. string_bytes cells ≡ value_cells setting.now) }
 {
     let mut cells = String::new(alloc);
@@ -42,18 +91,4 @@ fn value_cells(alloc: Global, setting: &[Choice]) -> Result<String, Memory>
         cells.push_str(",")?;
     }
     Ok(cells)
-}
-
-/// Adds the cell of a seed, and a comma, where there is one.
-fn push_seed(alloc: Global, cells: &mut String, seed: Option<u64>) -> Result<(), Memory>
-    ensures { OnOk result (string_bytes cells.new ≡ string_bytes cells.old ++ seed_cell seed) }
-{
-    match seed {
-        Some(seed) => {
-            let word = format!(in alloc; "{seed},")?;
-            cells.push_str(word.as_str())?;
-            Ok(())
-        }
-        None => Ok(()),
-    }
 }

@@ -13,7 +13,7 @@ use Rattle.shards.specs.Shards.{first_run, whole}
 use Rattle.sweep.specs.Shards.{shard_header}
 use Rattle.sweep.specs.Table.{counts_revived}
 use Rattle.sweep.specs.Resumed.{IsLong, IsShort, runs_in}
-use Rattle.sweep.specs.Sums.{sweep_key}
+use Rattle.sweep.specs.Sums.{key_of_text}
 use Rattle.sweep_until.specs.Shards.{settings_in, first_setting}
 use Rattle.resume.specs.Begun.{AreSettingsBehind}
 use Rattle.resume.proofs.Standing.{can_go_on}
@@ -48,29 +48,29 @@ module _ {T E : Type 0} (bytes : T → List ℕ) (tree : Data) (mark : List ℕ)
   whole_begun is begun = subst (λ (o : Option Shard). OnErr told (BeginsAsked o tree mark sweep kept stands old new)) (sym is) begun
 
 -- what stands of a shard is no more than it has
-begun_few : (until : Option ℕ) (revived : Bool) (mark : List ℕ) (plan : Sweep) (p : Shard) (text : List ℕ) (kept : ℕ) (stands : Standing) → IsAskedFor plan → plan.until ≡ until
-    → AreBegun until revived mark plan p text kept stands → FitShard until plan p (shard_header revived mark plan p) kept stands
-begun_few None revived mark plan p text kept stands asked is begun = begun.few
-begun_few (Some width) revived mark plan p text kept stands asked is begun = can_go_on revived mark plan width p text kept stands.count stands.before asked is begun
+begun_few : (until : Option ℕ) (tree : Data) (mark : List ℕ) (plan : Sweep) (p : Shard) (text : List ℕ) (kept : ℕ) (stands : Standing) → IsAskedFor plan → plan.until ≡ until
+    → AreBegun until tree mark plan p text kept stands → FitShard until plan p (shard_header (counts_revived tree) mark plan p) kept stands
+begun_few None tree mark plan p text kept stands asked is begun = begun.few
+begun_few (Some width) tree mark plan p text kept stands asked is begun = can_go_on tree mark plan width p text kept stands.count stands.before asked is begun
 
 -- no more bytes stay than there are
-begun_within : (until : Option ℕ) (revived : Bool) (mark : List ℕ) (plan : Sweep) (p : Shard) (text : List ℕ) (kept : ℕ) (stands : Standing) → AreBegun until revived mark plan p text kept stands
+begun_within : (until : Option ℕ) (tree : Data) (mark : List ℕ) (plan : Sweep) (p : Shard) (text : List ℕ) (kept : ℕ) (stands : Standing) → AreBegun until tree mark plan p text kept stands
     → kept ≤ length text
-begun_within None revived mark plan p text kept stands begun = by begun.stands
+begun_within None tree mark plan p text kept stands begun = by begun.stands
   where
     header : List ℕ
-    header = shard_header revived mark plan p
+    header = shard_header (counts_revived tree) mark plan p
 
-    by : IsShort header text kept stands.count ⊎ IsLong (sweep_key mark plan) plan (first_run p (run_count plan)) (runs_in plan p) header text kept stands.count → kept ≤ length text
+    by : IsShort header text kept stands.count ⊎ IsLong (key_of_text tree mark plan) plan (first_run p (run_count plan)) (runs_in plan p) header text kept stands.count → kept ≤ length text
     by (inl short) = omega (arith, short.all)
     by (inr long) = omega (arith, long.stay)
-begun_within (Some width) revived mark plan p text kept stands begun = by begun.stands
+begun_within (Some width) tree mark plan p text kept stands begun = by begun.stands
   where
     header : List ℕ
-    header = shard_header revived mark plan p
+    header = shard_header (counts_revived tree) mark plan p
 
     by : (IsShort header text kept stands.count × (stands.before ≡ []))
-        ⊎ AreSettingsBehind (sweep_key mark plan) plan width (first_setting plan p) (settings_in plan p) header text kept stands.count stands.before → kept ≤ length text
+        ⊎ AreSettingsBehind (key_of_text tree mark plan) plan width (first_setting plan p) (settings_in plan p) header text kept stands.count stands.before → kept ≤ length text
     by (inl short) = omega (arith, short.0.all)
     by (inr behind) = omega (arith, behind.stay)
 
@@ -78,7 +78,7 @@ pub stood_few : (tree : Data) (mark : List ℕ) (sweep : SweepWords) (known : Kn
     → FitResumed tree mark sweep sweep.shard kept stands
 stood_few tree mark sweep known kept stands asked goes p is =
     let there : Stood tree mark sweep p known kept stands = subst (λ (o : Option Shard). GoesOnWith o tree mark sweep known kept stands) is goes in
-    begun_few sweep.plan.until (counts_revived tree) mark sweep.plan p there.text kept stands asked refl there.begun
+    begun_few sweep.plan.until tree mark sweep.plan p there.text kept stands asked refl there.begun
 
 -- the file holds what was read of it
 held_bytes : (held : Option (List ℕ)) (text : List ℕ) → HeldSoFar (Some held) text → bytes_held held ≡ text
@@ -91,7 +91,7 @@ pub holds_kept : (shard : Option Shard) (tree : Data) (mark : List ℕ) (sweep :
 holds_kept shard tree mark sweep None kept stands goes = tt
 holds_kept None tree mark sweep (Some held) kept stands goes = omega (arith, goes)
 holds_kept (Some p) tree mark sweep (Some held) kept stands goes =
-    omega (arith, ap length (held_bytes held goes.text goes.held), begun_within sweep.plan.until (counts_revived tree) mark sweep.plan p goes.text kept stands goes.begun)
+    omega (arith, ap length (held_bytes held goes.text goes.held), begun_within sweep.plan.until tree mark sweep.plan p goes.text kept stands goes.begun)
 
 -- where a file was opened behind these bytes, it and its writer hold them
 pub holds_front : (before made : KnownFile) (old : Option (List ℕ)) (kept : ℕ) (text : List ℕ) → HeldSoFar before text → files.HoldsBeginning before made kept

@@ -12,7 +12,7 @@ use Rattle.sweep.specs.Summaries.{MakesAll}
 use Rattle.sweep_until.specs.Until.{AreMadeFrom, AreMadeUntil, BeginsUntil, IsMadeUntil, MakesUntil, SumsUp}
 use Rattle.std.proofs.lemmas.Option.{same_Some}
 use Rattle.shards.specs.declared.shard.Shard.{Shard}
-use Rattle.shards.specs.Shards.{first_run, past_run, whole}
+use Rattle.shards.specs.Shards.{past_run, whole}
 use Rattle.shards.proofs.Whole.{first_of_whole, past_of_whole}
 use Rattle.sweep.specs.Shards.{AreMadeIn, BeginsShard, BeginsTable, WritesShard}
 use Rattle.sweep.proofs.Flat.{runs_counted}

@@ -1,5 +1,5 @@
 -- What a sweep has done once it ends, and why one was not done.
-use Rattle.std.specs.Prelude.{◌≡◌, ◌⊎◌, ◌++◌, ◌≤◌, ℕ, Bool, List, [], false, true, Option, Some, None, length, map, string_bytes, take}
+use Rattle.std.specs.Prelude.{◌≡◌, ◌⊎◌, ◌++◌, ◌≤◌, ℕ, Bool, List, [], false, true, Option, Some, None, length, string_bytes, take}
 use Rattle.std.specs.Option.{ForSome}
 use Rattle.std.specs.Borrow.{Bor}
 use Rattle.std.specs.Io.KnownBytes.{Appends, Keeps}
@@ -127,7 +127,7 @@ HeldSoFar known text = Holds known text ⊎ (IsAbsent known × (text ≡ []))
 pub record Stood (tree : Data) (mark : List ℕ) (sweep : SweepWords) (p : Shard) (known : KnownFile) (kept : ℕ) (stands : Standing) : Type 0 where
   pub text : List ℕ
   pub held : HeldSoFar known text
-  pub begun : AreBegun sweep.plan.until (counts_revived tree) mark sweep.plan p text kept stands
+  pub begun : AreBegun sweep.plan.until tree mark sweep.plan p text kept stands
 
 -- The runs of a shard that were left were made: the file holds what stays of the table that stood there, and behind it the rest of the
 -- table, with the lines of these runs; and no other file has changed.
@@ -236,8 +236,8 @@ FailsSweepCheck before sweep failure =
 
 -- a text is no beginning of the shard's table, or its lines have no checksums, and it is told by the name of its file
 abbrev pub IsOther : Data → List ℕ → SweepWords → Shard → List ℕ → ShardFault → Type 0
-IsOther tree mark sweep p text (shard.Other name) = (name.now ≡ sweep.table.now) × RefusesTable sweep.plan.until (counts_revived tree) mark sweep.plan p text begun_fault.Other
-IsOther tree mark sweep p text (shard.Older name) = (name.now ≡ sweep.table.now) × RefusesTable sweep.plan.until (counts_revived tree) mark sweep.plan p text begun_fault.Older
+IsOther tree mark sweep p text (shard.Other name) = (name.now ≡ sweep.table.now) × RefusesTable sweep.plan.until tree mark sweep.plan p text begun_fault.Other
+IsOther tree mark sweep p text (shard.Older name) = (name.now ≡ sweep.table.now) × RefusesTable sweep.plan.until tree mark sweep.plan p text begun_fault.Older
 IsOther tree mark sweep p text _ = ⊥
 
 -- that is so, or memory was refused

@@ -1,6 +1,6 @@
 -- The runs that a sweep makes, and the summaries of its settings: each setting with each seed; or, where the words say how wide its interval may be, with
 -- as few as make it no wider. A whole sweep is its only shard.
-use Rattle.std.specs.Prelude.{◌≡◌, ◌≤◌, ◌+◌, ℕ, Bool, Option, Some, None, List, length, map}
+use Rattle.std.specs.Prelude.{◌≡◌, ◌≤◌, ◌+◌, ℕ, Option, Some, None, List, length, map}
 use Rattle.std.specs.List.{AllZip}
 use Rattle.std.specs.Io.KnownBytes.{Appends}
 use Rattle.toml.specs.Data.{Data}
@@ -79,14 +79,14 @@ abbrev pub standing : ℕ → List Note → Standing
 standing count before = record { count = count; before = before }
 
 -- so much of the table of a shard stands in the text: so many bytes stay, with the lines of these runs
-abbrev pub AreBegun : Option ℕ → Bool → List ℕ → Sweep → Shard → List ℕ → ℕ → Standing → Type 0
-AreBegun None revived mark plan p text kept stands = IsBegun revived mark plan p text kept stands.count
-AreBegun (Some width) revived mark plan p text kept stands = IsBegunSettings revived mark plan width p text kept stands.count stands.before
+abbrev pub AreBegun : Option ℕ → Data → List ℕ → Sweep → Shard → List ℕ → ℕ → Standing → Type 0
+AreBegun None tree mark plan p text kept stands = IsBegun tree mark plan p text kept stands.count
+AreBegun (Some width) tree mark plan p text kept stands = IsBegunSettings tree mark plan width p text kept stands.count stands.before
 
 -- why the text isn't so, unless memory was refused
-abbrev pub RefusesTable : Option ℕ → Bool → List ℕ → Sweep → Shard → List ℕ → BegunFault → Type 0
-RefusesTable None revived mark plan p text fault = RefusesBegun revived mark plan p text fault
-RefusesTable (Some width) revived mark plan p text fault = RefusesBegunSettings revived mark plan p text fault
+abbrev pub RefusesTable : Option ℕ → Data → List ℕ → Sweep → Shard → List ℕ → BegunFault → Type 0
+RefusesTable None tree mark plan p text fault = RefusesBegun tree mark plan p text fault
+RefusesTable (Some width) tree mark plan p text fault = RefusesBegunSettings tree mark plan p text fault
 
 -- they are no more than the shard has, behind its first line, so that it can go on
 abbrev pub FitShard : Option ℕ → Sweep → Shard → List ℕ → ℕ → Standing → Type 0

@@ -6,7 +6,6 @@ ghost use Rattle.shards.specs.Shards.{IsShard};
 ghost use Rattle.scenario_files.specs.Shelves.{IsUnread};
 ghost use Rattle.sweep.specs.Runs.{IsAskedFor};
 ghost use Rattle.sweep.specs.Resumed.{IsBegun, RefusesBegun};
-ghost use Rattle.sweep.specs.Table.{counts_revived};
 ghost use Rattle.resume.specs.Begun.{IsBegunSettings, RefusesBegunSettings};
 ghost use Rattle.sweep_command.specs.Outcomes.{CannotGoOn, GoesOn, HeldSoFar, RefusesSoFar, shard_resumed};
 ghost use Rattle.sweep_command.specs.Runs.{AreBegun, RefusesTable, standing};
@@ -100,7 +99,7 @@ fn stays_in<'a>(
 ) -> Result<Stays, Failure<'a>>
     requires asked { IsAskedFor words.now.plan }
     requires shard { IsShard shard }
-    ensures begun { IfOk result (λ s. AreBegun words.now.plan.until (counts_revived (view marked.now.document)) (string_bytes marked.now.mark) words.now.plan shard text.now
+    ensures begun { IfOk result (λ s. AreBegun words.now.plan.until (view marked.now.document) (string_bytes marked.now.mark) words.now.plan shard text.now
         s.kept (standing s.count s.started.items)) }
     ensures refused { IfErr result (RefusesSoFar (view marked.now.document) (string_bytes marked.now.mark) words.now shard text.now) }
 {
@@ -122,8 +121,8 @@ fn begun_in(
 ) -> Result<Stays, BegunFault>
     requires asked { IsAskedFor plan.now }
     requires shard { IsShard shard }
-    ensures begun { IfOk result (λ s. AreBegun plan.now.until (counts_revived (view marked.now.document)) (string_bytes marked.now.mark) plan.now shard text.now s.kept (standing s.count s.started.items)) }
-    ensures refused { IfErr result (RefusesTable plan.now.until (counts_revived (view marked.now.document)) (string_bytes marked.now.mark) plan.now shard text.now) }
+    ensures begun { IfOk result (λ s. AreBegun plan.now.until (view marked.now.document) (string_bytes marked.now.mark) plan.now shard text.now s.kept (standing s.count s.started.items)) }
+    ensures refused { IfErr result (RefusesTable plan.now.until (view marked.now.document) (string_bytes marked.now.mark) plan.now shard text.now) }
 {
     match plan.until() {
         Some(width) => settings_begun(alloc, plan, shard, marked, width, text),
@@ -141,8 +140,8 @@ fn runs_begun(
 ) -> Result<Stays, BegunFault>
     requires asked { IsAskedFor plan.now }
     requires shard { IsShard shard }
-    ensures begun { IfOk result (λ s. IsBegun (counts_revived (view marked.now.document)) (string_bytes marked.now.mark) plan.now shard text.now s.kept s.count) }
-    ensures refused { IfErr result (RefusesBegun (counts_revived (view marked.now.document)) (string_bytes marked.now.mark) plan.now shard text.now) }
+    ensures begun { IfOk result (λ s. IsBegun (view marked.now.document) (string_bytes marked.now.mark) plan.now shard text.now s.kept s.count) }
+    ensures refused { IfErr result (RefusesBegun (view marked.now.document) (string_bytes marked.now.mark) plan.now shard text.now) }
 {
     let mark = marked.mark.as_str();
     match begun_of(alloc, plan, shard, mark, &marked.document, text) {
@@ -168,8 +167,8 @@ fn settings_begun(
     requires shard { IsShard shard }
     requires wanted { plan.now.until ≡ Some width }
     ensures begun { IfOk result
-        (λ s. IsBegunSettings (counts_revived (view marked.now.document)) (string_bytes marked.now.mark) plan.now width shard text.now s.kept s.count s.started.items) }
-    ensures refused { IfErr result (RefusesBegunSettings (counts_revived (view marked.now.document)) (string_bytes marked.now.mark) plan.now shard text.now) }
+        (λ s. IsBegunSettings (view marked.now.document) (string_bytes marked.now.mark) plan.now width shard text.now s.kept s.count s.started.items) }
+    ensures refused { IfErr result (RefusesBegunSettings (view marked.now.document) (string_bytes marked.now.mark) plan.now shard text.now) }
 {
     let mark = marked.mark.as_str();
     match begun_settings_of(alloc, plan, shard, mark, width, &marked.document, text) {

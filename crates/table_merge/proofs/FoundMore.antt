@@ -1,6 +1,6 @@
 -- Which text is a table with which seeds, one text more at a time, and why texts aren't put together.
-use Rattle.std.proofs.Common.{◌≡◌, ◌≢◌, ◌∙◌, ◌<◌, ◌≤◌, ◌+◌, ◌^◌, ◌⊎◌, ℕ, Bool, true, false, List, [], ◌∷◌, ◌++◌, length, get_or, map, take, drop, inl, inr, refl, sym, ap, subst, arith}
-use Rattle.std.specs.Prelude.{All, Vec, nat_eq, IfOk, Result, Ok, Err, Some}
+use Rattle.std.proofs.Common.{◌≡◌, ◌≢◌, ◌∙◌, ◌<◌, ◌≤◌, ◌+◌, ◌^◌, ◌⊎◌, ℕ, Bool, true, false, List, [], ◌∷◌, ◌++◌, length, map, take, drop, inl, inr, refl, sym, ap, subst, arith}
+use Rattle.std.specs.Prelude.{All, Vec, nat_eq, IfOk, Result, Ok, Err}
 use Rattle.std.specs.List.{Contains, insert}
 use Rattle.std.specs.declared.alloc.Global.{Global}
 use Rattle.std.proofs.lemmas.Bool.Decides.{nat_tests}
@@ -22,7 +22,7 @@ use Rattle.shard_merge.specs.Reasons.{IsReason as IsShardsReason}
 use Rattle.shard_merge.specs.declared.fault.JoinFault.{JoinFault}
 use Rattle.shard_merge.specs.declared.fault.JoinFault.TheVariants as shards
 use Rattle.table_merge.specs.Seeds.{AreInTurn, with_seeds}
-use Rattle.table_merge.specs.Found.{AreApart, AreFound, AreSeveral, BeginsAsTable, HaveRange, HaveSeeds, IsFound, IsTableAt, ShareSeed}
+use Rattle.table_merge.specs.Found.{AreApart, AreFound, AreSeveral, BeginsAsTable, HaveRange, HaveSeeds, IsFound, IsTableAt}
 use Rattle.table_merge.specs.Reasons.{IsOfShards, IsOtherTable, IsReason, IsTooMany, RefusesIn, RefusesOrder, RefusesTable}
 use Rattle.table_merge.specs.declared.fault.MergeFault.{MergeFault}
 use Rattle.table_merge.specs.declared.fault.MergeFault.TheVariants as fault

@@ -1,16 +1,15 @@
 -- Tables of a sweep that was made, put together, are the whole.
-use Rattle.std.proofs.Common.{◌≡◌, ◌∙◌, ◌<◌, ◌≤◌, ◌+◌, ◌-◌, ◌*◌, ◌⊎◌, ℕ, zero, suc, Bool, true, false, List, [], ◌∷◌, ◌++◌, length, map, inl, inr, refl, sym, ap, subst, arith, append_assoc}
+use Rattle.std.proofs.Common.{◌≡◌, ◌∙◌, ◌<◌, ◌≤◌, ◌+◌, ◌*◌, ℕ, Bool, true, false, List, [], ◌∷◌, ◌++◌, length, map, inl, inr, refl, sym, ap, subst, arith}
 use Rattle.std.specs.Prelude.{All, Option, Some, None, Vec, slice_get, nat_le}
 use Rattle.std.specs.List.{flat_map}
 use Rattle.std.specs.declared.alloc.Global.{Global}
 use Rattle.std.specs.Io.KnownBytes.{Appends}
 use Rattle.std.proofs.lemmas.Bool.Decides.{nat_tests}
 use Rattle.std.proofs.lemmas.List.{append_cancel_left, length-map}
-use Rattle.std.proofs.lemmas.List.Elements.{All-head, All-nil, All-cons, All-tail, All-weaker}
-use Rattle.std.proofs.lemmas.Option.{none-some, same_Some, slice_get_within}
+use Rattle.std.proofs.lemmas.List.Elements.{All-head, All-tail}
+use Rattle.std.proofs.lemmas.Option.{same_Some, slice_get_within}
 use Rattle.toml.specs.Data.{Data}
-use Rattle.figures.specs.Lines.{cells_joined}
-use Rattle.figures.specs.Notes.{Note, note_cell, note_text}
+use Rattle.figures.specs.Notes.{note_cell}
 use Rattle.figures.specs.declared.summary.SettingSummary.{SettingSummary}
 use Rattle.line_sums.specs.Sums.{checksum}
 use Rattle.sweep_plan.specs.Sweep.{Sweep, run_count, seed_count, setting_count}
@@ -34,11 +33,10 @@ use Rattle.shard_merge.specs.Behind.{share_of}
 use Rattle.shard_merge.specs.Joined.{IsMark}
 use Rattle.shard_merge.specs.Joined.{Joins as JoinsShards}
 use Rattle.shard_merge.specs.Genuine.{AreAll, AreShards, AreShardsOfSettings, IsAgain, IsWhole, IsWholeUntil}
-use Rattle.shard_merge.specs.Reasons.{BeginsAs}
 use Rattle.shard_merge.proofs.GenuineHeads.{body_there, one_column, one_shard, one_sweep, whole_put}
 use Rattle.shard_merge.proofs.GenuineWhole.{whole_of, whole_of_settings}
 use Rattle.shard_merge.proofs.Shares.{share_of_whole}
-use Rattle.table_merge.specs.Seeds.{AreInTurn, Ranged, in_turn, part, seeds_of_tables, with_seeds}
+use Rattle.table_merge.specs.Seeds.{AreInTurn, Ranged, in_turn, seeds_of_tables, with_seeds}
 use Rattle.table_merge.specs.Found.{HaveSeeds}
 use Rattle.table_merge.specs.Lines.{behind_sum, resummed}
 use Rattle.table_merge.specs.Merged.{IsRangeTable, Joins, JoinsSeeds, merged_lines}

@@ -1,5 +1,5 @@
 -- What the first line of a text tells is one.
-use Rattle.std.proofs.Common.{◌≡◌, ◌∙◌, ◌<◌, ◌≤◌, ◌^◌, ℕ, Bool, List, ◌++◌, length, refl, sym, ap, subst, arith, append_assoc}
+use Rattle.std.proofs.Common.{◌≡◌, ◌∙◌, ◌<◌, ◌≤◌, ◌^◌, ℕ, Bool, List, ◌++◌, refl, sym, ap, subst, arith, append_assoc}
 use Rattle.std.specs.Prelude.{Option, Some, None, Vec}
 use Rattle.std.specs.declared.alloc.Global.{Global}
 use Rattle.std.proofs.lemmas.Option.{none-some, same_Some}
@@ -10,15 +10,14 @@ use Rattle.sweep_plan.specs.declared.seeds.Seeds.{Seeds}
 use Rattle.shards.specs.declared.shard.Shard.{Shard}
 use Rattle.shards.specs.Shards.{IsShard, whole}
 use Rattle.shards.specs.Names.{head_cell}
-use Rattle.shards.proofs.Whole.{whole_is_shard}
 use Rattle.sweep.specs.Runs.{IsAskedFor}
 use Rattle.sweep.specs.Table.{names_of}
-use Rattle.shard_merge.specs.Reasons.{BeginsAs, IsTextAt}
+use Rattle.shard_merge.specs.Reasons.{BeginsAs}
 use Rattle.shard_merge.proofs.Columns.{behind_header, same_revived}
 use Rattle.shard_merge.proofs.PlacesMore.{one_text}
-use Rattle.shard_merge.proofs.SameSweep.{AreSameHeads, same_heads}
+use Rattle.shard_merge.proofs.SameSweep.{same_heads}
 use Rattle.table_merge.specs.Seeds.{with_seeds}
-use Rattle.table_merge.specs.Found.{AreSeveral, BeginsAsTable, HaveSeeds, IsTableAt}
+use Rattle.table_merge.specs.Found.{BeginsAsTable, IsTableAt}
 
 -- two first lines of one text are one, and so is what comes behind them
 pub record AreOne (mark other : List ℕ) (revived told : Bool) (s t : Sweep) (p q : Shard) (x y : List ℕ) : Type 0 where

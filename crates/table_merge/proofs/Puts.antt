@@ -1,21 +1,20 @@
 -- Lines that are put with other checksums, one after the other.
-use Rattle.std.proofs.Common.{◌≡◌, ◌==◌, ◌∙◌, ◌<◌, ◌≤◌, ◌+◌, ◌-◌, ℕ, Bool, false, List, [], ◌∷◌, ◌++◌, length, length-append, get_or, map, take, take_at, refl, sym, ap, subst, arith, append_assoc, append-nil}
-use Rattle.std.specs.Prelude.{All, Option, Some, None}
+use Rattle.std.proofs.Common.{◌≡◌, ◌==◌, ◌∙◌, ◌<◌, ◌≤◌, ◌+◌, ◌-◌, ℕ, false, List, [], ◌∷◌, ◌++◌, length, length-append, get_or, map, take, take_at, refl, sym, ap, subst, arith, append_assoc, append-nil}
+use Rattle.std.specs.Prelude.{All, Option}
 use Rattle.std.specs.List.{AllZip, flat_map, range_with_len}
-use Rattle.std.specs.Io.KnownBytes.{Appends, Keeps}
+use Rattle.std.specs.Io.KnownBytes.{Appends}
 use Rattle.std.proofs.lemmas.List.{map-append, take_more}
 use Rattle.std.proofs.lemmas.List.Concat.{flat_map-append}
 use Rattle.std.proofs.lemmas.List.Elements.{All-append, All-cons, All-head, All-nil, All-tail}
 use Rattle.trace.proofs.Beginnings.{Appends-none, Appends-then, Keeps-same}
-use Rattle.figures.specs.Notes.{Note, note_text}
-use Rattle.line_sums.specs.Sums.{IsCut, checksum, summed}
+use Rattle.line_sums.specs.Sums.{IsCut, summed}
 use Rattle.line_sums.proofs.Cuts.{not_cut}
 use Rattle.figures.specs.declared.summary.SettingSummary.{SettingSummary}
 use Rattle.sweep.specs.Summaries.{IsGathered, summaries_in}
 use Rattle.sweep.specs.declared.gathering.Gathering.{Gathering}
 use Rattle.sweep_plan.proofs.Words.{cut_once}
 use Rattle.table_rows.specs.Items.{BeginsWith}
-use Rattle.table_rows.specs.Lines.{IsLine, Line, ReadsLine, notes_of, shard_line}
+use Rattle.table_rows.specs.Lines.{IsLine, Line, notes_of, shard_line}
 use Rattle.table_rows.proofs.OneLine.{same_line}
 use Rattle.table_rows.proofs.Read.{zipped_both}
 use Rattle.shard_merge.specs.Behind.{GathersMore}

@@ -1,8 +1,7 @@
 -- The lines of a table that was found.
-use Rattle.std.proofs.Common.{◌≡◌, ◌≢◌, ◌∙◌, ◌<◌, ◌≤◌, ◌+◌, ◌-◌, ◌*◌, ◌/◌, ◌^◌, ℕ, Bool, List, [], ◌∷◌, ◌++◌, length, get_or, map, take, drop, inr, refl, sym, ap, subst, arith, append_assoc, append-nil}
+use Rattle.std.proofs.Common.{◌≡◌, ◌∙◌, ◌<◌, ◌≤◌, ◌+◌, ◌-◌, ◌*◌, ◌^◌, ℕ, Bool, List, [], ◌∷◌, ◌++◌, length, get_or, map, take, drop, refl, sym, ap, subst, arith}
 use Rattle.std.specs.Prelude.{All, Vec, Some, None}
 use Rattle.std.specs.Borrow.{Bor}
-use Rattle.std.specs.Str.{IsUtf8}
 use Rattle.std.specs.List.{AllZip, flat_map}
 use Rattle.std.specs.declared.alloc.Global.{Global}
 use Rattle.std.proofs.lemmas.List.Elements.{All-cons, All-head, All-nil, All-tail}
@@ -11,21 +10,20 @@ use Rattle.std.proofs.lemmas.Slice.Zip.{all_zipped_more, AllZip-long}
 use Rattle.sweep_plan.specs.Sweep.{Sweep, run_count, seed_count, setting_count}
 use Rattle.sweep_plan.specs.declared.seeds.Seeds.{Seeds}
 use Rattle.shards.specs.declared.shard.Shard.{Shard}
-use Rattle.shards.specs.Shards.{first_run, whole}
+use Rattle.shards.specs.Shards.{whole}
 use Rattle.shards.proofs.Whole.{first_of_whole, past_of_whole}
-use Rattle.sweep.specs.Runs.{IsAskedFor}
 use Rattle.sweep.specs.Shards.{shard_header}
-use Rattle.sweep.specs.Sums.{AreLinesOf, IsOlder, sweep_key}
-use Rattle.table_rows.specs.Items.{BeginsWith, IsAllOf}
+use Rattle.sweep.specs.Sums.{AreLinesOf, line_key}
+use Rattle.sweep.specs.declared.summing.LineKey.{LineKey}
+use Rattle.table_rows.specs.Items.{BeginsWith}
 use Rattle.table_rows.specs.Lines.{AreLines, HasLine, IsLine, Line, shard_line}
 use Rattle.table_rows.proofs.Items.{Reads, none_read, one_more, all_read}
-use Rattle.shard_merge.specs.Among.{IsAmongTexts}
-use Rattle.shard_merge.specs.Behind.{AreBehind, share}
-use Rattle.shard_merge.specs.Reasons.{AreIts, BeginsAs, IsOlderAt, IsTextAt, IsTorn, RefusesLines}
+use Rattle.shard_merge.specs.Behind.{share}
+use Rattle.shard_merge.specs.Reasons.{BeginsAs, IsOlderAt, IsTextAt, IsTorn, RefusesLines}
 use Rattle.shard_merge.specs.declared.fault.JoinFault.{JoinFault}
 use Rattle.shard_merge.specs.declared.fault.JoinFault.TheVariants as shards
 use Rattle.shard_merge.proofs.PlacesMore.{among, one_text}
-use Rattle.table_merge.specs.Seeds.{Ranged, with_seeds}
+use Rattle.table_merge.specs.Seeds.{with_seeds}
 use Rattle.table_merge.specs.Found.{IsTableAt}
 use Rattle.table_merge.specs.Lines.{AreGenuine, AreStarts, BeginsWithIt, IsFull}
 use Rattle.table_merge.specs.Merged.{IsRangeTable}
@@ -73,8 +71,8 @@ module _ (texts : List (Vec ℕ Global)) (mark : List ℕ) (revived : Bool) (swe
   abbrev own : Sweep
   own = with_seeds sweep r
 
-  abbrev key : List ℕ
-  key = sweep_key mark own
+  abbrev key : LineKey
+  key = line_key revived None mark own
 
   abbrev header : List ℕ
   header = shard_header revived mark own whole
@@ -211,12 +209,12 @@ module _ (texts : List (Vec ℕ Global)) (mark : List ℕ) (revived : Bool) (swe
       lines_refused texts mark revived sweep f.place f.seeds table fault
       (subst (λ h. RefusesLines table.text h f.place fault) same_header (subst (λ t. RefusesLines t (shard_header b m s p) f.place fault) same_text refused))
 
-  module _ (rest key : List ℕ) (is : text ≡ shard_header b m s p ++ rest) (same_key : key ≡ sweep_key m s) where
+  module _ (rest : List ℕ) (key : LineKey) (is : text ≡ shard_header b m s p ++ rest) (same_key : key ≡ line_key b None m s) where
     written : table.text ≡ its_header ++ rest
     written = sym same_text ∙ is ∙ ap (λ h. h ++ rest) same_header
 
-    key_is : key ≡ sweep_key mark (with_seeds sweep f.seeds)
-    key_is = same_key ∙ (λ i. sweep_key (marks i) (plan i))
+    key_is : key ≡ line_key revived None mark (with_seeds sweep f.seeds)
+    key_is = same_key ∙ (λ i. line_key (column i) None (marks i) (plan i))
 
     pub head_read : (starts : List (List ℕ)) (t : Table) → AreGenuine key s rest (run_count s) starts → t.seeds ≡ f.seeds → starts ≡ (starts_in t).things → IsRead texts mark revived sweep f t
     head_read starts t genuine same begins =

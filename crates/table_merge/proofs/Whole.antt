@@ -1,7 +1,7 @@
 -- Tables with seeds that follow one another, put together.
-use Rattle.std.proofs.Common.{◌≡◌, ◌∙◌, ◌<◌, ◌≤◌, ◌+◌, ◌-◌, ◌*◌, ℕ, Bool, List, [], ◌∷◌, ◌++◌, length, map, refl, sym, ap, subst, arith}
-use Rattle.std.specs.Prelude.{All, IfOk, Option, Some, None, Result, Ok, Err, Vec}
-use Rattle.std.specs.List.{AllZip, flat_map}
+use Rattle.std.proofs.Common.{◌≡◌, ◌∙◌, ◌≤◌, ◌+◌, ℕ, Bool, List, [], ◌∷◌, ◌++◌, length, map, refl, sym, ap, subst, arith}
+use Rattle.std.specs.Prelude.{All, IfOk, Option, Some, Result, Ok, Err, Vec}
+use Rattle.std.specs.List.{flat_map}
 use Rattle.std.specs.declared.alloc.Global.{Global}
 use Rattle.std.specs.Io.KnownBytes.{Appends, Keeps}
 use Rattle.std.proofs.lemmas.List.{length-map}
@@ -24,10 +24,9 @@ use Rattle.table_merge.specs.Seeds.{AreInTurn, Ranged, in_turn, seeds_of_tables,
 use Rattle.table_merge.specs.Found.{AreFound}
 use Rattle.table_merge.specs.Lines.{BeginsWithIt, resummed}
 use Rattle.table_merge.specs.Merged.{IsRangeTable, JoinsSeeds}
-use Rattle.table_merge.specs.Tables.{AreRead, IsRead, PutsAll, starts_in}
+use Rattle.table_merge.specs.Tables.{AreRead, PutsAll, starts_in}
 use Rattle.table_merge.specs.declared.finding.Found.{Found}
 use Rattle.table_merge.specs.declared.lines.Table.{Table}
-use Rattle.table_merge.proofs.Ones.{asked_range}
 use Rattle.table_merge.proofs.Puts.{same_starts}
 use Rattle.table_merge.proofs.Turns.{AreAlikeAll, IsLong, all_in_turn, turn_long, zipped_turn}
 

@@ -6,6 +6,7 @@ use Rattle.sweep_plan.specs.Sweep.{seed_count, Sweep}
 use Rattle.figures.specs.Notes.{note_text}
 use Rattle.line_sums.specs.Sums.{checksum}
 use Rattle.sweep.specs.Sums.{AreLinesOf}
+use Rattle.sweep.specs.declared.summing.LineKey.{LineKey}
 use Rattle.sweep.specs.declared.gathering.Gathering.{Gathering}
 use Rattle.table_rows.specs.Lines.{AreLines, HasLine, IsLine, Line, notes_of, shard_line}
 use Rattle.shard_merge.specs.Behind.{GathersMore}
@@ -29,7 +30,7 @@ pub record AreStarts (text : List ℕ) (count : ℕ) (starts : List (List ℕ)) 
   pub begin : AllZip BeginsWithIt starts are.items
 
 -- and they are the lines of the runs of a sweep with this key
-pub record AreGenuine (key : List ℕ) (sweep : Sweep) (text : List ℕ) (count : ℕ) (starts : List (List ℕ)) : Type 0 where
+pub record AreGenuine (key : LineKey) (sweep : Sweep) (text : List ℕ) (count : ℕ) (starts : List (List ℕ)) : Type 0 where
   pub read : AreStarts text count starts
   pub placed : AreLinesOf key sweep 0 text count
 

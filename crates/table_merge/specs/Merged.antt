@@ -1,5 +1,5 @@
 -- What tables put together are.
-use Rattle.std.specs.Prelude.{◌≡◌, ◌⊎◌, ◌≤◌, ◌+◌, ℕ, Bool, List, ◌++◌, Option, Vec, All, length, map}
+use Rattle.std.specs.Prelude.{◌≡◌, ◌⊎◌, ◌≤◌, ◌+◌, ℕ, Bool, List, ◌++◌, Option, None, Vec, All, length, map}
 use Rattle.std.specs.List.{flat_map}
 use Rattle.std.specs.Io.KnownBytes.{Appends}
 use Rattle.std.specs.declared.alloc.Global.{Global}
@@ -10,7 +10,7 @@ use Rattle.shards.specs.Shards.{whole}
 use Rattle.sweep.specs.Runs.{IsAskedFor}
 use Rattle.sweep.specs.Summaries.{SumUp}
 use Rattle.sweep.specs.Shards.{shard_header}
-use Rattle.sweep.specs.Sums.{sweep_key}
+use Rattle.sweep.specs.Sums.{line_key, sweep_key}
 use Rattle.table_rows.specs.Lines.{Line, IsLine, notes_of, shard_line}
 use Rattle.shard_merge.specs.Among.{IsAmongTexts}
 use Rattle.shard_merge.specs.Joined.{ArePlaced, IsMark}
@@ -19,14 +19,13 @@ use Rattle.table_merge.specs.Seeds.{AreInTurn, Ranged, in_turn, seeds_of_tables,
 use Rattle.table_merge.specs.Found.{HaveSeeds}
 use Rattle.table_merge.specs.Lines.{resummed}
 
--- One of the texts is the table of the sweep with these seeds, and these are its lines: one for each run, each with its checksum, and the values and the seed
--- of the run at its place.
+-- One of the texts is the table of the sweep with these seeds, and these are its lines: one for each run, each genuine at its place.
 pub record IsRangeTable (texts : List (Vec ℕ Global)) (mark : List ℕ) (revived : Bool) (sweep : Sweep) (t : Ranged Line) : Type 0 where
   pub asked : IsAskedFor (with_seeds sweep t.seeds)
   pub there : IsAmongTexts texts (shard_header revived mark (with_seeds sweep t.seeds) whole ++ flat_map shard_line t.things)
   pub many : length t.things ≡ run_count (with_seeds sweep t.seeds)
   pub sound : All IsLine t.things
-  pub genuine : ArePlaced mark (with_seeds sweep t.seeds) t.things
+  pub genuine : ArePlaced (line_key revived None mark (with_seeds sweep t.seeds)) (with_seeds sweep t.seeds) t.things
 
 -- the lines of these tables in the order of the whole, each with its checksum of that
 abbrev pub merged_lines : List ℕ → Sweep → List (Ranged Line) → List Line

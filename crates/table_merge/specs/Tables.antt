@@ -4,7 +4,7 @@ use Rattle.std.specs.Borrow.{Bor}
 use Rattle.std.specs.List.{AllZip, flat_map}
 use Rattle.std.specs.Io.KnownBytes.{Appends}
 use Rattle.std.specs.declared.alloc.Global.{Global}
-use Rattle.sweep_plan.specs.Sweep.{Sweep, seed_count}
+use Rattle.sweep_plan.specs.Sweep.{Sweep}
 use Rattle.figures.specs.declared.summary.SettingSummary.{SettingSummary}
 use Rattle.sweep.specs.Summaries.{IsGathered, summaries_in}
 use Rattle.sweep.specs.declared.gathering.Gathering.{Gathering}

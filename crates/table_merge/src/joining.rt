@@ -20,7 +20,7 @@ use crate::ordering::seeds_of_all;
 use figures::SettingSummary;
 use shard_merge::{Head, JoinFault, Joined, flush, lines_at, put_header, text_at};
 use std::alloc::Global;
-use sweep::{Gathering, sweep_key};
+use sweep::{Gathering, line_key, sweep_key};
 use table_rows::LineFault;
 use trace::Sink;
 
@@ -113,7 +113,7 @@ fn read_table<'a>(
         unreachable!()
     };
     let lines = lines_at(alloc, text_at(texts, place), &head, head.shard, place)?;
-    let key = sweep_key(alloc, &head.plan, head.mark)?;
+    let key = line_key(alloc, &head.plan, head.mark, head.revived, None)?;
     match genuine_starts(alloc, &head.plan, &key, lines) {
         Ok(starts) => Ok(Table { seeds, starts }),
         Err(LineFault::Torn) => Err(JoinFault::Torn(place)),

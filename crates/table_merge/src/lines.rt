@@ -12,7 +12,7 @@ ghost use Rattle.table_merge.specs.Tables.{starts_in};
 use crate::plans::count_of;
 use base::Memory;
 use std::alloc::Global;
-use sweep::{NothingGathered, are_lines_of};
+use sweep::{LineKey, NothingGathered, are_lines_of};
 use sweep_plan::{Plan, Seeds};
 use table_rows::{LineFault, read_line};
 
@@ -23,13 +23,13 @@ pub(crate) struct Table<'a> {
     pub(crate) starts: Vec<&'a str>,
 }
 
-/// What a text has from each of its lines on, which are to be those of all runs of a sweep, each with its checksum with this key.
+/// What a text has from each of its lines on, which are to be those of all runs of a sweep, each genuine at its place.
 ///
 /// Faults: `Torn` where the text isn't these lines; `Memory`.
 pub(crate) fn genuine_starts<'a>(
     alloc: Global,
     plan: &Plan,
-    key: &[u8],
+    key: &LineKey,
     text: &'a str,
 ) -> Result<Vec<&'a str>, LineFault>
     requires asked { IsAskedFor plan.now }

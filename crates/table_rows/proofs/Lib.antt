@@ -1,6 +1,5 @@
 pub mod Beginnings
 pub mod Bytes
-pub mod Notes
 pub mod Items
 pub mod OneLine
 pub mod OneSetting

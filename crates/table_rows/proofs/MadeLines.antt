@@ -24,7 +24,8 @@ use Rattle.sweep_until.specs.Until.{AreEnough, IsMadeUntil, SumsUp, all_of}
 use Rattle.table_rows.specs.Settings.{IsSetting, SumsUpLines, shard_setting}
 use Rattle.table_rows.specs.Lines.{Line, IsLine, notes_of, shard_line}
 use Rattle.table_rows.specs.Made.{IsTellable}
-use Rattle.table_rows.proofs.Bytes.{field_lacks, lacks_joined, value_lacks}
+use Rattle.table_rows.proofs.Bytes.{field_lacks, lacks_joined}
+use Rattle.sweep.proofs.Cells.{value_lacks}
 
 cell_lacks : (f : Option ℕ) → Small f → Lacks 10 (cell f)
 cell_lacks (Some n) small = let low : n < 2 ^ 63 = small n refl in decimal_lacks n 10 (omega (arith, low)) (lit< tt)

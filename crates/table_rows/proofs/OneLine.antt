@@ -7,8 +7,7 @@ use Rattle.std.proofs.lemmas.Str.Pattern.{IsSplitOnceResult, split_after, split_
 use Rattle.sweep_plan.proofs.Words.{cut_once, lacks_each, unlike}
 use Rattle.figures.specs.Notes.{Note, IsNoteWord, note_text}
 use Rattle.table_rows.specs.Lines.{HasLine, IsBehindSum, Line, IsLine, ReadsLine, shard_line}
-use Rattle.table_rows.proofs.Bytes.{note_lacks}
-use Rattle.table_rows.proofs.Notes.{same_note}
+use Rattle.figures.proofs.SameNotes.{note_lacks, same_note}
 
 abbrev Parted : Type 0
 Parted = Option (Bor (List ℕ) × Bor (List ℕ))

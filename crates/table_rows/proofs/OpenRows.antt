@@ -1,7 +1,6 @@
 -- The lines of a setting that needs more runs, line by line.
-use Rattle.std.proofs.Common.{◌≡◌, ◌∙◌, ◌+◌, ◌-◌, ◌*◌, ◌<◌, ◌≤◌, ℕ, Bool, true, false, List, [], ◌∷◌, ◌++◌, length, length-append, take, take_at, inl, inr, ltb, refl, sym, ap, subst, arith, append_assoc, append-nil}
+use Rattle.std.proofs.Common.{◌≡◌, ◌∙◌, ◌+◌, ◌-◌, ◌*◌, ◌≤◌, ℕ, Bool, true, false, List, [], ◌∷◌, ◌++◌, length, length-append, take, take_at, inl, inr, ltb, refl, sym, ap, subst, arith, append_assoc, append-nil}
 use Rattle.std.specs.Prelude.{All}
-use Rattle.std.specs.List.{flat_map}
 use Rattle.std.proofs.lemmas.Bool.{ltb-true, ltb-false}
 use Rattle.std.proofs.lemmas.List.{length-map, map-append}
 use Rattle.std.proofs.lemmas.List.Concat.{flat_map-append}
@@ -9,17 +8,17 @@ use Rattle.std.proofs.lemmas.List.Elements.{All-nil, All-push}
 use Rattle.sweep_plan.specs.Sweep.{Sweep, seed_count}
 use Rattle.figures.specs.Notes.{Note}
 use Rattle.sweep.specs.Sums.{AreLinesOf}
+use Rattle.sweep.specs.declared.summing.LineKey.{LineKey}
 use Rattle.sweep.proofs.LinesOf.{both_lines}
 use Rattle.sweep_until.specs.Until.{AreEnough, AreTooFew, IsWide, is_narrow_of}
 use Rattle.sweep_until.proofs.Enough.{wide_push}
-use Rattle.table_rows.specs.Items.{BeginsWith}
 use Rattle.table_rows.specs.Lines.{HasLine, Line, IsLine, ReadsLine, notes_of, shard_line}
-use Rattle.table_rows.specs.Open.{BeginsWithOpen, HasRowOf, IsRowOf, ReadsRow}
+use Rattle.table_rows.specs.Open.{BeginsWithOpen, HasRowOf, ReadsRow}
 use Rattle.table_rows.specs.Settings.{HasSettingOf, shard_setting}
 use Rattle.table_rows.proofs.OneLine.{same_line}
 
 -- so many lines of runs were read, from the run of a number on; this is their metadata, and this is left
-pub record RowsSo (key : List ℕ) (sweep : Sweep) (first : ℕ) (text left : List ℕ) (notes : List Note) (count : ℕ) : Type 0 where
+pub record RowsSo (key : LineKey) (sweep : Sweep) (first : ℕ) (text left : List ℕ) (notes : List Note) (count : ℕ) : Type 0 where
   pub lines : List Line
   pub many : length lines ≡ count
   pub sound : All IsLine lines
@@ -27,7 +26,7 @@ pub record RowsSo (key : List ℕ) (sweep : Sweep) (first : ℕ) (text left : Li
   pub noted : notes_of lines ≡ notes
   pub written : text ≡ shard_setting lines ++ left
 
-module _ (key : List ℕ) (sweep : Sweep) where
+module _ (key : LineKey) (sweep : Sweep) where
   pub no_row : (first : ℕ) (text : List ℕ) (notes : List Note) → notes ≡ [] → RowsSo key sweep first text text notes 0
   no_row first text notes none =
       record { lines = []; many = refl; sound = All-nil IsLine; placed = record { lines = []; are = tt; written = refl }; noted = sym none; written = refl }
@@ -115,7 +114,7 @@ module _ (key : List ℕ) (sweep : Sweep) where
 
 -- ---- one line
 
-module _ (key : List ℕ) (sweep : Sweep) (number : ℕ) (text left : List ℕ) (note : Note) (reads : ReadsLine text left (λ n. n ≡ note)) (line : List ℕ) (is : line ≡ take (length text - length left) text) where
+module _ (key : LineKey) (sweep : Sweep) (number : ℕ) (text left : List ℕ) (note : Note) (reads : ReadsLine text left (λ n. n ≡ note)) (line : List ℕ) (is : line ≡ take (length text - length left) text) where
   line_is : line ≡ shard_line reads.begins.one
   line_is =
       let long : length text ≡ length (shard_line reads.begins.one) + length left = ap length reads.begins.written ∙ length-append (shard_line reads.begins.one) left in
@@ -141,5 +140,5 @@ pub left_within : (text left : List ℕ) (note : Note) → ReadsLine text left (
 left_within text left note reads = omega (arith, ap length reads.begins.written ∙ length-append (shard_line reads.begins.one) left)
 
 -- a text that begins with the line of a run begins with a line
-pub row_line : (key : List ℕ) (sweep : Sweep) (number : ℕ) (text : List ℕ) → ¬ (HasLine text) → ¬ (HasRowOf key sweep number text)
+pub row_line : (key : LineKey) (sweep : Sweep) (number : ℕ) (text : List ℕ) → ¬ (HasLine text) → ¬ (HasRowOf key sweep number text)
 row_line key sweep number text none has = none (has.0, record { one = has.1.one; sound = has.1.sound.sound; written = has.1.written })

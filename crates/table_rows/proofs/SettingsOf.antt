@@ -7,6 +7,7 @@ use Rattle.std.proofs.lemmas.List.Concat.{flat_map-append}
 use Rattle.std.proofs.lemmas.Slice.Zip.{all_zipped_more}
 use Rattle.sweep_plan.specs.Sweep.{Sweep, seed_count}
 use Rattle.sweep.specs.Sums.{BeginsWithLines, HasLineOf}
+use Rattle.sweep.specs.declared.summing.LineKey.{LineKey}
 use Rattle.sweep.proofs.LinesOf.{not_all}
 use Rattle.sweep.proofs.Numbers.{range_more, range_split}
 use Rattle.sweep_until.proofs.Enough.{some_enough}
@@ -29,7 +30,7 @@ some_text (l ∷ lines) more some none =
     let behind = shard_setting lines ++ more in
     no_text l.sum 32 _ (sym (laid l behind) ∙ sym (append_assoc (shard_line l) (shard_setting lines) more) ∙ none)
 
-module _ (key : List ℕ) (sweep : Sweep) (width : ℕ) where
+module _ (key : LineKey) (sweep : Sweep) (width : ℕ) where
   abbrev each : ℕ
   each = seed_count sweep.seeds
 
@@ -129,7 +130,7 @@ left_within width each text left kept reads =
 
 -- ---- the setting of a number
 
-module _ (key : List ℕ) (sweep : Sweep) (width each number : ℕ) (counted : each ≡ seed_count sweep.seeds) (text : List ℕ) where
+module _ (key : LineKey) (sweep : Sweep) (width each number : ℕ) (counted : each ≡ seed_count sweep.seeds) (text : List ℕ) where
   abbrev seeds : ℕ
   seeds = seed_count sweep.seeds
 

@@ -5,6 +5,7 @@ use Rattle.sweep_plan.specs.Sweep.{Sweep, seed_count}
 use Rattle.figures.specs.Settings.{IsSummaryOf}
 use Rattle.figures.specs.declared.summary.SettingSummary.{SettingSummary}
 use Rattle.sweep.specs.Sums.{AreLinesOf}
+use Rattle.sweep.specs.declared.summing.LineKey.{LineKey}
 use Rattle.sweep_until.specs.Kept.{AreKept}
 use Rattle.sweep_until.specs.Until.{AreEnough}
 use Rattle.sweep_until.specs.declared.runs.SettingRuns.{SettingRuns}
@@ -53,23 +54,23 @@ pub record ReadsSettings (width each : ℕ) (text : List ℕ) (count : ℕ) (bef
 
 -- ---- settings whose lines are those of the runs at their places
 
--- The lines of the setting of this number of a sweep with this key: each has its checksum, and the values and the seed of the run at its place.
-pub record IsSettingOf (key : List ℕ) (sweep : Sweep) (width number : ℕ) (lines : List Line) : Type 0 where
+-- The lines of the setting of this number of a sweep with this key: each is genuine at its place.
+pub record IsSettingOf (key : LineKey) (sweep : Sweep) (width number : ℕ) (lines : List Line) : Type 0 where
   pub setting : IsSetting width (seed_count sweep.seeds) lines
   pub count : ℕ
   pub few : count ≤ seed_count sweep.seeds
   pub placed : AreLinesOf key sweep (number * seed_count sweep.seeds) (shard_setting lines) count
 
 -- the text begins with that setting, whatever is left
-abbrev pub HasSettingOf : List ℕ → Sweep → ℕ → ℕ → List ℕ → Type 0
+abbrev pub HasSettingOf : LineKey → Sweep → ℕ → ℕ → List ℕ → Type 0
 HasSettingOf key sweep width number text = (left : List ℕ) × BeginsWith (IsSettingOf key sweep width number) shard_setting text left
 
 -- it begins with so many settings, from that of a number on, and this is left
-pub record BeginsWithSettings (key : List ℕ) (sweep : Sweep) (width first : ℕ) (text left : List ℕ) (count : ℕ) : Type 0 where
+pub record BeginsWithSettings (key : LineKey) (sweep : Sweep) (width first : ℕ) (text left : List ℕ) (count : ℕ) : Type 0 where
   pub settings : List (List Line)
   pub are : AllZip (IsSettingOf key sweep width) (range_with_len first count) settings
   pub written : text ≡ flat_map shard_setting settings ++ left
 
 -- it is these settings
-abbrev pub AreSettingsOf : List ℕ → Sweep → ℕ → ℕ → List ℕ → ℕ → Type 0
+abbrev pub AreSettingsOf : LineKey → Sweep → ℕ → ℕ → List ℕ → ℕ → Type 0
 AreSettingsOf key sweep width first text count = BeginsWithSettings key sweep width first text [] count

@@ -11,16 +11,15 @@ use crate::settings_of::before;
 use base::Memory;
 use figures::RunMetadata;
 use std::alloc::Global;
-use sweep::{are_lines_of, first_run};
+use sweep::{LineKey, are_lines_of, first_run};
 use sweep_plan::Plan;
 
 /// The lines with which a text begins of the first runs of the setting of this number, where the text doesn't begin with that whole
-/// setting: each has its checksum with this key, and the values and the seed that the plan asks for at its place. Gives what is left
-/// of the text; `started` was empty, and gets their metadata.
+/// setting: each is genuine at its place. Gives what is left of the text; `started` was empty, and gets their metadata.
 pub fn open_rows<'a>(
     alloc: Global,
     plan: &Plan,
-    key: &[u8],
+    key: &LineKey,
     number: usize,
     text: &'a str,
     started: &mut Vec<RunMetadata>,
@@ -46,7 +45,7 @@ pub fn open_rows<'a>(
 fn behind_row<'a>(
     alloc: Global,
     plan: &Plan,
-    key: &[u8],
+    key: &LineKey,
     number: usize,
     text: &'a str,
     started: &mut Vec<RunMetadata>,

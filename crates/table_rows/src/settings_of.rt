@@ -9,7 +9,7 @@ use crate::by_settings::read_setting;
 use crate::fault::LineFault;
 use base::Memory;
 use std::alloc::Global;
-use sweep::{first_run, lines_of_runs};
+use sweep::{LineKey, first_run, lines_of_runs};
 use sweep_plan::Plan;
 use sweep_until::SettingRuns;
 
@@ -22,12 +22,12 @@ pub struct StandingSettings<'a> {
     pub left: &'a str,
 }
 
-/// The whole settings with which a text begins, from that of this number on, so many at most: each line has its checksum with this
-/// key, and the values and the seed that the plan asks for at its place.
+/// The whole settings with which a text begins, from that of this number on, so many at most: each line is genuine at its
+/// place.
 pub fn settings_of_runs<'a>(
     alloc: Global,
     plan: &Plan,
-    key: &[u8],
+    key: &LineKey,
     width: u64,
     first: usize,
     most: usize,
@@ -54,7 +54,7 @@ pub fn settings_of_runs<'a>(
 pub fn are_settings_of(
     alloc: Global,
     plan: &Plan,
-    key: &[u8],
+    key: &LineKey,
     width: u64,
     first: usize,
     count: usize,
@@ -77,7 +77,7 @@ pub fn are_settings_of(
 fn behind_setting<'a>(
     alloc: Global,
     plan: &Plan,
-    key: &[u8],
+    key: &LineKey,
     width: u64,
     number: usize,
     text: &'a str,

@@ -1,4 +1,4 @@
-use Rattle.std.proofs.Common.{◌≡◌, sym, subst, arith}
+use Rattle.std.proofs.Common.{sym, subst, arith}
 use Rattle.figures.specs.Notes.{RefusesNoteOf}
 use Rattle.figures.proofs.Handing.{handed}
 use Rattle.figures.proofs.NoNotes.{behind_five, first_missing, fifth_missing, fourth_missing, no_note_of, second_missing, third_missing, times_refused, too_few}

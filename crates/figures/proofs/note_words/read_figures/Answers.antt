@@ -2,6 +2,7 @@ use Rattle.std.proofs.Common.{◌==◌, ◌∙◌, length, lit<, refl}
 use Rattle.std.specs.List.{slice_split}
 use Rattle.std.proofs.lemmas.Iterator.Consumers.{YieldsList-end, YieldsList-turn}
 use Rattle.std.proofs.lemmas.Iterator.Splits.{YieldsList-from_str_split}
+use Rattle.reports.specs.Text.{figure}
 use Rattle.figures.proofs.NoNotes.{no_figures}
 use Rattle.figures.proofs.note_words.read_figures.Goals as goal
 
@@ -10,7 +11,7 @@ returns-in_default-clause-refused c =
     let word = c.args.word.now in
     let items = YieldsList-from_str_split {s = c.into_iter-item-iterator.result} 32 word (lit< tt) (cc) (cc) (cc) in
     let turn = YieldsList-turn items c.loop-item.yielded _ c.loop-item.yielded_by _ _ c.in-Some.item c.in-Some.is c.next.ensures.steps in
-    no_figures (slice_split (λ byte. byte == 32) word) (length c.loop-item.yielded) c.in-Some.item.now turn.0 turn.1 (c.in_default.ensures.none refl)
+    no_figures figure (slice_split (λ byte. byte == 32) word) (length c.loop-item.yielded) c.in-Some.item.now turn.0 turn.1 (c.in_default.ensures.none refl)
 
 pub returns-clause-read : goal.returns-clause-read
 returns-clause-read c =

@@ -11,7 +11,7 @@ use Rattle.resume.proofs.begun.begun_settings_of.Goals as goal
 
 pub returns-in_default-clause-begun : goal.returns-in_default-clause-begun
 returns-in_default-clause-begun c =
-    short_stands (counts_revived (view c.args.document.now)) c.args.mark.now c.args.plan.now c.args.width c.args.shard c.args.text.now
+    short_stands (view c.args.document.now) c.args.mark.now c.args.plan.now c.args.width c.args.shard c.args.text.now
     c.new.result.items (search rules) ((rw c.in_default.is at c.in_ok-lines.ensures.none) refl)
 
 pub first-first-requires-clause-few : goal.first-first-requires-clause-few
@@ -75,6 +75,6 @@ returns-clause-begun c =
     let stood = c.in_ok-stood in
     let started = lines_behind c.in_ok-key.key c.args.plan.now c.args.width c.first-first.result (c.past.result - c.first-first.result) stood.stood.count _ _ stood.stood.left.now c.in_ok-left.left.now
     c.behind_open.new.started.items refl refl stood.ensures.few stood.ensures.no_more c.in_ok-left.ensures.past c.in_ok-left.ensures.open_lines in
-    long_stands (counts_revived (view c.args.document.now)) c.args.mark.now c.args.plan.now c.args.width c.args.shard c.args.text.now _ _ _ c.in_ok-key.ensures first (λ i. past i - first i)
+    long_stands (view c.args.document.now) c.args.mark.now c.args.plan.now c.args.width c.args.shard c.args.text.now _ _ _ c.in_ok-key.ensures first (λ i. past i - first i)
     c.in-Some.lines.now c.read_front-words.result.now stood.stood.left.now c.in_ok-left.left.now c.kept_of-kept.result stood.stood.count c.behind_open.new.started.items
     (rw c.in-Some.is at c.in_ok-lines.ensures.some) c.read_front-words.ensures stood.ensures.begins c.kept_of-kept.ensures stood.ensures.few started

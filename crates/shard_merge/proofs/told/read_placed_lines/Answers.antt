@@ -1,4 +1,4 @@
-use Rattle.std.proofs.Common.{sym, subst, true≢false}
+use Rattle.std.proofs.Common.{sym, subst}
 use Rattle.figures.proofs.Handing.{if_err_then}
 use Rattle.sweep.specs.Sums.{AreLinesOf}
 use Rattle.sweep.proofs.Handing.{on_ok_then}

@@ -1,7 +1,7 @@
-use Rattle.std.proofs.Common.{◌≤◌, [], ◌+◌, sym, subst, arith, ap, ◌∙◌}
+use Rattle.std.proofs.Common.{◌≤◌, [], sym, subst, arith, ap, ◌∙◌}
 use Rattle.toml.specs.View.{view}
 use Rattle.sweep_plan.specs.Sweep.{run_count}
-use Rattle.shards.specs.Shards.{first_run, past_run, whole}
+use Rattle.shards.specs.Shards.{first_run, past_run}
 use Rattle.shards.proofs.Whole.{first_of_whole, past_of_whole}
 use Rattle.sweep.specs.Summaries.{IsGathered, MakesAll}
 use Rattle.run_output.proofs.Faults.{on_err}

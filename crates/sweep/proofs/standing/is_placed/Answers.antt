@@ -1,11 +1,24 @@
-use Rattle.std.proofs.Common.{◌∙◌, ◌++◌, string_bytes, ap, refl, sym}
-use Rattle.sweep.proofs.LinesOf.{no_comma, not_placed}
+use Rattle.std.proofs.Common.{◌≡◌, false, refl, true}
+use Rattle.figures.proofs.MetadataWords.{if_ok_then}
+use Rattle.sweep.specs.Sums.{IsPlaced}
+use Rattle.sweep.proofs.Cells.{no_comma, no_metadata, not_told, placed_so}
 use Rattle.sweep.proofs.standing.is_placed.Goals as goal
 
 pub returns-in_default-clause-none : goal.returns-in_default-clause-none
-returns-in_default-clause-none c = λ _. no_comma c.args.plan.now c.args.number c.args.line.now (c.in_default.ensures.none refl)
+returns-in_default-clause-none c = λ _. no_comma c.args.key.now c.args.plan.now c.args.number c.args.line.now (c.in_default.ensures.none refl)
 
-pub returns-clause-none : goal.returns-clause-none
-returns-clause-none c = λ other.
-    not_placed c.args.plan.now c.args.number c.args.line.now c.in-Some._note.now c.in-Some.behind.now c.in-Some.ensures.some (string_bytes c.in_ok-lead.lead) c.in_ok-lead.ensures
-    (λ more same. c.is_beginning.ensures.none other more (same ∙ ap (λ l. l ++ more) (sym c.as_bytes.ensures.value)))
+pub returns-in-None-clause-none : goal.returns-in-None-clause-none
+returns-in-None-clause-none c = λ _.
+    no_metadata c.args.key.now c.args.plan.now c.args.number c.args.line.now c.in-Some.word.now c.in-Some.behind.now c.in-Some.ensures.some ((rw c.in-None.is at c.in_ok-metadata.ensures.none) refl)
+
+pub returns-in-Some-2-clause-placed : goal.returns-in-Some-2-clause-placed
+returns-in-Some-2-clause-placed c =
+    if_ok_then c.is_told_of.result _ (λ it. it ≡ true → IsPlaced c.args.key.now c.args.plan.now c.args.number c.args.line.now) c.is_told_of.ensures.told
+    (λ it told so.
+    placed_so c.args.key.now c.args.plan.now c.args.number c.args.line.now c.in-Some.word.now c.in-Some.behind.now c.in-Some.ensures.some _ (rw c.in-Some-2.is at c.in_ok-metadata.ensures.some) (told so))
+
+pub returns-in-Some-2-clause-none : goal.returns-in-Some-2-clause-none
+returns-in-Some-2-clause-none c =
+    if_ok_then c.is_told_of.result _ (λ it. it ≡ false → ¬ (IsPlaced c.args.key.now c.args.plan.now c.args.number c.args.line.now)) c.is_told_of.ensures.none
+    (λ it none so.
+    not_told c.args.key.now c.args.plan.now c.args.number c.args.line.now c.in-Some.word.now c.in-Some.behind.now c.in-Some.ensures.some _ (rw c.in-Some-2.is at c.in_ok-metadata.ensures.some) (none so))

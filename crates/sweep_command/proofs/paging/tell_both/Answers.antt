@@ -1,5 +1,5 @@
 -- the table, what is told of the settings, and their page
-use Rattle.std.proofs.Common.{List, string_bytes, subst, sym, inl}
+use Rattle.std.proofs.Common.{List, subst, sym, inl}
 use Rattle.std.specs.Prelude.{All}
 use Rattle.goals.specs.Wants.{HasFewRuns}
 use Rattle.figures.specs.declared.summary.SettingSummary.{SettingSummary}

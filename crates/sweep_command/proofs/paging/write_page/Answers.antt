@@ -1,6 +1,5 @@
 -- a page, or why there is none
-use Rattle.std.proofs.Common.{◌≡◌, ℕ, List, inl, inr, rules, string_bytes, subst}
-use Rattle.trace.specs.Sinks.{AppendsBeginning}
+use Rattle.std.proofs.Common.{inl}
 use Rattle.trace.proofs.Beginnings.{Keeps-same}
 use Rattle.scenario_files.proofs.Held.{on_err_of}
 use Rattle.sweep_command.proofs.paging.write_page.Goals as goal

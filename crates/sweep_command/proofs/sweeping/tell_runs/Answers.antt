@@ -1,8 +1,7 @@
 -- what is told of the settings; where that finds no memory, the whole table is there
-use Rattle.std.proofs.Common.{ℕ, List, string_bytes, subst, sym}
+use Rattle.std.proofs.Common.{subst, sym}
 use Rattle.std.specs.Prelude.{All}
 use Rattle.goals.specs.Wants.{HasFewRuns}
-use Rattle.figures.specs.declared.summary.SettingSummary.{SettingSummary}
 use Rattle.scenario_files.proofs.Held.{on_err_of}
 use Rattle.sweep_command.proofs.Few.{few_runs_each}
 use Rattle.sweep_command.proofs.Told.{told_as}

@@ -1,9 +1,3 @@
-use Rattle.std.proofs.Common.{◌≡◌, ◌++◌, ℕ, List, sym, subst}
-use Rattle.shards.specs.Shards.{whole}
-use Rattle.shards.proofs.Whole.{whole_is_shard}
-use Rattle.sweep.specs.Runs.{IsAskedFor}
-use Rattle.sweep.specs.Shards.{shard_header}
-use Rattle.table_merge.specs.Seeds.{with_seeds}
 use Rattle.table_merge.proofs.FoundMore.{begins_if, other_if}
 use Rattle.table_merge.proofs.finding.begins_with.Goals as goal
 

@@ -1,4 +1,4 @@
-use Rattle.std.proofs.Common.{◌≡◌, ap, is_some}
+use Rattle.std.proofs.Common.{ap, is_some}
 use Rattle.table_merge.proofs.FoundMore.{none_several}
 use Rattle.table_merge.proofs.finding.first_of_several.Goals as goal
 

@@ -1,5 +1,5 @@
-use Rattle.std.proofs.Common.{◌≡◌, ap, inr, is_some, refl, rules, subst, sym}
-use Rattle.shard_merge.specs.Reasons.{BeginsAs, BeginsAsNone}
+use Rattle.std.proofs.Common.{ap, inr, is_some, refl, rules, subst}
+use Rattle.shard_merge.specs.Reasons.{BeginsAsNone}
 use Rattle.table_merge.proofs.FoundMore.{none_begin, other_seeds, others_none}
 use Rattle.table_merge.proofs.finding.seeds_at.Goals as goal
 

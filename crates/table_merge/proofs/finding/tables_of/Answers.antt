@@ -1,10 +1,10 @@
-use Rattle.std.proofs.Common.{◌≡◌, ◌∙◌, length, subst, sym, arith}
+use Rattle.std.proofs.Common.{◌≡◌, length, subst, sym, arith}
 use Rattle.std.specs.Prelude.{Some, slice_get}
 use Rattle.std.proofs.lemmas.Option.{gets}
 use Rattle.figures.proofs.Handing.{handed}
 use Rattle.table_merge.specs.Found.{AreFound, IsTableAt}
 use Rattle.table_merge.specs.Reasons.{IsReason}
-use Rattle.table_merge.proofs.FoundMore.{found_more, none_found, overlap_reason, table_reason}
+use Rattle.table_merge.proofs.FoundMore.{found_more, overlap_reason, table_reason}
 use Rattle.table_merge.proofs.finding.tables_of.Goals as goal
 
 pub loop-place-preserved : goal.loop-place-preserved

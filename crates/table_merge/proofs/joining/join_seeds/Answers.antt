@@ -1,11 +1,11 @@
-use Rattle.std.proofs.Common.{◌≡◌, ◌<◌, ◌≤◌, ◌∙◌, ◌+◌, List, ap, is_some, length, map, subst, sym, arith}
+use Rattle.std.proofs.Common.{◌+◌, List, ap, is_some, map, subst, sym, arith}
 use Rattle.std.specs.Prelude.{All}
 use Rattle.sweep_plan.specs.Sweep.{Sweep, seed_count, setting_count}
 use Rattle.sweep.specs.Sums.{sweep_key}
 use Rattle.figures.proofs.Handing.{handed}
 use Rattle.table_merge.specs.Seeds.{AreInTurn, in_turn}
 use Rattle.table_merge.specs.Lines.{IsFull}
-use Rattle.table_merge.specs.Reasons.{IsReason, RefusesOrder}
+use Rattle.table_merge.specs.Reasons.{RefusesOrder}
 use Rattle.table_merge.specs.Tables.{AreRead, PutsAll, starts_in}
 use Rattle.table_merge.specs.declared.finding.Found.{Found}
 use Rattle.table_merge.specs.declared.lines.Table.{Table}

@@ -1,4 +1,4 @@
-use Rattle.std.proofs.Common.{◌≡◌, ◌≤◌, map, subst, sym}
+use Rattle.std.proofs.Common.{◌≤◌, map, subst, sym}
 use Rattle.sweep.proofs.Sizes.{few_runs}
 use Rattle.table_merge.specs.Tables.{starts_in}
 use Rattle.table_merge.proofs.Puts.{puts_all}

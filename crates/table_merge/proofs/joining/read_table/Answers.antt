@@ -1,4 +1,4 @@
-use Rattle.std.proofs.Common.{◌≡◌, refl, rules, subst, sym}
+use Rattle.std.proofs.Common.{refl, subst, sym}
 use Rattle.sweep.specs.Shards.{shard_header}
 use Rattle.figures.proofs.Handing.{handed}
 use Rattle.shard_merge.specs.Reasons.{RefusesLines}

@@ -1,4 +1,4 @@
-use Rattle.std.proofs.Common.{◌≡◌, ◌∙◌, ◌-◌, ap, length, sym, subst, take}
+use Rattle.std.proofs.Common.{◌∙◌, ◌-◌, length, take}
 use Rattle.sweep.proofs.Handing.{on_ok_then}
 use Rattle.table_merge.proofs.Puts.{line_read_put}
 use Rattle.table_merge.proofs.merging.put_line.Goals as goal

@@ -1,4 +1,4 @@
-use Rattle.std.proofs.Common.{◌≡◌, ◌∙◌, ◌*◌, ap, drop, rules, subst, sym, take, arith}
+use Rattle.std.proofs.Common.{◌*◌, drop, rules, subst, sym, arith}
 use Rattle.std.specs.Prelude.{All, Some}
 use Rattle.std.proofs.lemmas.List.Elements.{All-drop, All-take}
 use Rattle.sweep_plan.specs.Sweep.{seed_count}

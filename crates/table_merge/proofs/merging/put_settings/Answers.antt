@@ -1,4 +1,4 @@
-use Rattle.std.proofs.Common.{map, rules, sym}
+use Rattle.std.proofs.Common.{map, rules}
 use Rattle.table_merge.specs.Tables.{starts_in}
 use Rattle.table_merge.proofs.Puts.{both_put, settings_more, still_put}
 use Rattle.table_merge.proofs.merging.put_settings.Goals as goal

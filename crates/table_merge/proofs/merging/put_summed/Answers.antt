@@ -1,7 +1,6 @@
-use Rattle.std.proofs.Common.{◌≡◌, ◌∙◌, ◌++◌, ◌∷◌, ap, subst, sym, is_some, rules}
+use Rattle.std.proofs.Common.{◌∙◌, subst, rules}
 use Rattle.std.specs.Io.KnownBytes.{Appends}
-use Rattle.line_sums.specs.Sums.{summed}
-use Rattle.table_merge.proofs.Puts.{behind_cut, must_cut, resummed_line}
+use Rattle.table_merge.proofs.Puts.{must_cut, resummed_line}
 use Rattle.table_merge.proofs.merging.put_summed.Goals as goal
 
 pub unreachable-requires : goal.unreachable-requires

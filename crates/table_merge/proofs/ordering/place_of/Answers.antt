@@ -1,4 +1,4 @@
-use Rattle.std.proofs.Common.{◌<◌, ◌≡◌, below_more, get_or, subst, arith}
+use Rattle.std.proofs.Common.{◌<◌, below_more, get_or, subst, arith}
 use Rattle.std.proofs.lemmas.List.{get_or_default}
 use Rattle.table_merge.specs.declared.finding.Found.{Found}
 use Rattle.table_merge.proofs.ordering.place_of.Goals as goal

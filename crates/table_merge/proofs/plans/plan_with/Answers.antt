@@ -1,5 +1,4 @@
-use Rattle.std.proofs.Common.{◌≡◌, ◌∙◌, ◌≤◌, false, true, rules}
-use Rattle.sweep_plan.specs.Sweep.{run_count}
+use Rattle.std.proofs.Common.{◌∙◌, rules}
 use Rattle.table_merge.specs.Seeds.{with_seeds}
 use Rattle.table_merge.proofs.Ones.{asked_with}
 use Rattle.table_merge.proofs.plans.plan_with.Goals as goal

@@ -1,4 +1,4 @@
-use Rattle.std.proofs.Common.{◌≡◌, [], length, arith, rules}
+use Rattle.std.proofs.Common.{◌≡◌, [], length, rules}
 use Rattle.table_rows.proofs.SettingsOf.{setting_there, setting_unplaced, left_within, no_setting}
 use Rattle.table_rows.proofs.settings_of.behind_setting.Goals as goal
 

@@ -1,6 +1,5 @@
-use Rattle.std.proofs.Common.{◌≡◌, ap, subst, ◌∙◌, sym}
-use Rattle.std.specs.Prelude.{IfOk}
-use Rattle.figures.specs.Notes.{IsNoteWord, RefusesFigures, RefusesNote, note_figures}
+use Rattle.std.proofs.Common.{subst, ◌∙◌, sym}
+use Rattle.figures.specs.Notes.{IsNoteWord, RefusesNote}
 use Rattle.figures.proofs.Handing.{handed, if_err_then}
 use Rattle.figures.proofs.NoNotes.{figures_refused, note_refused}
 use Rattle.figures.proofs.MetadataWords.{note_read, if_ok_then}
