@@ -1,5 +1,5 @@
 -- The maps of the table, entry by entry: routes by the paths so far, times by the slow entries and by the cuts so far.
-use Rattle.std.proofs.Common.{◌≡◌, ℕ, ◌+◌, ◌<◌, ◌≤◌, ◌⊎◌, inl, inr, subst, nat_le, nat_lt, Bool, true, false, cond, ◌&&◌, ◌||◌, nat_eq, if◌then◌else◌, List, [], ◌∷◌, ◌++◌, map, length, take, get_or, set, Option, Some, None, Result, Ok, Err, OnOk, refl, sym, ap, ◌∙◌, append-nil, arith, Vec, Global}
+use Rattle.std.proofs.Common.{◌≡◌, ◌≢◌, ◌-◌, slice_get, ℕ, zero, suc, ◌+◌, ◌<◌, ◌≤◌, ◌⊎◌, inl, inr, subst, nat_le, nat_lt, Bool, true, false, cond, ◌&&◌, ◌||◌, nat_eq, if◌then◌else◌, List, [], ◌∷◌, ◌++◌, map, length, take, get_or, set, Option, Some, Result, Ok, Err, OnOk, refl, sym, ap, ◌∙◌, append-nil, arith, Vec, Global}
 use Rattle.std.specs.Option.{unwrap_or, option_map_or}
 use Rattle.std.specs.List.{filter, find, list_any}
 use Rattle.std.specs.Map.{lookup}
@@ -9,6 +9,7 @@ use Rattle.std.proofs.lemmas.Bool.Decides.{nat_tests}
 use Rattle.std.proofs.lemmas.Bool.{eqb-true, eq-eqb, ne_eqb, cases_eq, cases_lt, false≢true}
 use Rattle.std.proofs.lemmas.List.{get_or_read, get_or_append_left, get_or_push, get_or_past, get_or-set_same, get_or-set_other, length-append}
 use Rattle.std.proofs.lemmas.List.Folds.{list_any_more}
+use Rattle.std.proofs.lemmas.Option.{slice_get-get_or}
 use Rattle.std.specs.declared.cmp.Ordering.{Ordering}
 use Rattle.std.specs.declared.cmp.Ordering.TheVariants.{Less, Equal, Greater}
 use Rattle.std.specs.BTreeMap.{is_at}
@@ -18,7 +19,7 @@ use Rattle.scenario.specs.declared.settings.Path.{Path}
 use Rattle.scenario.specs.declared.settings.Slow.{Slow}
 use Rattle.scenario.specs.declared.settings.Cut.{Cut}
 use Rattle.scenario.proofs.Between.{last_more}
-use Rattle.links.specs.Entries.{pair_cmp, route, slow_spans, spans_in, span_of, covers, extra_in, outages_in}
+use Rattle.links.specs.Entries.{pair_cmp, numbered, number_in, slow_spans, spans_in, span_of, covers, extra_in, outages_in}
 use Rattle.scenario.specs.Spells.{is_in_any, HaveBegun}
 use Rattle.scenario.specs.declared.spells.Spell.{Spell}
 use Rattle.links.specs.declared.spans.times.SlowSpan.{SlowSpan}
@@ -44,16 +45,63 @@ put : (b : Bool) (new : Link) (old : Option Link) (link : Link) → unwrap_or (c
 put true new old link = refl
 put false new old link = refl
 
--- a path that is put over the paths so far
-pub routes_more : (old new : List ((ℕ × ℕ) × Link)) (ps : List Path) (i : ℕ) (d : Path) (link : Link) (from to : ℕ) → i < length ps
-    → ((q : ℕ × ℕ) → lookup (is_at (pair_cmp q)) new ≡ cond (is_at (pair_cmp ((get_or ps i d).from, (get_or ps i d).to)) q) (Some (get_or ps i d).link) (lookup (is_at (pair_cmp q)) old))
-    → unwrap_or (route old from to) link ≡ last_link link (map (λ p. p.link) (filter (leads from to) (take i ps)))
-    → unwrap_or (route new from to) link ≡ last_link link (map (λ p. p.link) (filter (leads from to) (take (i + 1) ps)))
-routes_more old new ps i d link from to within put_in before =
+-- a link more has the next number; the others keep theirs
+numbered_before : (links : List Link) (x : Link) (number : ℕ) → number ≤ length links → numbered (links ++ x ∷ []) number ≡ numbered links number
+unfolding numbered
+numbered_before links x zero few = refl
+numbered_before links x (suc k) few =
+    let within : k < length links = omega (arith, few) in
+    slice_get-get_or (links ++ x ∷ []) k x (omega (arith, within, length-append links (x ∷ [])))
+    ∙ ap Some (get_or_append_left links (x ∷ []) x k within)
+    ∙ sym (slice_get-get_or links k x within)
+
+numbered_last : (links : List Link) (x : Link) (number : ℕ) → number ≡ length (links ++ x ∷ []) → numbered (links ++ x ∷ []) number ≡ Some x
+unfolding numbered
+numbered_last links x zero is = absurd (omega (arith, is, length-append links (x ∷ [])))
+numbered_last links x (suc k) is =
+    let last : length links ≡ k = omega (arith, is, length-append links (x ∷ [])) in
+    slice_get-get_or (links ++ x ∷ []) k x (omega (arith, is))
+    ∙ ap Some (get_or_push links x x k last)
+
+put_numbered : (links : List Link) (x : Link) (b : Bool) (number old : ℕ) → number ≡ length (links ++ x ∷ []) → old ≤ length links
+    → numbered (links ++ x ∷ []) (cond b number old) ≡ cond b (Some x) (numbered links old)
+put_numbered links x true number old is few = numbered_last links x number is
+put_numbered links x false number old is few = numbered_before links x old few
+
+-- a table without rows has no path
+pub no_number : (rows : List (Vec ℕ Global)) (from to : ℕ) → rows ≡ [] → number_in rows from to ≡ 0
+no_number rows from to empty = ap (λ rs. number_in rs from to) empty
+
+pub no_path : (rows : List (Vec ℕ Global)) (links : List Link) (link : Link) (from to : ℕ) → rows ≡ [] → unwrap_or (numbered links (number_in rows from to)) link ≡ link
+unfolding numbered
+no_path rows links link from to empty = ap (λ n. unwrap_or (numbered links n) link) (no_number rows from to empty)
+
+-- numbers count from 1
+pub counted_from_one : (links : List Link) (number : ℕ) → number ≢ 0 → numbered links number ≡ slice_get links (number - 1)
+unfolding numbered
+counted_from_one links zero some = absurd (some refl)
+counted_from_one links (suc k) some = ap (slice_get links) (omega arith)
+
+-- the number of a path of so many links is at most their count, and stays so
+pub number_small : (old_rows new_rows : List (Vec ℕ Global)) (old new : List Link) (x : Link) (named : Bool) (number from to : ℕ) → new ≡ old ++ x ∷ [] → number ≡ length new
+    → number_in new_rows from to ≡ cond named number (number_in old_rows from to)
+    → number_in old_rows from to ≤ length old → number_in new_rows from to ≤ length new
+number_small old_rows new_rows old new x true number from to pushed is put_in few = omega (arith, is, put_in)
+number_small old_rows new_rows old new x false number from to pushed is put_in few = let long : length new ≡ length old + 1 = ap length pushed ∙ length-append old (x ∷ []) in omega (arith, long, put_in, few)
+
+-- a path that is put over the paths so far: its groups have the number of its link
+pub routes_more : (old_rows new_rows : List (Vec ℕ Global)) (old new : List Link) (ps : List Path) (i : ℕ) (d : Path) (number : ℕ) (link : Link) (from to : ℕ) → i < length ps
+    → new ≡ old ++ (get_or ps i d).link ∷ [] → number ≡ length new
+    → number_in new_rows from to ≡ cond (leads from to (get_or ps i d)) number (number_in old_rows from to)
+    → number_in old_rows from to ≤ length old
+    → unwrap_or (numbered old (number_in old_rows from to)) link ≡ last_link link (map (λ p. p.link) (filter (leads from to) (take i ps)))
+    → unwrap_or (numbered new (number_in new_rows from to)) link ≡ last_link link (map (λ p. p.link) (filter (leads from to) (take (i + 1) ps)))
+routes_more old_rows new_rows old new ps i d number link from to within pushed is put_in few before =
     let p = get_or ps i d in
-    ap (λ o. unwrap_or o link) (put_in (from, to))
-    ∙ put (is_at (pair_cmp (p.from, p.to)) (from, to)) p.link (route old from to) link
-    ∙ ap (λ b. if b then p.link else unwrap_or (route old from to) link) (same_pair p.from p.to from to)
+    ap (λ n. unwrap_or (numbered new n) link) put_in
+    ∙ ap (λ ls. unwrap_or (numbered ls (cond (leads from to p) number (number_in old_rows from to))) link) pushed
+    ∙ ap (λ o. unwrap_or o link) (put_numbered old p.link (leads from to p) number (number_in old_rows from to) (is ∙ ap length pushed) few)
+    ∙ put (leads from to p) p.link (numbered old (number_in old_rows from to)) link
     ∙ ap (λ l. if leads from to p then p.link else l) before
     ∙ sym (last_more link (leads from to) ps i d (leads from to p) within refl)
 

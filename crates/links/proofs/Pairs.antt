@@ -1,13 +1,14 @@
 -- The first two members of each group have the delays of all pairs.
-use Rattle.std.proofs.Common.{◌≡◌, ℕ, ◌+◌, ◌-◌, ◌<◌, ◌≤◌, ◌⊎◌, inl, inr, Bool, true, false, not, ◌&&◌, nat_le, nat_eq, List, [], length, get_or, Option, Some, None, refl, sym, ap, ◌∙◌, subst, arith, zero, suc}
+use Rattle.std.proofs.Common.{◌≡◌, ℕ, ◌+◌, ◌-◌, ◌<◌, ◌≤◌, ◌⊎◌, inl, inr, Bool, true, false, not, nat_le, nat_eq, List, [], length, get_or, Option, Some, None, refl, sym, ap, ◌∙◌, subst, arith, zero, suc}
 use Rattle.std.specs.Option.{unwrap_or, option_and_then}
 use Rattle.std.specs.List.{slice_get}
 use Rattle.std.proofs.lemmas.Bool.{and_parts, eqb-true, eq-eqb, ne_eqb, leb-true, cases_eq, false≢true}
 use Rattle.std.proofs.lemmas.List.{nil_from_length}
 use Rattle.std.proofs.lemmas.Option.{slice_get-get_or}
 use Rattle.scenario.specs.declared.settings.Link.{Link}
-use Rattle.links.specs.Entries.{route, link_of_pair}
-use Rattle.links.specs.Least.{AreOrderedPair, IsDelayOfAPair, IsLeast, IsLeastBelow, is_third, is_other}
+use Rattle.links.specs.Entries.{numbered, number_in, route, link_of_pair}
+use Rattle.links.specs.declared.routes.Routes.{Routes}
+use Rattle.links.specs.Least.{AreOrderedPair, IsLeast, IsLeastBelow, is_third, is_other}
 
 same_group : (groups : List ℕ) (a b : ℕ) → a < length groups → b < length groups → get_or groups a 0 ≡ get_or groups b 0 → slice_get groups a ≡ slice_get groups b
 same_group groups a b i j same = slice_get-get_or groups a 0 i ∙ ap Some same ∙ sym (slice_get-get_or groups b 0 j)
@@ -29,7 +30,7 @@ follows_two groups m within third =
       two = same_group groups (m - 2) m (omega (arith, late, within)) within (eqb-true _ _ groups_same.1);
     }
 
-module _ (groups : List ℕ) (link : Link) (routes : List ((ℕ × ℕ) × Link)) where
+module _ (groups : List ℕ) (link : Link) (routes : ℕ → ℕ → Option Link) where
   abbrev delay : ℕ → ℕ → ℕ
   delay i j = (link_of_pair groups link routes i j).delay
 
@@ -43,10 +44,10 @@ module _ (groups : List ℕ) (link : Link) (routes : List ((ℕ × ℕ) × Link)
     same : delay sender receiver ≡ delay i j
 
   of_sender : (i k j : ℕ) → slice_get groups k ≡ slice_get groups i → delay k j ≡ delay i j
-  of_sender i k j same = ap (λ o. (unwrap_or (option_and_then (λ from. option_and_then (λ to. route routes from to) (slice_get groups j)) o) link).delay) same
+  of_sender i k j same = ap (λ o. (unwrap_or (option_and_then (λ from. option_and_then (λ to. routes from to) (slice_get groups j)) o) link).delay) same
 
   of_receiver : (i j k : ℕ) → slice_get groups k ≡ slice_get groups j → delay i k ≡ delay i j
-  of_receiver i j k same = ap (λ o. (unwrap_or (option_and_then (λ from. option_and_then (λ to. route routes from to) o) (slice_get groups i)) link).delay) same
+  of_receiver i j k same = ap (λ o. (unwrap_or (option_and_then (λ from. option_and_then (λ to. routes from to) o) (slice_get groups i)) link).delay) same
 
   carried : (i j k l : ℕ) → delay k l ≡ delay i j → StandsFor k l → StandsFor i j
   carried i j k l same stands = record {
@@ -116,16 +117,25 @@ module _ (groups : List ℕ) (link : Link) (routes : List ((ℕ × ℕ) × Link)
 pub no_pair : (delay : ℕ → ℕ → ℕ) (n : ℕ) → n < 2 → IsLeast delay n None
 no_pair delay n few = λ i j apart. apart.different (let s = apart.sender in let r = apart.receiver in omega (arith, s, r, few))
 
-nobody_named : (link : Link) (from to : Option ℕ) → unwrap_or (option_and_then (λ f. option_and_then (λ t. route [] f t) to) from) link ≡ link
-nobody_named link None to = refl
-nobody_named link (Some f) None = refl
-nobody_named link (Some f) (Some t) = refl
+nobody_named : (link : Link) (routes : ℕ → ℕ → Option Link) → ((f t : ℕ) → routes f t ≡ None) → (from to : Option ℕ)
+    → unwrap_or (option_and_then (λ f. option_and_then (λ t. routes f t) to) from) link ≡ link
+nobody_named link routes none None to = refl
+nobody_named link routes none (Some f) None = refl
+nobody_named link routes none (Some f) (Some t) = ap (λ o. unwrap_or o link) (none f t)
 
-module _ (groups : List ℕ) (link : Link) (routes : List ((ℕ × ℕ) × Link)) (empty : length routes ≡ 0) where
-  common : (i j : ℕ) → link_of_pair groups link routes i j ≡ link
-  common i j = ap (λ rs. link_of_pair groups link rs i j) (nil_from_length routes empty) ∙ nobody_named link (slice_get groups i) (slice_get groups j)
+none_numbered : (number : ℕ) → numbered [] number ≡ None
+unfolding numbered
+none_numbered zero = refl
+none_numbered (suc k) = refl
 
-  pub one_delay : 1 < length groups → IsLeast (λ i j. (link_of_pair groups link routes i j).delay) (length groups) (Some link.delay)
+module _ (groups : List ℕ) (link : Link) (routes : Routes) (empty : length routes.links.items ≡ 0) where
+  no_route : (f t : ℕ) → route routes f t ≡ None
+  no_route f t = ap (λ links. numbered links (number_in routes.rows.items f t)) (nil_from_length routes.links.items empty) ∙ none_numbered (number_in routes.rows.items f t)
+
+  common : (i j : ℕ) → link_of_pair groups link (route routes) i j ≡ link
+  common i j = nobody_named link (route routes) no_route (slice_get groups i) (slice_get groups j)
+
+  pub one_delay : 1 < length groups → IsLeast (λ i j. (link_of_pair groups link (route routes) i j).delay) (length groups) (Some link.delay)
   one_delay several = (
     (0, 1, record { sender = omega (arith, several); receiver = several; different = λ same. absurd (omega (arith, same)) }, ap (λ (l : Link). l.delay) (common 0 1)),
     λ i j apart. subst (λ (l : Link). link.delay ≤ l.delay) (sym (common i j)) (let e : link.delay ≤ link.delay = omega arith in e),

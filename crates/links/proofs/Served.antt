@@ -1,7 +1,6 @@
 -- A table that is made of a scenario's groups, paths, slow entries and cuts serves that scenario.
-use Rattle.std.proofs.Common.{◌≡◌, ℕ, false, ◌+◌, ◌<◌, ◌≤◌, ◌^◌, ◌⊎◌, inl, inr, List, [], ◌∷◌, ◌++◌, map, length, Option, Some, None, refl, sym, ap, ◌∙◌, subst, zero-add, Vec, Global, arith}
+use Rattle.std.proofs.Common.{◌≡◌, ℕ, false, ◌+◌, ◌<◌, ◌≤◌, ◌^◌, ◌⊎◌, inl, inr, List, [], ◌∷◌, ◌++◌, map, length, Option, Some, None, refl, sym, ap, ◌∙◌, subst, zero-add, arith}
 use Rattle.std.specs.Option.{unwrap_or, option_and_then}
-use Rattle.std.specs.Option.{option_map_or}
 use Rattle.std.specs.List.{filter, range_with_len, slice_get, list_any}
 use Rattle.std.specs.Map.{lookup}
 use Rattle.std.specs.BTreeMap.{is_at}
@@ -16,7 +15,7 @@ use Rattle.scenario.specs.declared.settings.Link.{Link}
 use Rattle.scenario.specs.declared.settings.Path.{Path}
 use Rattle.scenario.specs.declared.settings.Slow.{Slow}
 use Rattle.scenario.specs.declared.settings.Cut.{Cut}
-use Rattle.links.specs.Entries.{pair_cmp, route, link_of_pair, spans_in, slow_spans, extra_in, outages_in, outages_of_pair}
+use Rattle.links.specs.Entries.{pair_cmp, link_of_pair, spans_in, slow_spans, extra_in, outages_in, outages_of_pair}
 use Rattle.links.specs.declared.spans.times.SlowSpan.{SlowSpan}
 use Rattle.links.proofs.Maps.{extra_is}
 
@@ -38,17 +37,17 @@ group_past : (gs : List Group) (n i : ℕ) → n ≤ i → slice_get (groups_bel
 group_past gs n i past = slice_get_past (groups_below gs n) i (omega (arith, length-map-range_with_len (group_at gs) 0 n))
 
 -- by the groups of two members, where they have one
-abbrev by_groups : List ((ℕ × ℕ) × Link) → Link → Option ℕ → Option ℕ → Link
-by_groups routes link from to = unwrap_or (option_and_then (λ f. option_and_then (λ t. route routes f t) to) from) link
+abbrev by_groups : (ℕ → ℕ → Option Link) → Link → Option ℕ → Option ℕ → Link
+by_groups routes link from to = unwrap_or (option_and_then (λ f. option_and_then (λ t. routes f t) to) from) link
 
-nobody : (routes : List ((ℕ × ℕ) × Link)) (link : Link) (from : Option ℕ) → by_groups routes link from None ≡ link
+nobody : (routes : ℕ → ℕ → Option Link) (link : Link) (from : Option ℕ) → by_groups routes link from None ≡ link
 nobody routes link None = refl
 nobody routes link (Some f) = refl
 
 -- what the maps have of all paths and all slow entries
-pub routes_of_all : (s : Setup) (ps : List Path) (routes : List ((ℕ × ℕ) × Link)) → ps ≡ s.paths
-    → ((l : Link) (from to : ℕ) → unwrap_or (route routes from to) l ≡ last_link l (map (λ p. p.link) (filter (leads from to) ps)))
-    → (l : Link) (from to : ℕ) → unwrap_or (route routes from to) l ≡ last_link l (map (λ p. p.link) (filter (leads from to) s.paths))
+pub routes_of_all : (s : Setup) (ps : List Path) (routes : ℕ → ℕ → Option Link) → ps ≡ s.paths
+    → ((l : Link) (from to : ℕ) → unwrap_or (routes from to) l ≡ last_link l (map (λ p. p.link) (filter (leads from to) ps)))
+    → (l : Link) (from to : ℕ) → unwrap_or (routes from to) l ≡ last_link l (map (λ p. p.link) (filter (leads from to) s.paths))
 routes_of_all s ps routes same last l from to = last l from to ∙ ap (λ (qs : List Path). last_link l (map (λ (p : Path). p.link) (filter (leads from to) qs))) same
 
 pub spans_of_all : (s : Setup) (es : List Slow) (spans : List (List SlowSpan)) → es ≡ s.slows → ((m : ℕ) → spans_in spans m ≡ slow_spans m es)
@@ -81,14 +80,14 @@ module _ (s : Setup) (groups : List ℕ) (outages : List ((ℕ × ℕ) × List S
       ∙ ap (λ o. is_in_any (outages_by_groups outages (Some (group_at s.groups i)) o) t) (group_within s.groups (member_count s) j receiver)
       ∙ kept (group_at s.groups i) (group_at s.groups j) t
 
-module _ (s : Setup) (groups : List ℕ) (link : Link) (routes : List ((ℕ × ℕ) × Link)) (grouped : groups ≡ groups_below s.groups (member_count s)) (all : link ≡ s.link)
-    (last : (l : Link) (from to : ℕ) → unwrap_or (route routes from to) l ≡ last_link l (map (λ p. p.link) (filter (leads from to) s.paths))) where
+module _ (s : Setup) (groups : List ℕ) (link : Link) (routes : ℕ → ℕ → Option Link) (grouped : groups ≡ groups_below s.groups (member_count s)) (all : link ≡ s.link)
+    (last : (l : Link) (from to : ℕ) → unwrap_or (routes from to) l ≡ last_link l (map (λ p. p.link) (filter (leads from to) s.paths))) where
   pub links_are : (i j : ℕ) → i < member_count s → j < member_count s → link_of_pair groups link routes i j ≡ link_between s i j
   links_are i j sender receiver =
       ap (λ gs. link_of_pair gs link routes i j) grouped
       ∙ ap (λ o. by_groups routes link o (slice_get (groups_below s.groups (member_count s)) j)) (group_within s.groups (member_count s) i sender)
       ∙ ap (λ o. by_groups routes link (Some (group_at s.groups i)) o) (group_within s.groups (member_count s) j receiver)
-      ∙ ap (λ l. unwrap_or (route routes (group_at s.groups i) (group_at s.groups j)) l) all
+      ∙ ap (λ l. unwrap_or (routes (group_at s.groups i) (group_at s.groups j)) l) all
       ∙ last s.link (group_at s.groups i) (group_at s.groups j)
 
   others_sound : IsSound s → IsSoundLink link

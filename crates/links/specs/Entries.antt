@@ -1,5 +1,5 @@
 -- What the maps of the table of links give.
-use Rattle.std.specs.Prelude.{ℕ, Bool, ◌&&◌, nat_le, nat_lt, nat_eq, List, [], map, filter, Option, unwrap_or, slice_get, Vec}
+use Rattle.std.specs.Prelude.{ℕ, Bool, ◌&&◌, nat_le, nat_lt, nat_eq, List, [], map, filter, Option, unwrap_or, slice_get, get_or, zero, suc, None, Vec}
 use Rattle.std.specs.Option.{option_map_or, option_and_then}
 use Rattle.std.specs.List.{find, slice_index_or}
 use Rattle.std.specs.Map.{lookup}
@@ -10,19 +10,29 @@ use Rattle.std.specs.declared.alloc.Global.{Global}
 use Rattle.scenario.specs.declared.settings.Link.{Link}
 use Rattle.scenario.specs.declared.settings.Slow.{Slow}
 use Rattle.scenario.specs.declared.spells.Spell.{Spell}
+use Rattle.links.specs.declared.routes.Routes.{Routes}
 use Rattle.links.specs.declared.spans.times.SlowSpan.{SlowSpan}
 
 -- pairs of groups are in order of the sender's, then of the receiver's
 abbrev pub pair_cmp : ℕ × ℕ → ℕ × ℕ → Ordering
 pair_cmp a b = ordering_then (nat_cmp a.0 b.0) (nat_cmp a.1 b.1)
 
+-- the number of the path from one group to another, 0 if none names them: in the sender's row, at the receiver's place
+abbrev pub number_in : List (Vec ℕ Global) → ℕ → ℕ → ℕ
+number_in rows from to = option_map_or (λ row. get_or row.items to 0) (slice_get rows from) 0
+
+-- the link of the path with this number, counted from 1
+unfoldable pub numbered : List Link → ℕ → Option Link
+numbered links zero = None
+numbered links (suc k) = slice_get links k
+
 -- the link from one group to another, if a path names them
-abbrev pub route : List ((ℕ × ℕ) × Link) → ℕ → ℕ → Option Link
-route routes from to = lookup (is_at (pair_cmp (from, to))) routes
+abbrev pub route : Routes → ℕ → ℕ → Option Link
+route routes from to = numbered routes.links.items (number_in routes.rows.items from to)
 
 -- the link from one member to another, by the numbers of their groups, else the link of all pairs
-abbrev pub link_of_pair : List ℕ → Link → List ((ℕ × ℕ) × Link) → ℕ → ℕ → Link
-link_of_pair groups link routes i j = unwrap_or (option_and_then (λ from. option_and_then (λ to. route routes from to) (slice_get groups j)) (slice_get groups i)) link
+abbrev pub link_of_pair : List ℕ → Link → (ℕ → ℕ → Option Link) → ℕ → ℕ → Link
+link_of_pair groups link route_of i j = unwrap_or (option_and_then (λ from. option_and_then (λ to. route_of from to) (slice_get groups j)) (slice_get groups i)) link
 
 -- when and by how much an entry says that its member is slow
 abbrev pub span_of : Slow → SlowSpan

@@ -10,7 +10,7 @@ use crate::table::Links;
 pub(crate) fn least_delay(links: &Links) -> Option<u64>
     ensures { IsLeast (λ i j. (link_at links.now i j).delay) (length links.now.groups.items) result }
 {
-    if links.routes.is_empty() {
+    if links.routes.links.is_empty() {
         return common_delay(links);
     }
     let mut least = None;
@@ -24,7 +24,7 @@ pub(crate) fn least_delay(links: &Links) -> Option<u64>
 
 /// The delay of all pairs where no path is named, if there is a pair.
 fn common_delay(links: &Links) -> Option<u64>
-    requires { length links.now.routes.entries ≡ 0 }
+    requires { length links.now.routes.links.items ≡ 0 }
     ensures { IsLeast (λ i j. (link_at links.now i j).delay) (length links.now.groups.items) result }
 {
     if links.groups.len() < 2 {

@@ -6,7 +6,7 @@ ghost use Rattle.std.specs.List.{range_with_len};
 ghost use Rattle.streams.specs.Draw.{words_of};
 ghost use Rattle.scenario.specs.Setup.{Setup, member_count, group_at, link_between, IsSoundLink};
 ghost use Rattle.links.specs.Arrival.{arrival_of, AreLinksOf};
-ghost use Rattle.links.specs.Entries.{link_of_pair, outages_of_pair};
+ghost use Rattle.links.specs.Entries.{link_of_pair, route, outages_of_pair};
 ghost use Rattle.links.specs.Table.{link_at, extra_at, is_cut_at};
 ghost use Rattle.links.specs.Least.{IsDelayOfAPair, IsNoGreater};
 
@@ -100,11 +100,11 @@ impl Links {
 
     /// The link of the last path from one member's group to the other's.
     fn route(&self, from: usize, to: usize) -> Option<&Link>
-        ensures { (link : _) → unwrap_or (option_copied result) link ≡ link_of_pair self.now.groups.items link self.now.routes.entries from to }
+        ensures { (link : _) → unwrap_or (option_copied result) link ≡ link_of_pair self.now.groups.items link (route self.now.routes) from to }
     {
         let from = self.groups.get(from)?;
         let to = self.groups.get(to)?;
-        self.routes.get(&(*from, *to))
+        self.routes.link(*from, *to)
     }
 
     /// Whether the link from one member to another is cut at a moment.

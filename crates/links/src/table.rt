@@ -1,8 +1,9 @@
 //! The table of a scenario's links, from which the way of a message between two members is looked up without memory.
 ghost use Rattle.std.specs.Prelude.{ℕ, ◌≤◌, ◌^◌};
 ghost use Rattle.scenario.specs.Setup.{IsSoundLink};
-ghost use Rattle.links.specs.Entries.{link_of_pair, spans_in, extra_in};
+ghost use Rattle.links.specs.Entries.{link_of_pair, route, spans_in, extra_in};
 
+use crate::routes::Routes;
 use crate::spans::SlowTimes;
 use scenario::{Link, Spells};
 use std::collections::BTreeMap;
@@ -16,7 +17,7 @@ pub struct Links {
     /// The link of members whose groups no path names.
     pub(crate) link: Link,
     /// The link from one group to another, by the last path that names them.
-    pub(crate) routes: BTreeMap<(usize, usize), Link>,
+    pub(crate) routes: Routes,
     /// The times in which each member is slow. Members past the last slow one have no place.
     pub(crate) spans: Vec<SlowTimes>,
     /// The times in which the link from one group to another is cut.
@@ -26,6 +27,6 @@ pub struct Links {
     /// After how many ticks is sent again what was lost of a stream.
     pub(crate) again: u64,
     ghost waits_sound: { (connect ≤ 2 ^ 24) × (again ≤ 2 ^ 24) },
-    ghost links_sound: { (i j : ℕ) → IsSoundLink (link_of_pair groups.items link routes.entries i j) },
+    ghost links_sound: { (i j : ℕ) → IsSoundLink (link_of_pair groups.items link (route routes) i j) },
     ghost extras_sound: { (m t : ℕ) → extra_in (spans_in spans.items m) t ≤ 2 ^ 24 },
 }

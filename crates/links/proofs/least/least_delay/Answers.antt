@@ -1,6 +1,7 @@
-use Rattle.std.proofs.Common.{◌≡◌, ℕ, ◌+◌, arith, length, Option, Some, ap, sym, ◌∙◌, subst}
+use Rattle.std.proofs.Common.{◌≡◌, ℕ, ◌+◌, arith, length, ap, sym, ◌∙◌, subst}
 use Rattle.links.specs.Table.{link_at}
-use Rattle.links.specs.Least.{IsLeastBelow, lesser_of, is_third, is_other}
+use Rattle.links.specs.Entries.{route}
+use Rattle.links.specs.Least.{IsLeastBelow, is_third, is_other}
 use Rattle.links.proofs.Search.{gone_on, passed_over}
 use Rattle.links.proofs.Pairs.{least_of_all}
 use Rattle.links.proofs.least.least_delay.Goals as goal
@@ -22,5 +23,5 @@ loop-from-preserved c =
 
 pub returns : goal.returns
 returns c =
-    least_of_all c.args.links.now.groups.items c.args.links.now.link c.args.links.now.routes.entries c.loop-from.from c.loop-from.least
+    least_of_all c.args.links.now.groups.items c.args.links.now.link (route c.args.links.now.routes) c.loop-from.from c.loop-from.least
     (omega (arith, c.loop-from-test.false, c.loop-from.auto.from-end, c.len-from-end.ensures)) c.loop-from.invariant

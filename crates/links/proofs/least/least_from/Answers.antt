@@ -1,4 +1,4 @@
-use Rattle.std.proofs.Common.{◌≡◌, ℕ, Bool, ◌+◌, true, false, Some, ap, sym, ◌∙◌, subst}
+use Rattle.std.proofs.Common.{◌≡◌, ℕ, Bool, ◌+◌, Some, ap, sym, ◌∙◌, subst}
 use Rattle.links.specs.Table.{link_at}
 use Rattle.links.specs.Least.{IsLeastFrom, lesser_of, is_other}
 use Rattle.links.proofs.Search.{taken, left_out}

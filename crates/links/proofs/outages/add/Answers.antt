@@ -1,6 +1,5 @@
-use Rattle.std.proofs.Common.{◌≡◌, ℕ, ap, subst, refl}
+use Rattle.std.proofs.Common.{ap, subst, refl}
 use Rattle.std.specs.Option.{IsSome}
-use Rattle.links.specs.Entries.{outages_in}
 use Rattle.links.proofs.Maps.{others_kept, others_first, always}
 use Rattle.links.proofs.outages.add.Goals as goal
 

@@ -1,6 +1,17 @@
-use Rattle.links.proofs.Maps.{routes_more}
+use Rattle.std.proofs.Common.{◌≡◌, length, arith, rules}
+use Rattle.links.proofs.Maps.{routes_more, number_small, no_number, no_path}
 use Rattle.links.proofs.routes.routes_of.Goals as goal
 
+pub loop-path-init : goal.loop-path-init
+loop-path-init c = record {
+  small = λ from to. let none = no_number c.new.result.items from to c.new.ensures.items in omega (arith, none);
+  last = λ link from to. no_path c.new.result.items c.new-2.result.items link from to c.new.ensures.items;
+}
+
 pub loop-path-preserved : goal.loop-path-preserved
-loop-path-preserved c = λ link from to.
-    routes_more c.loop-path.routes.entries _ c.args.paths.now c.loop-path.path-index _ link from to c.loop-path-test.true c.in_ok-insert.ensures.updates.0 (c.loop-path.invariant link from to)
+loop-path-preserved c = let counted : c.len.result ≡ length c.push.new.self.items = search rules in record {
+  small = λ from to. number_small c.loop-path.routes.rows.items c.number_path.new.rows.items c.loop-path.routes.links.items c.push.new.self.items _ _ c.len.result from to
+      c.in_ok-push.ensures.items counted (c.in_ok-number_path.ensures from to) (c.loop-path.invariant.small from to);
+  last = λ link from to. routes_more c.loop-path.routes.rows.items c.number_path.new.rows.items c.loop-path.routes.links.items c.push.new.self.items c.args.paths.now c.loop-path.path-index _ c.len.result
+      link from to c.loop-path-test.true c.in_ok-push.ensures.items counted (c.in_ok-number_path.ensures from to) (c.loop-path.invariant.small from to) (c.loop-path.invariant.last link from to);
+}

@@ -1,4 +1,4 @@
-use Rattle.std.proofs.Common.{◌≡◌, ◌-◌, get_or, arith}
+use Rattle.std.proofs.Common.{◌-◌, get_or, arith}
 use Rattle.std.proofs.lemmas.List.{get_or_default}
 use Rattle.links.proofs.SlowOnes.{some_span, none_begun, last_covers, last_over}
 use Rattle.links.proofs.spans.times.extra_of_last.Goals as goal

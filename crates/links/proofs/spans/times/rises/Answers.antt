@@ -1,4 +1,4 @@
-use Rattle.std.proofs.Common.{◌≤◌, ◌++◌, ◌∷◌, [], arith}
+use Rattle.std.proofs.Common.{◌++◌, ◌∷◌, [], arith}
 use Rattle.std.proofs.lemmas.Bool.{leb-true}
 use Rattle.links.specs.SlowTimes.{Rise}
 use Rattle.links.proofs.SlowOnes.{rise_more, past_by_last, on_true}

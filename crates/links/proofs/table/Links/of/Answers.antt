@@ -2,16 +2,17 @@ use Rattle.std.proofs.Common.{◌≤◌, ◌^◌, ap, ◌∙◌, length, subst, 
 use Rattle.std.proofs.lemmas.List.FromFn.{length-map-range_with_len}
 use Rattle.scenario.specs.Setup.{group_at, member_count}
 use Rattle.scenario.specs.declared.settings.Stream.{Stream}
+use Rattle.links.specs.Entries.{route}
 use Rattle.links.proofs.Served.{routes_of_all, spans_of_all, outages_of_all, links_are, links_sound, cuts_are, extras_are, extras_small}
 use Rattle.links.proofs.table.Links.of.Goals as goal
 
 pub invariant_of-result : goal.invariant_of-result
 invariant_of-result c =
     let s = c.args.scenario.now in
-    let last = routes_of_all s c.paths.result.now c.in_ok-routes_of.field-0.entries c.paths.ensures c.in_ok-routes_of.ensures in
+    let last = routes_of_all s c.paths.result.now (route c.in_ok-routes_of.field-0) c.paths.ensures c.in_ok-routes_of.ensures in
     let kept = spans_of_all s c.slows.result.now c.in_ok-spans_of.field-0.items c.slows.ensures c.in_ok-spans_of.ensures in
     record {
-      links_sound = links_sound s c.in_ok-groups_of.field-0.items c.link.result c.in_ok-routes_of.field-0.entries c.in_ok-groups_of.ensures c.link.ensures.value last c.link.ensures.sound;
+      links_sound = links_sound s c.in_ok-groups_of.field-0.items c.link.result (route c.in_ok-routes_of.field-0) c.in_ok-groups_of.ensures c.link.ensures.value last c.link.ensures.sound;
       waits_sound = (
         subst (λ (x : Stream). x.connect ≤ 2 ^ 24) (sym c.stream-stream.ensures.value) c.stream-stream.ensures.sound.connect.1,
         subst (λ (x : Stream). x.again ≤ 2 ^ 24) (sym c.stream-stream.ensures.value) c.stream-stream.ensures.sound.again.1,
@@ -22,13 +23,13 @@ invariant_of-result c =
 pub returns : goal.returns
 returns c =
     let s = c.args.scenario.now in
-    let last = routes_of_all s c.paths.result.now c.in_ok-routes_of.field-0.entries c.paths.ensures c.in_ok-routes_of.ensures in
+    let last = routes_of_all s c.paths.result.now (route c.in_ok-routes_of.field-0) c.paths.ensures c.in_ok-routes_of.ensures in
     let kept = spans_of_all s c.slows.result.now c.in_ok-spans_of.field-0.items c.slows.ensures c.in_ok-spans_of.ensures in
     let cuts = outages_of_all s c.cuts.result.now c.in_ok-outages_of.field-0.entries c.cuts.ensures.value c.in_ok-outages_of.ensures in
     record {
       members = ap length c.in_ok-groups_of.ensures ∙ length-map-range_with_len (group_at s.groups) 0 (member_count s);
       some = c.link.ensures.sound.members.0;
-      links = links_are s c.in_ok-groups_of.field-0.items c.link.result c.in_ok-routes_of.field-0.entries c.in_ok-groups_of.ensures c.link.ensures.value last;
+      links = links_are s c.in_ok-groups_of.field-0.items c.link.result (route c.in_ok-routes_of.field-0) c.in_ok-groups_of.ensures c.link.ensures.value last;
       cuts = cuts_are s c.in_ok-groups_of.field-0.items c.in_ok-outages_of.field-0.entries c.in_ok-groups_of.ensures cuts;
       extras = extras_are s c.in_ok-spans_of.field-0.items kept;
       connect = ap (λ (x : Stream). x.connect) c.stream-stream.ensures.value;
