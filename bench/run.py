@@ -6,7 +6,9 @@
 The program is the one that ./swimsim has built, or FILE; nothing is built here. Each scenario simulates S seconds
 (10 without it), a tick being a millisecond. WORDS, such as --workers 4, are handed on to the program.
 With --entries each line is a quiet cluster of 300 members with N entries of one kind: pauses, slow times, or cuts. They lie past
-the end, or each is met. A pause of 24,000 entries that touch, and 4,096 groups of one member up to moment 0, follow.
+the end, or each is met. A pause of 24,000 entries that touch follows; then 100 groups of three members with a path for each of
+9,900 pairs, 4,096 members that crash or leave past the end, and 4,096 groups of one member up to moment 0. Each is compared
+with the same cluster without the entries, by the least processor time of three runs.
 
 A new process begins as a copy of this script, so peak memory below the script's own isn't seen, and is printed as <14 or so.
 
@@ -17,7 +19,9 @@ of a run; those of the same run up to moment 0 are subtracted, and printed in th
 """
 
 import argparse
+import math
 import os
+import resource
 import shutil
 import subprocess
 import sys
@@ -83,10 +87,22 @@ def touching_pauses(entries, end):
     return text + ''.join(ENTRIES['pause'].format(member=0, at=at, over=at + 1) for at in range(1, entries + 1))
 
 
-def lone_members(groups):
-    """So many groups of one member, up to moment 0."""
-    text = quiet_cluster(1, 0).replace('version = 1', 'version = 2')
-    return text + ''.join(f'[[group]]\nname = "g{number}"\ncount = 1\n' for number in range(1, groups))
+def groups_of(groups, members, end):
+    """So many groups of so many members."""
+    text = quiet_cluster(members, end).replace('version = 1', 'version = 3')
+    return text + ''.join(item('group', name=f'g{number}', count=members) for number in range(1, groups))
+
+
+def with_paths(groups, members, end):
+    """The same, with a path like the link for each two groups."""
+    names = ['n'] + [f'g{number}' for number in range(1, groups)]
+    paths = (item('path', from_=one, to=other, delay=1, jitter=4) for one in names for other in names if one != other)
+    return groups_of(groups, members, end) + ''.join(paths)
+
+
+def with_ends(kind, members, end):
+    """One group in which each member crashes or leaves past the end."""
+    return groups_of(1, members, end) + ''.join(item(kind, member=f'n-{number}', at=end + 1) for number in range(members))
 
 
 # what cachegrind simulates: else it takes the sizes of this machine's caches
@@ -184,18 +200,39 @@ def print_counts(name, program, words, sizes, end, folder):
     print()
 
 
-def print_entries(program, words, entries, end, folder):
-    print(f'quiet cluster of 300 members, {end // 1000} s simulated')
-    print(f'{"entries":>16}{"number":>8}{"rows":>11}{"seconds":>10}   of those with none')
-    rows, none, _ = measure_run(program, words, with_entries('pause', 0, 0, 0, end), folder)
-    print(f'{"none":>16}{0:>8}{rows:>11}{none:>10.2f}', flush=True)
-    texts = [(f'{kind}, {when}', entries, with_entries(kind, entries, first, step, end))
+def processor_time(program, words, text, folder):
+    """The rows of a run of the scenario, and the least processor seconds of three."""
+    rows, least = 0, math.inf
+    for _ in range(3):
+        before = resource.getrusage(resource.RUSAGE_CHILDREN)
+        rows, _, _ = measure_run(program, words, text, folder)
+        after = resource.getrusage(resource.RUSAGE_CHILDREN)
+        least = min(least, after.ru_utime + after.ru_stime - before.ru_utime - before.ru_stime)
+    return rows, least
+
+
+def entries_of(entries, end):
+    """Each cluster without entries, and what it has with them: a name, how many entries, and the text."""
+    timed = [(f'{kind}, {when}', entries, with_entries(kind, entries, first, step, end))
              for kind in ENTRIES
              for when, first, step in (('late', end + 1, 2), ('met', 1, max(2, end // max(1, entries))))]
-    texts += [('touching pauses', 24000, touching_pauses(24000, end)), ('groups', 4096, lone_members(4096))]
-    for name, number, text in texts:
-        rows, seconds, _ = measure_run(program, words, text, folder)
-        print(f'{name:>16}{number:>8}{rows:>11}{seconds:>10.2f}   x{seconds / none:.2f}', flush=True)
+    timed.append(('touching pauses', 24000, touching_pauses(24000, end)))
+    yield 'none, 300', with_entries('pause', 0, 0, 0, end), timed
+    yield 'none, 100 groups', groups_of(100, 3, end), [('paths', 9900, with_paths(100, 3, end))]
+    ends = [(f'{kind}, late', 4096, with_ends(kind, 4096, end // 10)) for kind in ('crash', 'leave')]
+    yield 'none, 4096', groups_of(1, 4096, end // 10), ends
+    yield 'none, moment 0', groups_of(1, 4096, 0), [('groups', 4096, groups_of(4096, 1, 0))]
+
+
+def print_entries(program, words, entries, end, folder):
+    print(f'quiet clusters, {end // 1000} s simulated (a tenth of it with 4096 members)')
+    print(f'{"entries":>16}{"number":>8}{"rows":>11}{"seconds":>10}   of those with none')
+    for name, plain, texts in entries_of(entries, end):
+        rows, none = processor_time(program, words, plain, folder)
+        print(f'{name:>16}{0:>8}{rows:>11}{none:>10.2f}', flush=True)
+        for name, number, text in texts:
+            rows, seconds = processor_time(program, words, text, folder)
+            print(f'{name:>16}{number:>8}{rows:>11}{seconds:>10.2f}   x{seconds / none:.2f}', flush=True)
 
 
 def main():
