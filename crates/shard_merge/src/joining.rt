@@ -37,9 +37,9 @@ pub struct Joined {
 /// only shard, goes to the sink, and what they are of is given. After a fault the sink may have got lines.
 ///
 /// Faults: `NoShard`, `Other`, `Doubled` or `Torn` with the place of a text that isn't a shard, is one of another sweep
-/// than the first, is there already, or isn't whole; `Older` with that of one
-/// whose lines have no checksums; `Missing` with the number of a shard that isn't there; `Write` where
-/// the sink failed; `Memory`.
+/// than the first, is there already, or isn't whole, or whose lines haven't the seed of the first run where none is asked for;
+/// `Older` with that of one whose lines have no checksums; `Missing` with the number of a shard that isn't there; `Write`
+/// where the sink failed; `Memory`.
 pub fn join<S: Sink>(alloc: Global, texts: &[Vec<u8>], table: &mut S) -> Result<Joined, JoinFault>
     requires { S.failed table.old < 2 ^ 63 }
     ensures joined { IfOk result (λ joined. Joins texts.now (S.held table.old) (S.held table.new) joined.plan joined.revived joined.settings.items) }
