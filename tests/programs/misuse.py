@@ -394,16 +394,30 @@ def disagreeing(uses, room, whole):
             judge_damages(uses, folder, f'with another {told} in line {place + 1}', [b''.join([header, *lines_then])], [], words, text)
     same = b''.join([header, *(summed(header, line.split(b' ', 1)[1]) for line in lines)])
     uses.judge('the checksums of this test are those of the table', same == text, same)
-    asked = ['--set', 'swim.period=1000,1100', '--shard', '1/1', '--resume', '--table']
-    uses.call(folder, ['sweep', 's.toml', *asked, 'own'])
-    text = (folder / 'own').read_bytes()
-    header, *lines = text.splitlines(keepends=True)
-    changed = [line.replace(b',7,', b',8,', 1) for line in (line.split(b' ', 1)[1] for line in lines)]
-    for place, line in enumerate(changed):
-        (folder / 't').write_bytes(b''.join([header, *lines[:place], summed(header, line), *lines[place + 1:]]))
-        left = uses.call(folder, ['sweep', 's.toml', *asked, 't'])
-        is_well = left == (0, b'', b'') and (folder / 't').read_bytes() == text != b''.join([header, summed(header, line)])
-        uses.judge(f'a line {place + 1} with another seed than the text is made again', is_well, left)
+    own_seeds(uses, folder)
+
+
+def own_seeds(uses, folder):
+    """Tables made without `--seeds` of which a line has the right checksum, but another seed than the other lines; with a width, and without."""
+    for until, told in (([], ''), (['--until', '30'], ' and a width')):
+        asked = ['--set', 'swim.period=1000,1100', *until, '--table']
+        for shard in ('1/1', '1/2', '2/2'):
+            uses.call(folder, ['sweep', 's.toml', '--shard', shard, *asked, f'{shard[0]}-{shard[2]}.csv'])
+        for name, others in (('1-1', []), ('2-2', ['1-2.csv'])):
+            words = ['sweep', 's.toml', '--resume', '--shard', name.replace('-', '/'), *asked]
+            text = (folder / f'{name}.csv').read_bytes()
+            judge_damages(uses, folder, f'{name} with another seed{told}', with_other_seeds(text)[0], others, words, text)
+        same = with_other_seeds((folder / '1-1.csv').read_bytes())[1]
+        (folder / 't').write_bytes(same)
+        left = uses.call(folder, ['join', 't', '--table', 'joined'])
+        uses.judge(f'a table of one seed, whichever it is{told}', left[0] == 0 and (folder / 'joined').read_bytes() == same, left)
+
+
+def with_other_seeds(table):
+    """The table with another seed in each of its lines, one by one, and with that seed in all of them."""
+    header, *lines = table.splitlines(keepends=True)
+    changed = [summed(header, line.split(b' ', 1)[1].replace(b',7,', b',8,', 1)) for line in lines]
+    return [b''.join([header, *lines[:place], line, *lines[place + 1:]]) for place, line in enumerate(changed)], b''.join([header, *changed])
 
 
 def changed_cells(line):

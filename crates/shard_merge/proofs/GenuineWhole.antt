@@ -43,10 +43,10 @@ module _ (texts : List (Vec ℕ Global)) (old new : Option (List ℕ)) (own : Sw
   AreThese body = (text : List ℕ) → IsAmongTexts texts text → (q : Shard) × IsShard q × (text ≡ shard_header revived mark sweep q ++ body q)
 
   -- what stands in them is of this sweep
-  are_of : (body : Shard → List ℕ) → AreThese body → (until : Option ℕ) → sweep.until ≡ until → AreOf until (line_key told_so None joins.mark sweep) sweep joins.put.body settings
+  are_of : (body : Shard → List ℕ) → AreThese body → (until : Option ℕ) → sweep.until ≡ until → AreOf until (line_key told_so (Some joins.seed) joins.mark sweep) sweep joins.put.body settings
   are_of body genuine until wanted =
-      subst (λ o. AreOf o (line_key told_so None joins.mark sweep) sweep joins.put.body settings) wanted
-      (subst (λ (s : Sweep). AreOf s.until (line_key told_so None joins.mark s) s joins.put.body settings) (one_sweep texts old new own told_so settings mark revived sweep joins marked asked body genuine) joins.put.are)
+      subst (λ o. AreOf o (line_key told_so (Some joins.seed) joins.mark sweep) sweep joins.put.body settings) wanted
+      (subst (λ (s : Sweep). AreOf s.until (line_key told_so (Some joins.seed) joins.mark s) s joins.put.body settings) (one_sweep texts old new own told_so settings mark revived sweep joins marked asked body genuine) joins.put.are)
 
   -- ---- each setting with each seed
 
@@ -57,7 +57,7 @@ module _ (texts : List (Vec ℕ Global)) (old new : Option (List ℕ)) (own : Sw
     each_genuine : AreThese body
     each_genuine text among = let its = genuine text among in (its.0, its.1, its.3)
 
-    are : AreOf None (line_key told_so None joins.mark sweep) sweep joins.put.body settings
+    are : AreOf None (line_key told_so (Some joins.seed) joins.mark sweep) sweep joins.put.body settings
     are = are_of body each_genuine None none
 
     abbrev lines : List Line
@@ -107,7 +107,7 @@ module _ (texts : List (Vec ℕ Global)) (old new : Option (List ℕ)) (own : Sw
     abbrev Own : List Line → Type 0
     Own = IsSetting width (seed_count sweep.seeds)
 
-    are_settings : AreOf (Some width) (line_key told_so None joins.mark sweep) sweep joins.put.body settings
+    are_settings : AreOf (Some width) (line_key told_so (Some joins.seed) joins.mark sweep) sweep joins.put.body settings
     are_settings = are_of body_of_settings each_of_settings (Some width) wanted
 
     abbrev true_settings : List (List Line)

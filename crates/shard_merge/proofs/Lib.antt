@@ -5,6 +5,7 @@ pub mod Heads
 pub mod Numbered
 pub mod PlacesMore
 pub mod Shares
+pub mod FirstRun
 pub mod ShardsMore
 pub mod Wholes
 pub mod GenuineHeads

@@ -1,6 +1,7 @@
 -- Which text is which shard, one text more at a time, and why texts aren't the shards of a sweep.
 use Rattle.std.proofs.Common.{◌≡◌, ◌≢◌, ◌<◌, ◌≤◌, ◌+◌, ℕ, Bool, true, false, List, ◌++◌, length, get_or, set, replicate, inr, refl, sym, ap, subst, ◌∙◌, append_assoc, arith}
 use Rattle.std.specs.Prelude.{Option, Some, None, Vec, nat_eq, nat_lt}
+use Rattle.std.specs.Option.{ForSome}
 use Rattle.std.specs.declared.alloc.Global.{Global}
 use Rattle.std.proofs.lemmas.Bool.Decides.{nat_tests}
 use Rattle.std.proofs.lemmas.List.{get_or-replicate, get_or-set_same, get_or-set_other, get_or_past, length-replicate, length-set}
@@ -15,6 +16,7 @@ use Rattle.shard_merge.specs.declared.fault.JoinFault.{JoinFault}
 use Rattle.shard_merge.specs.declared.fault.JoinFault.TheVariants as fault
 use Rattle.sweep.specs.Sums.{IsOlder, line_key}
 use Rattle.shard_merge.specs.Among.{IsAmongTexts, shard_at}
+use Rattle.shard_merge.specs.Joined.{IsFirstSeed}
 use Rattle.shard_merge.specs.Reasons.{AreIts, ArePlaces, BeginsAs, IsBehind, IsDoubled, IsFirst, IsMissing, IsOlderAt, IsNoShard, IsOfSink, IsOther, IsReason, IsTextAt, IsTorn, RefusesLines, RefusesPlace, RefusesText}
 use Rattle.shard_merge.proofs.SameSweep.{same_heads}
 
@@ -168,8 +170,9 @@ module _ (texts : List (Vec ℕ Global)) (mark : List ℕ) (revived : Bool) (swe
 
     -- a text whose lines aren't those of its shard
     module _ (number place : ℕ) (rest : List ℕ) (behind : IsBehind texts mark revived sweep p.of places number place rest) where
-      pub torn : (at : ℕ) → at ≡ place → ¬ (AreIts sweep.until (line_key revived None mark sweep) sweep (shard_at number p.of) rest) → IsTorn texts at
-      torn at same not =
+      pub torn : (at : ℕ) (seed : Option ℕ) → at ≡ place → ForSome seed (IsFirstSeed texts mark revived sweep p.of)
+          → ¬ (AreIts sweep.until (line_key revived seed mark sweep) sweep (shard_at number p.of) rest) → IsTorn texts at
+      torn at seed same first_seed not =
           let held = are.held number place behind.found in
           let its = held.1.2 in
           subst (IsTorn texts) (sym same) (record {
@@ -180,6 +183,8 @@ module _ (texts : List (Vec ℕ Global)) (mark : List ℕ) (revived : Bool) (swe
             text = behind.text;
             there = behind.there;
             begins = record { asked = its.asked; marked = its.marked; sound = its.sound; rest = rest; written = behind.written };
+            seed = seed;
+            first = first_seed;
             torn = not;
           })
 
@@ -204,7 +209,8 @@ module _ (texts : List (Vec ℕ Global)) (mark : List ℕ) (revived : Bool) (swe
     lines_reason number place text found there (fault.Older at) h =
         subst (IsOlderAt texts) (sym h.0) (of_before number place h.1.0 (record { found = found; text = text; there = there; written = h.1.1 }) h.1.2)
     lines_reason number place text found there (fault.Torn at) h =
-        torn number place h.1.0 (record { found = found; text = text; there = there; written = h.1.1 }) at h.0 (λ its. h.1.2 its.encoded)
+        torn number place h.1.0 (record { found = found; text = text; there = there; written = h.1.1 }) at None h.0 (λ k one. absurd (none-some k one))
+        (λ its. h.1.2 its.encoded)
     lines_reason number place text found there fault.Memory h = tt
     lines_reason number place text found there fault.Write h = absurd h
     lines_reason number place text found there (fault.NoShard at) h = absurd h

@@ -83,10 +83,10 @@ module _ {X : Type 0} (Sound : X → Type 0) (text_of : X → List ℕ) (total :
           (subst (λ l. IsAmongTexts texts (shard_header revived mark sweep (shard_at number of) ++ l)) (are.written ∙ ap (flat_map text_of) (sym behind)) here)
 
   -- all shards
-  joined : (Holds Sums : List X → Type 0) (old new : Option (List ℕ)) → 0 < of → (all : Shards Holds of old new) → Sums all.things → (until : Option ℕ) (settings : List SettingSummary)
-      → (length all.things ≡ total → length settings ≡ setting_count sweep.swept_keys) → ((body : Shard → List ℕ) → AreShared Sound text_of total Sums body → AreOf until (line_key revived None mark sweep) sweep body settings)
-      → JoinsBehind [] texts mark revived sweep of old new until settings
-  joined Holds Sums old new some all sums until settings each so =
+  joined : (seed : ℕ) (Holds Sums : List X → Type 0) (old new : Option (List ℕ)) → 0 < of → (all : Shards Holds of old new) → Sums all.things → (until : Option ℕ) (settings : List SettingSummary)
+      → (length all.things ≡ total → length settings ≡ setting_count sweep.swept_keys) → ((body : Shard → List ℕ) → AreShared Sound text_of total Sums body → AreOf until (line_key revived (Some seed) mark sweep) sweep body settings)
+      → JoinsBehind [] texts mark revived seed sweep of old new until settings
+  joined seed Holds Sums old new some all sums until settings each so =
       let many : length all.things ≡ total = all.many ∙ whole_share of total some in
       let body : Shard → List ℕ = λ p. flat_map text_of (share_of total p all.things) in
       record {
@@ -99,12 +99,12 @@ module _ {X : Type 0} (Sound : X → Type 0) (text_of : X → List ℕ) (total :
 
 -- ---- runs' lines, or settings
 
-module _ (texts : List (Vec ℕ Global)) (mark : List ℕ) (revived : Bool) (sweep : Sweep) (of : ℕ) where
+module _ (texts : List (Vec ℕ Global)) (mark : List ℕ) (revived : Bool) (seed : ℕ) (sweep : Sweep) (of : ℕ) where
   abbrev each : ℕ
   each = seed_count sweep.seeds
 
   abbrev key : LineKey
-  key = line_key revived None mark sweep
+  key = line_key revived (Some seed) mark sweep
 
   abbrev Gathered : Told → List Line → Type 0
   Gathered told lines = IsGathered each (notes_of lines) told.gathering × ArePlaced key sweep lines
@@ -145,14 +145,14 @@ module _ (texts : List (Vec ℕ Global)) (mark : List ℕ) (revived : Bool) (swe
       (both_settings key sweep width 0 (length own) (length more) (flat_map shard_setting own) (flat_map shard_setting more) placed behind))
 
   pub none_joined : (until : Option ℕ) (held : Option (List ℕ)) (told : Told) → 0 < of → IsGathered each [] told.gathering → told.settings.items ≡ []
-      → JoinsShards until texts mark revived sweep of 0 held held told
+      → JoinsShards until texts mark revived seed sweep of 0 held held told
   none_joined None held told some fresh none = no_shard IsLine shard_line (run_count sweep) texts mark revived sweep of (Gathered told) held some (fresh, no_lines key sweep 0 [])
   none_joined (Some width) held told some fresh none =
       no_shard (IsSetting width each) shard_setting (setting_count sweep.swept_keys) texts mark revived sweep of (SummedUp width told.settings.items) held some
       (subst (λ settings. AllZip SumsUpLines [] settings) (sym none) tt, no_settings key sweep width 0 [])
 
-  pub one_joined : (until : Option ℕ) (number : ℕ) (old mid new : Option (List ℕ)) (between after : Told) → number < of → JoinsShards until texts mark revived sweep of number old mid between
-      → JoinsShard until texts mark revived sweep of number mid new between after → JoinsShards until texts mark revived sweep of (number + 1) old new after
+  pub one_joined : (until : Option ℕ) (number : ℕ) (old mid new : Option (List ℕ)) (between after : Told) → number < of → JoinsShards until texts mark revived seed sweep of number old mid between
+      → JoinsShard until texts mark revived seed sweep of number mid new between after → JoinsShards until texts mark revived seed sweep of (number + 1) old new after
   one_joined None number old mid new between after within so one =
       let are = one.read.0.are in
       let more = are.items in
@@ -169,13 +169,13 @@ module _ (texts : List (Vec ℕ Global)) (mark : List ℕ) (revived : Bool) (swe
         settings_more width number so.things more one.body so.many so.holds.1 read.are.written read.are.many one.read.1,
       )
 
-  pub all_joined : (until : Option ℕ) (old new : Option (List ℕ)) (told : Told) (settings : List SettingSummary) → 0 < of → JoinsShards until texts mark revived sweep of of old new told
-      → settings ≡ summaries_told until told → JoinsBehind [] texts mark revived sweep of old new until settings
+  pub all_joined : (until : Option ℕ) (old new : Option (List ℕ)) (told : Told) (settings : List SettingSummary) → 0 < of → JoinsShards until texts mark revived seed sweep of of old new told
+      → settings ≡ summaries_told until told → JoinsBehind [] texts mark revived seed sweep of old new until settings
   all_joined None old new told settings some all same =
-      joined IsLine shard_line (run_count sweep) texts mark revived sweep of (Gathered told) (λ lines. SumUp each (notes_of lines) settings × ArePlaced key sweep lines) old new some all
+      joined IsLine shard_line (run_count sweep) texts mark revived sweep of seed (Gathered told) (λ lines. SumUp each (notes_of lines) settings × ArePlaced key sweep lines) old new some all
       (subst (SumUp each (notes_of all.things)) (sym same) all.holds.0.told, all.holds.1) None settings
       (λ long. ap length same ∙ all_through sweep (notes_of all.things) told.gathering (length-map all.things (λ (l : Line). l.note) ∙ long) all.holds.0) (λ body are. are)
   all_joined (Some width) old new told settings some all same =
-      joined (IsSetting width each) shard_setting (setting_count sweep.swept_keys) texts mark revived sweep of (SummedUp width told.settings.items) (SummedUp width settings) old new some all
+      joined (IsSetting width each) shard_setting (setting_count sweep.swept_keys) texts mark revived sweep of seed (SummedUp width told.settings.items) (SummedUp width settings) old new some all
       (subst (λ cs. AllZip SumsUpLines all.things cs) (sym same) all.holds.0, all.holds.1) (Some width) settings
       (λ long. ap length same ∙ sym (zipped_long SumsUpLines all.things told.settings.items all.holds.0) ∙ long) (λ body are. are)

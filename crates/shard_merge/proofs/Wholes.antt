@@ -22,16 +22,17 @@ use Rattle.shard_merge.specs.Joined.{AreOf, IsMark, Joins, JoinsBehind}
 
 -- ---- behind the first line
 
-pub whole_joined : (texts : List (Vec ℕ Global)) (mark : List ℕ) (revived : Bool) (sweep : Sweep) (of : ℕ) (asked : IsAskedFor sweep) (marked : IsMark mark) (some : 1 ≤ of) (few : of ≤ 10000)
-    (old begun full new : Option (List ℕ)) (settings : List SettingSummary) → JoinsBehind [] texts mark revived sweep of begun full sweep.until settings
+pub whole_joined : (texts : List (Vec ℕ Global)) (mark : List ℕ) (revived : Bool) (seed : ℕ) (sweep : Sweep) (of : ℕ) (asked : IsAskedFor sweep) (marked : IsMark mark) (some : 1 ≤ of) (few : of ≤ 10000)
+    (old begun full new : Option (List ℕ)) (settings : List SettingSummary) → JoinsBehind [] texts mark revived seed sweep of begun full sweep.until settings
     → Appends old begun (shard_header revived mark sweep whole) → Keeps full new → Joins texts old new sweep revived settings
-whole_joined texts mark revived sweep of asked marked some few old begun full new settings put head kept = record {
+whole_joined texts mark revived seed sweep of asked marked some few old begun full new settings put head kept = record {
   asked = asked;
   mark = mark;
   marked = marked;
   of = of;
   some = some;
   few = few;
+  seed = seed;
   put = record {
     body = put.body;
     there = put.there;
@@ -56,6 +57,6 @@ few_by : (until : Option ℕ) (key : LineKey) (sweep : Sweep) (body : Shard → 
 few_by None key sweep body settings few are = few_with_all (seed_count sweep.seeds) (notes_of are.things) settings few are.holds.0
 few_by (Some width) key sweep body settings few are = few_with_own width (seed_count sweep.seeds) are.things settings few are.sound are.holds.0
 
-pub few_joined : (texts : List (Vec ℕ Global)) (mark : List ℕ) (revived : Bool) (sweep : Sweep) (of : ℕ) (old new : Option (List ℕ)) (until : Option ℕ) (settings : List SettingSummary) → IsAskedFor sweep
-    → JoinsBehind [] texts mark revived sweep of old new until settings → All HasFewRuns settings
-few_joined texts mark revived sweep of old new until settings asked put = few_by until (line_key revived None mark sweep) sweep put.body settings (few_runs sweep asked) put.are
+pub few_joined : (texts : List (Vec ℕ Global)) (mark : List ℕ) (revived : Bool) (seed : ℕ) (sweep : Sweep) (of : ℕ) (old new : Option (List ℕ)) (until : Option ℕ) (settings : List SettingSummary) → IsAskedFor sweep
+    → JoinsBehind [] texts mark revived seed sweep of old new until settings → All HasFewRuns settings
+few_joined texts mark revived seed sweep of old new until settings asked put = few_by until (line_key revived (Some seed) mark sweep) sweep put.body settings (few_runs sweep asked) put.are

@@ -13,6 +13,11 @@ use Rattle.table_rows.specs.Lines.{AreLines, ReadsLines}
 use Rattle.table_rows.specs.Settings.{AreSettings, AreSettingsOf, ReadsSettings}
 use Rattle.shard_merge.specs.declared.told.Told.{Told}
 
+-- how many things the shards of a sweep share: its runs, or its settings where it has a width
+abbrev pub shared : Option ℕ → Sweep → ℕ
+shared None sweep = run_count sweep
+shared (Some width) sweep = setting_count sweep.swept_keys
+
 -- how many of so many things the shard has, and which of them these are
 abbrev pub share : ℕ → Shard → ℕ
 share total p = past_run p total - first_run p total

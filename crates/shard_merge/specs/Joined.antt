@@ -10,7 +10,7 @@ use Rattle.shards.specs.Shards.{IsShard, whole}
 use Rattle.sweep.specs.Runs.{IsAskedFor}
 use Rattle.sweep.specs.Summaries.{SumUp, IsGathered}
 use Rattle.sweep.specs.Shards.{shard_header}
-use Rattle.sweep.specs.Sums.{AreLinesOf, line_key}
+use Rattle.sweep.specs.Sums.{AreLinesOf, HasLineOf, line_key}
 use Rattle.sweep.specs.declared.summing.LineKey.{LineKey}
 use Rattle.table_rows.specs.Lines.{Line, IsLine, shard_line, notes_of}
 use Rattle.table_rows.specs.Settings.{AreSettingsOf, IsSetting, SumsUpLines, shard_setting}
@@ -23,14 +23,23 @@ pub record IsMark (mark : List ℕ) : Type 0 where
   pub spaceless : All (λ byte. (byte == 32) ≡ false) mark
   pub quoteless : All (λ byte. (byte == 34) ≡ false) mark
 
+-- The line of the sweep's first run has this seed: it stands behind the first line of a shard, one of so many, that is among the texts, and is genuine with it.
+pub record IsFirstSeed (texts : List (Vec ℕ Global)) (mark : List ℕ) (revived : Bool) (sweep : Sweep) (of seed : ℕ) : Type 0 where
+  pub p : Shard
+  pub sound : IsShard p
+  pub one : p.of ≡ of
+  pub body : List ℕ
+  pub there : IsAmongTexts texts (shard_header revived mark sweep p ++ body)
+  pub line : HasLineOf (line_key revived (Some seed) mark sweep) sweep 0 body
+
 -- ---- while shards are put together
 
--- the shard of this number is one of the texts, and what stands behind its first line was read and put
-pub record JoinsShard (until : Option ℕ) (texts : List (Vec ℕ Global)) (mark : List ℕ) (revived : Bool) (sweep : Sweep) (of number : ℕ) (old new : Option (List ℕ))
+-- The shard of this number is one of the texts, and what stands behind its first line was read and put. Its runs have this seed, unless others are asked for.
+pub record JoinsShard (until : Option ℕ) (texts : List (Vec ℕ Global)) (mark : List ℕ) (revived : Bool) (seed : ℕ) (sweep : Sweep) (of number : ℕ) (old new : Option (List ℕ))
     (before after : Told) : Type 0 where
   pub body : List ℕ
   pub there : IsAmongTexts texts (shard_header revived mark sweep (shard_at number of) ++ body)
-  pub read : ReadsBehind until (line_key revived None mark sweep) sweep (shard_at number of) body before after
+  pub read : ReadsBehind until (line_key revived (Some seed) mark sweep) sweep (shard_at number of) body before after
   pub put : Appends old new body
 
 -- The first shards, so many, are among the texts: behind the first line of each stands its share of these things, of which there are so many in the whole.
@@ -52,11 +61,11 @@ abbrev pub ArePlacedSettings : LineKey → Sweep → ℕ → List (List Line) �
 ArePlacedSettings key sweep width own = AreSettingsOf key sweep width 0 (flat_map shard_setting own) (length own)
 
 -- things are the lines of runs, whose notes are gathered, or settings of as many runs as are enough, which are summed up
-abbrev pub JoinsShards : Option ℕ → List (Vec ℕ Global) → List ℕ → Bool → Sweep → ℕ → ℕ → Option (List ℕ) → Option (List ℕ) → Told → Type 0
-JoinsShards None texts mark revived sweep of count old new told =
-    JoinsThings IsLine shard_line (run_count sweep) (λ lines. IsGathered (seed_count sweep.seeds) (notes_of lines) told.gathering × ArePlaced (line_key revived None mark sweep) sweep lines) texts mark revived sweep of count old new
-JoinsShards (Some width) texts mark revived sweep of count old new told =
-    JoinsThings (IsSetting width (seed_count sweep.seeds)) shard_setting (setting_count sweep.swept_keys) (λ own. AllZip SumsUpLines own told.settings.items × ArePlacedSettings (line_key revived None mark sweep) sweep width own) texts mark revived sweep of
+abbrev pub JoinsShards : Option ℕ → List (Vec ℕ Global) → List ℕ → Bool → ℕ → Sweep → ℕ → ℕ → Option (List ℕ) → Option (List ℕ) → Told → Type 0
+JoinsShards None texts mark revived seed sweep of count old new told =
+    JoinsThings IsLine shard_line (run_count sweep) (λ lines. IsGathered (seed_count sweep.seeds) (notes_of lines) told.gathering × ArePlaced (line_key revived (Some seed) mark sweep) sweep lines) texts mark revived sweep of count old new
+JoinsShards (Some width) texts mark revived seed sweep of count old new told =
+    JoinsThings (IsSetting width (seed_count sweep.seeds)) shard_setting (setting_count sweep.swept_keys) (λ own. AllZip SumsUpLines own told.settings.items × ArePlacedSettings (line_key revived (Some seed) mark sweep) sweep width own) texts mark revived sweep of
     count old new
 
 -- ---- all shards
@@ -77,17 +86,17 @@ AreOf (Some width) key sweep body settings =
     AreShared (IsSetting width (seed_count sweep.seeds)) shard_setting (setting_count sweep.swept_keys) (λ own. AllZip SumsUpLines own settings × ArePlacedSettings key sweep width own) body
 
 -- The texts have all shards of the sweep, of so many: each is one of them. What stands behind the first line of its only shard was put behind this front,
--- and there is a summary for each setting.
-pub record JoinsBehind (front : List ℕ) (texts : List (Vec ℕ Global)) (mark : List ℕ) (revived : Bool) (sweep : Sweep) (of : ℕ) (old new : Option (List ℕ))
+-- and there is a summary for each setting. All runs have this seed, unless others are asked for.
+pub record JoinsBehind (front : List ℕ) (texts : List (Vec ℕ Global)) (mark : List ℕ) (revived : Bool) (seed : ℕ) (sweep : Sweep) (of : ℕ) (old new : Option (List ℕ))
     (until : Option ℕ) (settings : List SettingSummary) : Type 0 where
   pub body : Shard → List ℕ
   pub there : (p : Shard) → IsShard p → p.of ≡ of → IsAmongTexts texts (shard_header revived mark sweep p ++ body p)
   pub written : Appends old new (front ++ body whole)
   pub each : length settings ≡ setting_count sweep.swept_keys
-  pub are : AreOf until (line_key revived None mark sweep) sweep body settings
+  pub are : AreOf until (line_key revived (Some seed) mark sweep) sweep body settings
 
 -- The texts have all shards of this sweep, whose tables tell, or don't, of members that were taken for alive again. Its only shard was appended, which is the
--- table of the whole, and these are the summaries of its settings.
+-- table of the whole, and these are the summaries of its settings. There is one seed that all runs have, unless others are asked for.
 pub record Joins (texts : List (Vec ℕ Global)) (old new : Option (List ℕ)) (sweep : Sweep) (revived : Bool) (settings : List SettingSummary) : Type 0 where
   pub asked : IsAskedFor sweep
   pub mark : List ℕ
@@ -95,4 +104,5 @@ pub record Joins (texts : List (Vec ℕ Global)) (old new : Option (List ℕ)) (
   pub of : ℕ
   pub some : 1 ≤ of
   pub few : of ≤ 10000
-  pub put : JoinsBehind (shard_header revived mark sweep whole) texts mark revived sweep of old new sweep.until settings
+  pub seed : ℕ
+  pub put : JoinsBehind (shard_header revived mark sweep whole) texts mark revived seed sweep of old new sweep.until settings

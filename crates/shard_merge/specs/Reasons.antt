@@ -1,5 +1,6 @@
 -- Why texts aren't the shards of one sweep.
 use Rattle.std.specs.Prelude.{◌≡◌, ◌⊎◌, ◌<◌, ◌≤◌, ℕ, Bool, List, [], ◌∷◌, ◌++◌, Option, Some, None, Vec, codes, length, slice_get, get_or}
+use Rattle.std.specs.Option.{ForSome}
 use Rattle.std.specs.Str.{IsUtf8}
 use Rattle.std.specs.declared.alloc.Global.{Global}
 use Rattle.sweep_plan.specs.Sweep.{Sweep}
@@ -13,7 +14,7 @@ use Rattle.sweep.specs.Sums.{IsOlder, line_key}
 use Rattle.sweep.specs.declared.summing.LineKey.{LineKey}
 use Rattle.shard_merge.specs.Among.{shard_at}
 use Rattle.shard_merge.specs.Behind.{AreBehind}
-use Rattle.shard_merge.specs.Joined.{IsMark}
+use Rattle.shard_merge.specs.Joined.{IsFirstSeed, IsMark}
 use Rattle.shard_merge.specs.declared.fault.JoinFault.{JoinFault}
 use Rattle.shard_merge.specs.declared.fault.JoinFault.TheVariants as fault
 
@@ -74,7 +75,8 @@ pub record IsDoubled (texts : List (Vec ℕ Global)) (place : ℕ) : Type 0 wher
   pub there_too : IsTextAt texts earlier other
   pub begins_too : BeginsAs other mark revived sweep p
 
--- the text at this place begins as a shard, but what comes after its first line isn't that of its runs, or settings
+-- The text at this place begins as a shard, but what comes after its first line isn't that of its runs, or settings. Where a seed is named, it isn't that with this
+-- seed, which the line of the sweep's first run has.
 pub record IsTorn (texts : List (Vec ℕ Global)) (place : ℕ) : Type 0 where
   pub mark : List ℕ
   pub revived : Bool
@@ -83,7 +85,9 @@ pub record IsTorn (texts : List (Vec ℕ Global)) (place : ℕ) : Type 0 where
   pub text : List ℕ
   pub there : IsTextAt texts place text
   pub begins : BeginsAs text mark revived sweep p
-  pub torn : ¬ (AreIts sweep.until (line_key revived None mark sweep) sweep p begins.rest)
+  pub seed : Option ℕ
+  pub first : ForSome seed (IsFirstSeed texts mark revived sweep p.of)
+  pub torn : ¬ (AreIts sweep.until (line_key revived seed mark sweep) sweep p begins.rest)
 
 -- the text at this place begins as a shard, and then comes a line without a checksum
 pub record IsOlderAt (texts : List (Vec ℕ Global)) (place : ℕ) : Type 0 where

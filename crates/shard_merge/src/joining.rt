@@ -1,14 +1,15 @@
 //! The shards of a sweep put together.
-ghost use Rattle.std.specs.Prelude.{◌≡◌, ◌<◌, ◌^◌, [], All, IfOk, IfErr, OnOk, length};
+ghost use Rattle.std.specs.Prelude.{◌≡◌, ◌<◌, ◌^◌, ℕ, [], All, IfOk, IfErr, OnOk, length};
 ghost use Rattle.std.specs.Io.KnownBytes.{Appends, Keeps};
 ghost use Rattle.goals.specs.Wants.{HasFewRuns};
 ghost use Rattle.shards.specs.Shards.{whole};
 ghost use Rattle.sweep.specs.Shards.{shard_header};
-ghost use Rattle.shard_merge.specs.Joined.{Joins, JoinsBehind, JoinsShard};
+ghost use Rattle.shard_merge.specs.Joined.{IsFirstSeed, Joins, JoinsBehind, JoinsShard};
 ghost use Rattle.shard_merge.specs.Reasons.{ArePlaces, HasNoHead, IsFirst, IsOfSink, IsReason};
 
 use crate::behind::{lines_behind, shard_at};
 use crate::fault::JoinFault;
+use crate::first_run::seed_of_first_run;
 use crate::head::{Head, head_of};
 use crate::places::{places_of, text_at};
 use crate::told::Told;
@@ -36,9 +37,9 @@ pub struct Joined {
 /// only shard, goes to the sink, and what they are of is given. After a fault the sink may have got lines.
 ///
 /// Faults: `NoShard`, `Other`, `Doubled` or `Torn` with the place of a text that isn't a shard, is one of another sweep
-/// than the first, is there already, or isn't whole; `Older` with that of one
-/// whose lines have no checksums; `Missing` with the number of a shard that isn't there; `Write` where
-/// the sink failed; `Memory`.
+/// than the first, is there already, or isn't whole, or whose lines haven't the seed of the first run where none is asked for;
+/// `Older` with that of one whose lines have no checksums; `Missing` with the number of a shard that isn't there; `Write`
+/// where the sink failed; `Memory`.
 pub fn join<S: Sink>(alloc: Global, texts: &[Vec<u8>], table: &mut S) -> Result<Joined, JoinFault>
     requires { S.failed table.old < 2 ^ 63 }
     ensures joined { IfOk result (λ joined. Joins texts.now (S.held table.old) (S.held table.new) joined.plan joined.revived joined.settings.items) }
@@ -58,7 +59,8 @@ pub fn join<S: Sink>(alloc: Global, texts: &[Vec<u8>], table: &mut S) -> Result<
     })
 }
 
-/// Puts the lines of all shards, one after the other, and gives the summaries of the settings.
+/// Puts the lines of all shards, one after the other, and gives the summaries of the settings. All must have the seed of the
+/// first run, unless others are asked for.
 fn join_shards<S: Sink>(
     alloc: Global,
     texts: &[Vec<u8>],
@@ -69,41 +71,44 @@ fn join_shards<S: Sink>(
     requires first { IsFirst texts.now head.now.mark.now head.now.revived head.now.plan head.now.shard }
     requires places { ArePlaces texts.now head.now.mark.now head.now.revived head.now.plan head.now.shard.of places.now (length texts.now) }
     requires countable { S.failed table.old < 2 ^ 63 }
-    ensures whole { IfOk result (λ settings. JoinsBehind [] texts.now head.now.mark.now head.now.revived head.now.plan head.now.shard.of
+    ensures whole { IfOk result (λ settings. (seed : ℕ) × JoinsBehind [] texts.now head.now.mark.now head.now.revived seed head.now.plan head.now.shard.of
         (S.held table.old) (S.held table.new) head.now.plan.until settings.items) }
     ensures same { OnOk result (S.failed table.new ≡ S.failed table.old) }
     ensures refused { IfErr result (IsReason texts.now) }
 {
+    let seed = seed_of_first_run(alloc, texts, head, places)?;
     let mut told = Told::new(alloc, head.plan.runs_of_setting());
     let of = head.shard.of as usize;
     for number in 0..of {
-        join_shard(alloc, texts, head, places, number, &mut told, table)?;
+        join_shard(alloc, texts, head, places, seed, number, &mut told, table)?;
     }
     Ok(told.into_summaries(head.plan.until()))
 }
 
-/// Reads the lines of the shard of this number, counted from 0, and puts them.
+/// Reads the lines of the shard of this number, counted from 0, and puts them. The seed is that of the first run.
 fn join_shard<S: Sink>(
     alloc: Global,
     texts: &[Vec<u8>],
     head: &Head<'_>,
     places: &[Option<usize>],
+    seed: u64,
     number: usize,
     told: &mut Told,
     table: &mut S,
 ) -> Result<(), JoinFault>
     requires first { IsFirst texts.now head.now.mark.now head.now.revived head.now.plan head.now.shard }
     requires places { ArePlaces texts.now head.now.mark.now head.now.revived head.now.plan head.now.shard.of places.now (length texts.now) }
+    requires seeded { IsFirstSeed texts.now head.now.mark.now head.now.revived head.now.plan head.now.shard.of seed }
     requires within { number < head.now.shard.of }
     requires countable { S.failed table.old < 2 ^ 63 }
-    ensures whole { OnOk result (JoinsShard head.now.plan.until texts.now head.now.mark.now head.now.revived head.now.plan head.now.shard.of number
+    ensures whole { OnOk result (JoinsShard head.now.plan.until texts.now head.now.mark.now head.now.revived seed head.now.plan head.now.shard.of number
         (S.held table.old) (S.held table.new) told.old told.new) }
     ensures same { OnOk result (S.failed table.new ≡ S.failed table.old) }
     ensures refused { IfErr result (IsReason texts.now) }
 {
     let behind = lines_behind(alloc, texts, head, places, number)?;
     let shard = shard_at(number, head.shard.of);
-    let key = line_key(alloc, &head.plan, head.mark, head.revived, None)?;
+    let key = line_key(alloc, &head.plan, head.mark, head.revived, Some(seed))?;
     match told.read(alloc, &head.plan, &key, shard, behind.lines) {
         Ok(()) => put_lines(behind.lines, table),
         Err(LineFault::Torn) => Err(JoinFault::Torn(behind.place)),

@@ -3,6 +3,7 @@
 
 mod behind;
 mod fault;
+mod first_run;
 mod head;
 mod joining;
 pub mod laws;

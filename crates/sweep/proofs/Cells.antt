@@ -77,7 +77,7 @@ module _ (key : LineKey) (sweep : Sweep) (number : ℕ) (note : Note) (behind : 
   same_run told = same_Some told.planned (planned_as setting asked) (sym told.there ∙ there)
 
   -- the cells of the told line behind its values
-  cells_told : (told : IsToldOf key sweep number note behind) → behind ≡ values ++ run_line key.revived [] told.seed told.run
+  pub cells_told : (told : IsToldOf key sweep number note behind) → behind ≡ values ++ run_line key.revived [] told.seed told.run
   cells_told told =
       told.written ∙ ap (λ p. run_line key.revived (texts_of p.setting) told.seed told.run) (same_run told) ∙ line_lead key.revived setting told.seed told.run fit
       ∙ ap (λ l. l ++ run_line key.revived [] told.seed told.run) (sym laid)

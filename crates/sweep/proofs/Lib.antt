@@ -11,6 +11,7 @@ pub mod Gathered
 mod Pushed
 mod SettingTexts
 pub mod Sizes
+pub mod FirstSeed
 pub mod ShardCourse
 pub mod LinesOf
 pub mod Kept

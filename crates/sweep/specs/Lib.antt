@@ -6,4 +6,5 @@ pub mod Judged
 pub mod Shards
 pub mod Summaries
 pub mod Resumed
+pub mod FirstSeed
 pub mod Shares

@@ -3,6 +3,7 @@
 
 mod begun;
 mod chunks;
+mod first_seeds;
 mod gathering;
 mod judging;
 mod making;
@@ -21,6 +22,7 @@ mod writing;
 
 pub use begun::{Begun, BegunFault, begun_of, lines_behind};
 pub use chunks::sweep;
+pub use first_seeds::first_seed;
 pub use gathering::{Gather, Gathering, NothingGathered};
 pub use judging::{Refused, judge};
 pub use making::{MadeRun, make_side_by_side};

@@ -70,7 +70,7 @@ pub fn are_lines_of(
 }
 
 /// What is left of a text behind the line of the run of this number, where it begins with that.
-fn behind_line<'a>(
+pub(crate) fn behind_line<'a>(
     alloc: Global,
     plan: &Plan,
     key: &LineKey,

@@ -6,6 +6,7 @@ use Rattle.std.specs.List.{AllZip, flat_map}
 use Rattle.std.specs.declared.alloc.Global.{Global}
 use Rattle.std.proofs.lemmas.List.Elements.{All-cons, All-head, All-nil, All-tail}
 use Rattle.std.proofs.lemmas.List.{drop-map, take-map, take_more}
+use Rattle.std.proofs.lemmas.Option.{none-some}
 use Rattle.std.proofs.lemmas.Slice.Zip.{all_zipped_more, AllZip-long}
 use Rattle.sweep_plan.specs.Sweep.{Sweep, run_count, seed_count, setting_count}
 use Rattle.sweep_plan.specs.declared.seeds.Seeds.{Seeds}
@@ -89,6 +90,8 @@ module _ (texts : List (Vec ℕ Global)) (mark : List ℕ) (revived : Bool) (swe
     text = table.text;
     there = table.there;
     begins = begins_so rest is;
+    seed = None;
+    first = λ k one. absurd (none-some k one);
     torn = λ its. none (
       subst (AreLines rest) (share_whole (run_count own)) its.are.0,
       subst (λ n. AreLinesOf key own 0 rest n) (share_whole (run_count own)) (subst (λ n. AreLinesOf key own n rest (share (run_count own) whole)) (first_of_whole (run_count own)) its.are.1),
@@ -114,6 +117,8 @@ module _ (texts : List (Vec ℕ Global)) (mark : List ℕ) (revived : Bool) (swe
     text = table.text;
     there = table.there;
     begins = begins_so h.1.0 h.1.1;
+    seed = None;
+    first = λ k one. absurd (none-some k one);
     torn = λ its. h.1.2 its.encoded;
   })
   lines_refused shards.Memory h = tt

@@ -24,7 +24,7 @@ no_text : (front : List ℕ) (x : ℕ) (back : List ℕ) → front ++ x ∷ back
 no_text [] x back none = cc
 no_text (y ∷ front) x back none = cc
 
-some_text : (lines : List Line) (more : List ℕ) → 0 < length (notes_of lines) → shard_setting lines ++ more ≡ [] → ⊥
+pub some_text : (lines : List Line) (more : List ℕ) → 0 < length (notes_of lines) → shard_setting lines ++ more ≡ [] → ⊥
 some_text [] more some none = omega (arith, some)
 some_text (l ∷ lines) more some none =
     let behind = shard_setting lines ++ more in

@@ -18,7 +18,7 @@ pub loop-number-init : goal.loop-number-init
 loop-number-init g c =
     let head = c.args.head.now in
     record {
-      so = none_joined c.args.texts.now head.mark.now head.revived head.plan head.shard.of head.plan.until _ _ (omega (arith, c.requires.first.begins.sound.least, c.requires.first.begins.sound.most))
+      so = none_joined c.args.texts.now head.mark.now head.revived c.in_ok-seed.seed head.plan head.shard.of head.plan.until _ _ (omega (arith, c.requires.first.begins.sound.least, c.requires.first.begins.sound.most))
           (subst (λ n. IsGathered n [] c.new-told.result.gathering) c.runs_of_setting.ensures c.new-told.ensures.runs) c.new-told.ensures.settings;
       same = refl;
     }
@@ -27,7 +27,7 @@ pub loop-number-preserved : goal.loop-number-preserved
 loop-number-preserved g c =
     let head = c.args.head.now in
     record {
-      so = one_joined c.args.texts.now head.mark.now head.revived head.plan head.shard.of head.plan.until c.loop-number.number _ _ _ _ _ (omega (arith, c.loop-number-test.true))
+      so = one_joined c.args.texts.now head.mark.now head.revived c.in_ok-seed.seed head.plan head.shard.of head.plan.until c.loop-number.number _ _ _ _ _ (omega (arith, c.loop-number-test.true))
           c.loop-number.invariant.so c.in_ok-join_shard.ensures.whole;
       same = search rules;
     }
@@ -36,13 +36,20 @@ pub returns-clause-whole : goal.returns-clause-whole
 returns-clause-whole g c =
     let head = c.args.head.now in
     let until = c.until.ensures.same in
-    let all : c.loop-number.number ≡ head.shard.of = omega (arith, c.loop-number-test.false, c.loop-number.auto.number-end) in
-    all_joined c.args.texts.now head.mark.now head.revived head.plan head.shard.of head.plan.until (g.S.Sink.held c.args.table.now) (g.S.Sink.held c.loop-number.table) c.loop-number.told _
-    (omega (arith, c.requires.first.begins.sound.least, c.requires.first.begins.sound.most))
-    (subst (λ n. JoinsShards head.plan.until c.args.texts.now head.mark.now head.revived head.plan head.shard.of n (g.S.Sink.held c.args.table.now) (g.S.Sink.held c.loop-number.table) c.loop-number.told)
-    all c.loop-number.invariant.so)
-    (subst (λ o. c.into_summaries.result.items ≡ summaries_told o c.loop-number.told) until c.into_summaries.ensures)
+    let all : c.loop-number.number ≡ head.shard.of = omega (arith, c.loop-number-test.false, c.loop-number.auto.number-end) in (
+      c.in_ok-seed.seed,
+      all_joined c.args.texts.now head.mark.now head.revived c.in_ok-seed.seed head.plan head.shard.of head.plan.until (g.S.Sink.held c.args.table.now) (g.S.Sink.held c.loop-number.table) c.loop-number.told _
+          (omega (arith, c.requires.first.begins.sound.least, c.requires.first.begins.sound.most))
+          (subst (λ n. JoinsShards head.plan.until c.args.texts.now head.mark.now head.revived c.in_ok-seed.seed head.plan head.shard.of n (g.S.Sink.held c.args.table.now) (g.S.Sink.held c.loop-number.table) c.loop-number.told)
+          all c.loop-number.invariant.so)
+          (subst (λ o. c.into_summaries.result.items ≡ summaries_told o c.loop-number.told) until c.into_summaries.ensures),
+    )
 
 pub returns-in_err-join_shard-clause-refused : goal.returns-in_err-join_shard-clause-refused
 returns-in_err-join_shard-clause-refused g c =
-    handed c.from_residual.result _ _ c.from_residual.ensures.1 (λ e same. subst (IsReason c.args.texts.now) (sym same) c.in_err-join_shard.ensures.refused)
+    handed c.from_residual-in_err-join_shard.result _ _ c.from_residual-in_err-join_shard.ensures.1
+    (λ e same. subst (IsReason c.args.texts.now) (sym same) c.in_err-join_shard.ensures.refused)
+
+pub returns-in_err-seed-clause-refused : goal.returns-in_err-seed-clause-refused
+returns-in_err-seed-clause-refused g c =
+    handed c.from_residual.result _ _ c.from_residual.ensures.1 (λ e same. subst (IsReason c.args.texts.now) (sym same) c.in_err-seed.ensures.refused)
