@@ -63,6 +63,16 @@ def time_text(tick, ticks):
     return grouped(ticks) + lasting(tick, ticks)
 
 
+def time_alone(tick, ticks):
+    """A time in a cell of a table: in units alone, where it is known how many microseconds a tick lasts."""
+    return length_words(tick * ticks) if tick else grouped(ticks)
+
+
+def moment_alone(tick, ticks):
+    """A moment at which a row of a table begins: the same, but its number of ticks has no commas."""
+    return length_words(tick * ticks) if tick else str(ticks)
+
+
 def place(value, most):
     """Where a value stands on an axis, in percent."""
     parts = 10000 if value >= most else value * 10000 // most

@@ -4,7 +4,7 @@ Written from docs/PAGES.md ("The page of a run") alone.
 """
 
 from model_drawing import (FIGURE_END, PLOT_END, area, axis_across, axis_up, band, dot, escaped, figure, grouped, lasting, lasting_between,
-                           legend, legend_entry, line, page_opening, plot, rule, time_text)
+                           legend, legend_entry, line, moment_alone, page_opening, plot, rule, time_alone, time_text)
 from model_run_series import MOST_HEALTH, MOST_SPANS, Series, deaths_of
 from model_text import CONFIRM, SUSPECT
 from scenarios import keys_of
@@ -45,6 +45,12 @@ class Page:
 
     def time(self, ticks):
         return time_text(self.tick, ticks)
+
+    def time_cell(self, ticks):
+        return f'<td>{time_alone(self.tick, ticks)}'
+
+    def from_cell(self, span):
+        return f'<td>{moment_alone(self.tick, span * self.series.width)}'
 
     def lasting(self, ticks):
         return lasting(self.tick, ticks)
@@ -162,8 +168,7 @@ class Page:
             last = 0, 0
             for span, both in enumerate(zip(*self.claims(member))):
                 if both != last:
-                    text += (f'<tr><td>{self.series.names[member]}<td>{span * self.series.width}{self.lasting(span * self.series.width)}'
-                             f'<td>{both[0]}<td>{both[1]}')
+                    text += f'<tr><td>{self.series.names[member]}{self.from_cell(span)}<td>{both[0]}<td>{both[1]}'
                 last = both
         return text + TABLE_END
 
@@ -181,8 +186,8 @@ class Page:
     def false_deaths_row(self, member):
         story = self.series.stories[member]
         moment, accuser, place = story.first_confirm
-        refuted = f'<td>{self.time(story.last_refute[0])}<td>{story.last_refute[1]}' if story.last_refute else '<td>never<td>'
-        return (f'<tr><td>{self.series.names[member]}<td>{self.time(moment)}<td>{self.series.names[accuser]}<td>{place}'
+        refuted = f'{self.time_cell(story.last_refute[0])}<td>{story.last_refute[1]}' if story.last_refute else '<td>never<td>'
+        return (f'<tr><td>{self.series.names[member]}{self.time_cell(moment)}<td>{self.series.names[accuser]}<td>{place}'
                 f'<td>{grouped(story.false_deaths)}<td>{grouped(sum(story.recovered.values()))}<td>{self.condition(member, moment)}'
                 f'<td>{grouped(story.failed_probes)}{refuted}\n')
 
@@ -312,7 +317,7 @@ class Page:
 
     def shares(self, words, times, of_all):
         ranks = [max(1, (of_all * percent + 99) // 100) for percent in (0, 50, 90, 99, 100)]
-        return f'<tr><td>{words}' + ''.join(f'<td>{self.time(times[rank - 1]) if rank <= len(times) else "-"}' for rank in ranks)
+        return f'<tr><td>{words}' + ''.join(self.time_cell(times[rank - 1]) if rank <= len(times) else '<td>-' for rank in ranks)
 
     # messages, and health
 
@@ -348,7 +353,7 @@ class Page:
             text += f'<p class="soft">Sent in each span of {series.width} ticks{self.lasting(series.width)}.</p>' + self.losses(lost)
             text += folded('The messages as a table', '<th>from moment' + ''.join(f'<th>{kind}<th>lost' for kind in series.kinds))
             for span in series.spans:
-                text += f'<tr><td>{span * series.width}{self.lasting(span * series.width)}'
+                text += f'<tr>{self.from_cell(span)}'
                 text += ''.join(f'<td>{ours[span]}<td>{theirs[span]}' for ours, theirs in zip(sent, lost))
             text += TABLE_END
         return text + FIGURE_END
@@ -373,7 +378,7 @@ class Page:
         for value, counts in zip(values, heights):
             for span, count in enumerate(counts):
                 if count != (counts[span - 1] if span else 0):
-                    text += f'<tr><td>{value}<td>{span * series.width}{self.lasting(span * series.width)}<td>{count}'
+                    text += f'<tr><td>{value}{self.from_cell(span)}<td>{count}'
         return text + TABLE_END + FIGURE_END
 
 

@@ -7,7 +7,7 @@ Written from docs/PAGES.md ("The page of a sweep"); how it looks is the style's,
 from collections import namedtuple
 
 from model_drawing import (FIGURE_END, axis_across, axis_up, cells, escaped, figure, grouped, heads, lasting, page_opening, place,
-                           plot, time_text)
+                           plot, time_alone)
 from model_sweeps import axes_of, cases_of, more_runs
 from model_sweep_times import times_figure
 
@@ -119,7 +119,7 @@ class Page:
         return '' if ticks is None else lasting(self.tick, ticks)
 
     def time(self, ticks):
-        return '-' if ticks is None else time_text(self.tick, ticks)
+        return '-' if ticks is None else time_alone(self.tick, ticks)
 
     def across(self, case):
         """Where a case stands across the front: by its median, or by its messages where no run has a crash."""
@@ -290,7 +290,8 @@ class Page:
                    'confirmed, greatest', 'last confirmed, median', 'last confirmed, greatest', 'false suspicions per run',
                    'messages per member per 1,000 ticks']
         text = figure('cases', 'All settings')
-        text += ('<p class="soft">Times are in ticks since the crash, over all crashes of all runs; a dash stands where too few '
+        since = 'counted from the crash on' if self.tick else 'in ticks since the crash'
+        text += (f'<p class="soft">Times are {since}, over all crashes of all runs; a dash stands where too few '
                  'crashes were detected. Starred settings are on the front.</p>')
         text += f'<div class="wide"><table><caption>All settings</caption><thead><tr>{heads(columns)}</tr></thead><tbody>\n'
         text += ''.join(self.row(at, case) for at, case in enumerate(self.cases))
@@ -384,7 +385,7 @@ class KeyFigure:
     def table(self):
         suspected, confirmed, last = (tuple(f'{what}, {which}' for which in ('5th percentile', 'median', '95th percentile'))
                                       for what in ('suspected', 'confirmed', 'last confirmed'))
-        text = folded('These figures in numbers', 'What is drawn, in ticks',
+        text = folded('These figures in numbers', 'What is drawn' if self.page.tick else 'What is drawn, in ticks',
                       ('value', 'other keys', *suspected, *confirmed, 'confirmed, 99th percentile', *last, 'last confirmed, greatest'))
         for line in self.lines:
             for nth, value in enumerate(self.values):

@@ -3,7 +3,7 @@
 Written from docs/PAGES.md ("The page of a sweep").
 """
 
-from model_drawing import FIGURE_END, PLOT_END, axis_across, axis_up, cells, figure, grouped, heads, lasting, plot, rule, time_text
+from model_drawing import FIGURE_END, PLOT_END, axis_across, axis_up, cells, figure, grouped, heads, lasting, plot, rule, time_alone
 from model_sweeps import percentile
 
 # so many bins have the times of a case, and so many cases are drawn, at the most
@@ -57,7 +57,7 @@ class Times:
         return text + axis_across(across, 'ticks since the crash', self.tick, 'time since the crash') + '</div></div>'
 
     def rows(self):
-        spans = [(f'{time_text(self.tick, first)} to {time_text(self.tick, past - 1)}', count) for first, past, count in self.bins]
+        spans = [(f'{time_alone(self.tick, first)} to {time_alone(self.tick, past - 1)}', count) for first, past, count in self.bins]
         return ''.join('<tr>' + cells('td', (self.number, span, grouped(count))) + '</tr>'
                        for span, count in [*spans, ('never', self.never)])
 
@@ -83,5 +83,5 @@ def times_figure(cases, tick):
         text += f'<p class="soft">{grouped(more)} more {"setting on the front is" if more == 1 else "settings on the front are"} not drawn.</p>'
     text += ('<details><summary>These times in numbers</summary><div class="wide"><table>'
              '<caption>How many crashes were first confirmed when</caption><thead><tr>'
-             f'{heads(("setting", "ticks until first confirmed", "crashes"))}</tr></thead><tbody>')
+             f'{heads(("setting", ("time" if tick else "ticks") + " until first confirmed", "crashes"))}</tr></thead><tbody>')
     return text + ''.join(case.rows() for case in drawn) + '</tbody></table></div></details>' + FIGURE_END

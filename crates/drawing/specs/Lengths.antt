@@ -95,3 +95,13 @@ lasting_between (Some tick) least greatest = between tick least greatest
 -- a number of ticks, and how long they last
 unfoldable pub time_text : Option Tick → ℕ → List ℕ
 time_text tick ticks = grouped ticks ++ lasting tick ticks
+
+-- a time alone: how long so many ticks last, where that is known, or else their number
+abbrev pub time_alone : Option Tick → ℕ → List ℕ
+time_alone None ticks = grouped ticks
+time_alone (Some tick) ticks = ticks_words tick ticks
+
+-- a moment alone: the same, its number without commas
+abbrev pub moment_alone : Option Tick → ℕ → List ℕ
+moment_alone None ticks = decimal ticks
+moment_alone (Some tick) ticks = ticks_words tick ticks

@@ -1,7 +1,7 @@
 //! Lengths of time, where it is known how long a tick lasts.
 ghost use Rattle.std.specs.Prelude.{◌≡◌, ◌++◌, ◌<◌, ◌≤◌, OnOk, decimal};
 ghost use Rattle.std.specs.String.{string_bytes};
-ghost use Rattle.drawing.specs.Lengths.{and_minutes, and_more, and_seconds, between, days_words, digit, hours_words, in_parentheses, in_unit, lasting, lasting_between, length_of, length_words, minutes_words, part_words, places_within, short_words, ticks_words, time_text};
+ghost use Rattle.drawing.specs.Lengths.{and_minutes, and_more, and_seconds, between, days_words, digit, hours_words, in_parentheses, in_unit, lasting, lasting_between, length_of, length_words, minutes_words, moment_alone, part_words, places_within, short_words, ticks_words, time_alone, time_text};
 
 use crate::number::push_grouped;
 use std::alloc::AllocError;
@@ -35,6 +35,30 @@ pub fn push_lasting(text: &mut String, tick: Option<Tick>, ticks: u64) -> Result
     match tick {
         Some(tick) => push_in_parentheses(text, tick, ticks),
         None => Ok(()),
+    }
+}
+
+/// Appends a time alone, as a cell of a table has it: how long so many ticks last, where that is known, or else their number.
+pub fn push_time_alone(text: &mut String, tick: Option<Tick>, ticks: u64) -> Result<(), AllocError>
+    ensures { OnOk result (string_bytes text.new ≡ string_bytes text.old ++ time_alone tick ticks) }
+{
+    match tick {
+        Some(tick) => push_ticks_words(text, tick, ticks),
+        None => push_grouped(text, ticks),
+    }
+}
+
+/// Appends a moment alone: the same, its number without commas.
+pub fn push_moment_alone(
+    text: &mut String,
+    tick: Option<Tick>,
+    ticks: u64,
+) -> Result<(), AllocError>
+    ensures { OnOk result (string_bytes text.new ≡ string_bytes text.old ++ moment_alone tick ticks) }
+{
+    match tick {
+        Some(tick) => push_ticks_words(text, tick, ticks),
+        None => push_count(text, u128::from(ticks)),
     }
 }
 
@@ -244,7 +268,7 @@ fn push_count(text: &mut String, count: u128) -> Result<(), AllocError>
 
 #[cfg(test)]
 mod tests {
-    use super::push_timed;
+    use super::{push_moment_alone, push_time_alone, push_timed};
     use ticks::Tick;
 
     /// Numbers of ticks, how many microseconds a tick lasts, and how they are shown.
@@ -276,5 +300,18 @@ mod tests {
             push_timed(&mut text, Some(tick), *ticks).expect(&rt, "memory");
             assert!(rt; text.as_str() == *wanted, "{wanted}");
         }
+    }
+
+    #[test]
+    fn times_alone_have_units_or_ticks(rt: HostRuntime) {
+        let tick = Tick {
+            microseconds: 1_000,
+        };
+        let mut text = String::new(rt.alloc());
+        push_time_alone(&mut text, Some(tick), 12_389).expect(&rt, "memory");
+        push_time_alone(&mut text, None, 12_389).expect(&rt, "memory");
+        push_moment_alone(&mut text, Some(tick), 12_389).expect(&rt, "memory");
+        push_moment_alone(&mut text, None, 12_389).expect(&rt, "memory");
+        assert!(rt; text.as_str() == "12.389 s12,38912.389 s12389");
     }
 }

@@ -19,7 +19,9 @@ pub use axis::{push_across, push_time_across, push_time_up, push_up};
 pub use escape::{push_escaped, push_markup};
 pub use laws::escaped_texts_are_no_markup;
 pub use legend::{push_counted, push_entry};
-pub use length::{push_lasting, push_lasting_between, push_timed};
+pub use length::{
+    push_lasting, push_lasting_between, push_moment_alone, push_time_alone, push_timed,
+};
 pub use number::{push_grouped, push_place};
 pub use page::open_page;
 pub use palette::drawing_style;

@@ -13,7 +13,7 @@ use Rattle.member_timelines.specs.Choice.{times_of}
 use Rattle.member_timelines.specs.Numbers.{by_number}
 use Rattle.member_timelines.specs.Heights.{before}
 use Rattle.member_timelines.specs.Lanes.{lane, held_heights}
-use Rattle.drawing.specs.Lengths.{lasting}
+use Rattle.drawing.specs.Lengths.{moment_alone}
 use Rattle.ticks.specs.declared.tick.Tick.{Tick}
 
 -- an entry of the legend, where what it stands for is there
@@ -51,7 +51,7 @@ lane_rest all = if nat_le all 60 then [] else more_words (all - 60)
 -- one row of the table: how many suspect a member from a moment on, and how many have declared it dead
 unfoldable pub table_row : Option Tick → List ℕ → ℕ → ℕ → ℕ → List ℕ
 table_row time name from suspected dead =
-    codes "<tr><td>" ++ escaped name ++ codes "<td>" ++ decimal from ++ lasting time from ++ codes "<td>" ++ decimal suspected ++ codes "<td>" ++ decimal dead
+    codes "<tr><td>" ++ escaped name ++ codes "<td>" ++ moment_alone time from ++ codes "<td>" ++ decimal suspected ++ codes "<td>" ++ decimal dead
 
 -- the height of a span is the one before it
 abbrev pub is_unchanged : List ℕ → ℕ → Bool

@@ -14,18 +14,18 @@ use Rattle.member_timelines.specs.declared.chosen.Chosen.{Chosen}
 use Rattle.member_timelines.specs.Choice.{times_of}
 use Rattle.member_timelines.specs.Lanes.{is_cut_of}
 use Rattle.member_timelines.specs.Told.{first_confirm, last_refute, times_back}
-use Rattle.drawing.specs.Lengths.{time_text}
+use Rattle.drawing.specs.Lengths.{time_alone}
 use Rattle.ticks.specs.declared.tick.Tick.{Tick}
 
 -- when a claim was made, by whom, and on which line it stands
 unfoldable pub claim_cells : Option Tick → Setup → Option Line → List ℕ
 claim_cells time s None = codes "<td>-<td>-<td>-"
-claim_cells time s (Some line) = codes "<td>" ++ time_text time line.at ++ codes "<td>" ++ escaped (name_of s line.member) ++ codes "<td>" ++ decimal line.number
+claim_cells time s (Some line) = codes "<td>" ++ time_alone time line.at ++ codes "<td>" ++ escaped (name_of s line.member) ++ codes "<td>" ++ decimal line.number
 
 -- when the member last refuted what was said of it, and on which line that stands
 unfoldable pub refute_cells : Option Tick → Option Line → List ℕ
 refute_cells time None = codes "<td>never<td>"
-refute_cells time (Some line) = codes "<td>" ++ time_text time line.at ++ codes "<td>" ++ decimal line.number
+refute_cells time (Some line) = codes "<td>" ++ time_alone time line.at ++ codes "<td>" ++ decimal line.number
 
 -- the cut is one of the group's and holds at the moment
 abbrev pub is_cut_then : ℕ → ℕ → Cut → Bool

@@ -12,7 +12,7 @@ use crate::numbers::by_number;
 use crate::run::Run;
 use base::{MemberId, Memory};
 use drawing::{
-    close_figure, open_figure, push_entry, push_escaped, push_lasting, push_time_across,
+    close_figure, open_figure, push_entry, push_escaped, push_moment_alone, push_time_across,
 };
 use std::alloc::{AllocError, Global};
 use ticks::Tick;
@@ -301,8 +301,8 @@ fn push_row(
 {
     text.push_str("<tr><td>")?;
     push_escaped(text, name)?;
-    write!(text, "<td>{from}")?;
-    push_lasting(text, time, from)?;
+    text.push_str("<td>")?;
+    push_moment_alone(text, time, from)?;
     write!(text, "<td>{suspected}<td>{dead}")?;
     Ok(())
 }

@@ -10,7 +10,7 @@ use crate::lane::is_cut_of;
 use crate::run::Run;
 use crate::told::times_back;
 use base::{MemberId, Moment};
-use drawing::{close_figure, open_figure, push_escaped, push_grouped, push_timed};
+use drawing::{close_figure, open_figure, push_escaped, push_grouped, push_time_alone};
 use scenario::Cut;
 use series::Line;
 use std::alloc::AllocError;
@@ -142,7 +142,7 @@ fn push_claim(text: &mut String, run: &Run, claim: Option<Line>) -> Result<(), A
         return text.push_str("<td>-<td>-<td>-");
     };
     text.push_str("<td>")?;
-    push_timed(text, run.tick, line.at.ticks())?;
+    push_time_alone(text, run.tick, line.at.ticks())?;
     text.push_str("<td>")?;
     push_escaped(text, run.scenario.name(line.member))?;
     let number = line.number;
@@ -158,7 +158,7 @@ fn push_refute(text: &mut String, time: Option<Tick>, last: Option<Line>) -> Res
         return text.push_str("<td>never<td>");
     };
     text.push_str("<td>")?;
-    push_timed(text, time, line.at.ticks())?;
+    push_time_alone(text, time, line.at.ticks())?;
     let number = line.number;
     write!(text, "<td>{number}")
 }

@@ -16,7 +16,7 @@ use Rattle.drawing.specs.Legends.{entry}
 use Rattle.drawing.specs.Shapes.{figure_opening, figure_end, plot_opening, plot_end, line, step_start}
 use Rattle.member_timelines.specs.Heights.{axis_height}
 use Rattle.run_spread.specs.declared.news.ShareTimes.{ShareTimes}
-use Rattle.drawing.specs.Lengths.{time_text}
+use Rattle.drawing.specs.Lengths.{time_alone}
 use Rattle.ticks.specs.declared.tick.Tick.{Tick}
 
 -- ---- when members learned of a crash
@@ -97,9 +97,9 @@ spread_chart time name width most step suspected dead =
     chart_opening name width most ++ line (codes "suspect") suspected step most ++ line (codes "dead") dead step most
     ++ plot_end ++ time_across time width (codes "ticks since the crash") (codes "time since the crash") ++ codes "</div>"
 
--- a time, a dash where there is none
+-- a time, in units alone where it is known how long a tick lasts; a dash where there is none
 abbrev pub time_cell : Option Tick → Option ℕ → List ℕ
-time_cell time (Some after) = codes "<td>" ++ time_text time after
+time_cell time (Some after) = codes "<td>" ++ time_alone time after
 time_cell time None = codes "<td>" ++ codes "-"
 
 -- the times of shares, behind some words

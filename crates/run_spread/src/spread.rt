@@ -13,7 +13,7 @@ use crate::news::{Heard, STEPS, ShareTimes, crashed, longest, news, staying};
 use base::{MemberId, Memory, Moment};
 use drawing::{
     close_figure, close_plot, open_figure, open_plot, push_entry, push_escaped, push_line,
-    push_time_across, push_timed, push_up,
+    push_time_across, push_time_alone, push_up,
 };
 use member_timelines::{Run, axis_height};
 use series::Spread;
@@ -315,13 +315,13 @@ fn push_times(text: &mut String, time: Option<Tick>, shares: ShareTimes) -> Resu
     Ok(())
 }
 
-/// Appends a time, a dash where there is none.
+/// Appends a time, in units alone where it is known how long a tick lasts; a dash where there is none.
 fn push_time(text: &mut String, time: Option<Tick>, after: Option<u64>) -> Result<(), AllocError>
     ensures { OnOk result (string_bytes text.new ≡ string_bytes text.old ++ time_cell time after) }
 {
     text.push_str("<td>")?;
     match after {
-        Some(after) => push_timed(text, time, after),
+        Some(after) => push_time_alone(text, time, after),
         None => text.push_str("-"),
     }
 }

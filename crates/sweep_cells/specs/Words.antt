@@ -5,14 +5,14 @@ use Rattle.sweep_plan.specs.Settings.{settings_of, choices_text}
 use Rattle.sweep_plan.specs.Sweep.{KeyValues}
 use Rattle.sweep_plan.specs.declared.choice.Choice.{Choice}
 use Rattle.drawing.specs.Escaped.{escaped, markup}
-use Rattle.drawing.specs.Lengths.{lasting, time_text}
+use Rattle.drawing.specs.Lengths.{lasting, time_alone}
 use Rattle.drawing.specs.Numbers.{grouped}
 use Rattle.figures.specs.declared.summary.SettingSummary.{SettingSummary}
 use Rattle.ticks.specs.declared.tick.Tick.{Tick}
 
--- a time in ticks, and how long it lasts where that is known, or a dash where there is none
+-- a time: how long so many ticks last where that is known, else their number, or a dash where there is none
 unfoldable pub time_words : Option Tick → Option ℕ → List ℕ
-time_words time ticks = option_map_or (time_text time) ticks (codes "-")
+time_words time ticks = option_map_or (time_alone time) ticks (codes "-")
 
 -- how long so many ticks last, where that is known; nothing where there is no number of them
 abbrev pub lasting_words : Option Tick → Option ℕ → List ℕ

@@ -6,13 +6,13 @@ ghost use Rattle.sweep_cells.specs.Cells.{cell, time_cell};
 ghost use Rattle.sweep_cells.specs.Words.{lasting_words, time_words, whole_percent, tenth_percent, percent_words, hundredths_words, rate_words, runs_words, deaths_words, count_words, noun_words, interval_words, number_words, swept_keys_words, swept_keys_at, thousandths, share_of};
 
 use base::Memory;
-use drawing::{push_escaped, push_grouped, push_lasting, push_markup, push_timed};
+use drawing::{push_escaped, push_grouped, push_lasting, push_markup, push_time_alone};
 use figures::SettingSummary;
 use std::alloc::{AllocError, Global};
 use sweep_plan::{Choice, Plan, choices_text};
 use ticks::Tick;
 
-/// Appends a time in ticks, and how long it lasts where it is known how long a tick does; a dash where there is
+/// Appends a time: how long so many ticks last where it is known how long one does, else their number; a dash where there is
 /// none.
 #[tactic(auto, unfolding(crate::specs::Words::time_words))]
 pub fn push_time(
@@ -23,7 +23,7 @@ pub fn push_time(
     ensures { OnOk result (string_bytes text.new ≡ string_bytes text.old ++ time_words time ticks) }
 {
     match ticks {
-        Some(ticks) => push_timed(text, time, ticks),
+        Some(ticks) => push_time_alone(text, time, ticks),
         None => text.push_str("-"),
     }
 }
@@ -227,7 +227,7 @@ pub fn push_cell(text: &mut String, words: &str) -> Result<(), AllocError>
     push_markup(text, "</td>")
 }
 
-/// Appends a cell with a time in ticks, and how long it lasts where it is known how long a tick does; a dash
+/// Appends a cell with a time: how long so many ticks last where it is known how long one does, else their number; a dash
 /// where there is none.
 #[tactic(auto, unfolding(crate::specs::Cells::time_cell))]
 pub fn push_time_cell(

@@ -187,9 +187,18 @@ key_row time swept_keys settings k key axis line place =
     markup (codes "<tr>") ++ cell (values_text axis place) ++ markup (codes "<td>") ++ others_at swept_keys key k.keys (setting_place k line place) ++ markup (codes "</td>")
     ++ times_over time settings k line place ++ markup (codes "</tr>")
 
+-- what the cells of times are in: ticks, or units, which they say, where it is known how long a tick lasts
+abbrev pub caption_words : Option Tick → List ℕ
+caption_words None = codes "What is drawn, in ticks"
+caption_words (Some tick) = codes "What is drawn"
+
 -- what the columns are
-unfoldable pub key_heads : List ℕ
-key_heads = codes "<details><summary>These figures in numbers</summary><div class=\"wide\"><table><caption>What is drawn, in ticks</caption><thead><tr><th scope=\"col\">value</th><th scope=\"col\">other keys</th><th scope=\"col\">suspected, 5th percentile</th><th scope=\"col\">suspected, median</th><th scope=\"col\">suspected, 95th percentile</th><th scope=\"col\">confirmed, 5th percentile</th><th scope=\"col\">confirmed, median</th><th scope=\"col\">confirmed, 95th percentile</th><th scope=\"col\">confirmed, 99th percentile</th><th scope=\"col\">last confirmed, 5th percentile</th><th scope=\"col\">last confirmed, median</th><th scope=\"col\">last confirmed, 95th percentile</th><th scope=\"col\">last confirmed, greatest</th></tr></thead><tbody>"
+unfoldable pub column_heads : List ℕ
+column_heads = codes "</caption><thead><tr><th scope=\"col\">value</th><th scope=\"col\">other keys</th><th scope=\"col\">suspected, 5th percentile</th><th scope=\"col\">suspected, median</th><th scope=\"col\">suspected, 95th percentile</th><th scope=\"col\">confirmed, 5th percentile</th><th scope=\"col\">confirmed, median</th><th scope=\"col\">confirmed, 95th percentile</th><th scope=\"col\">confirmed, 99th percentile</th><th scope=\"col\">last confirmed, 5th percentile</th><th scope=\"col\">last confirmed, median</th><th scope=\"col\">last confirmed, 95th percentile</th><th scope=\"col\">last confirmed, greatest</th></tr></thead><tbody>"
+
+-- the table begins
+unfoldable pub key_heads : Option Tick → List ℕ
+key_heads time = markup (codes "<details><summary>These figures in numbers</summary><div class=\"wide\"><table><caption>") ++ markup (caption_words time) ++ column_heads
 
 -- the rows of a line
 unfoldable pub line_rows : Option Tick → List KeyValues → List SettingSummary → KeyLines → ℕ → List KeyValues → ℕ → List ℕ
@@ -198,7 +207,7 @@ line_rows time swept_keys settings k key axis line = flat_map (key_row time swep
 -- the figures of an axis in numbers, folded
 unfoldable pub key_table : Option Tick → List KeyValues → List SettingSummary → KeyLines → ℕ → List KeyValues → List ℕ
 key_table time swept_keys settings k key axis =
-    key_heads ++ flat_map (line_rows time swept_keys settings k key axis) (range_with_len 0 k.lines) ++ markup (codes "</tbody></table></div></details>")
+    key_heads time ++ flat_map (line_rows time swept_keys settings k key axis) (range_with_len 0 k.lines) ++ markup (codes "</tbody></table></div></details>")
 
 -- by which name a key's figure is found
 abbrev pub key_id : ℕ → List ℕ

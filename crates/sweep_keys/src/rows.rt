@@ -2,7 +2,7 @@
 ghost use Rattle.std.specs.Prelude.{◌≡◌, ◌++◌, OnOk, length};
 ghost use Rattle.std.specs.List.{flat_map, range_with_len};
 ghost use Rattle.std.specs.String.{string_bytes};
-ghost use Rattle.sweep_keys.specs.Keys.{drawn_times, times_of, times_over, key_row, key_heads, line_rows, key_table};
+ghost use Rattle.sweep_keys.specs.Keys.{drawn_times, times_of, times_over, key_row, caption_words, column_heads, key_heads, line_rows, key_table};
 
 use crate::legend::push_others_at;
 use crate::line::setting_over;
@@ -56,20 +56,43 @@ pub(crate) fn push_rows(
         axis,
         lines: *lines,
     };
-    push_heads(text)?;
+    push_heads(text, time)?;
     push_lines(alloc, text, &table)?;
     push_markup(text, "</tbody></table></div></details>")?;
     Ok(())
 }
 
-/// Appends what their columns are.
+/// Begins the table.
 #[tactic(auto, unfolding(crate::specs::Keys::key_heads))]
-fn push_heads(text: &mut String) -> Result<(), AllocError>
-    ensures { OnOk result (string_bytes text.new ≡ string_bytes text.old ++ key_heads) }
+fn push_heads(text: &mut String, time: Option<Tick>) -> Result<(), AllocError>
+    ensures { OnOk result (string_bytes text.new ≡ string_bytes text.old ++ key_heads time) }
+{
+    let caption = caption_words(time);
+    push_markup(
+        text,
+        "<details><summary>These figures in numbers</summary><div class=\"wide\"><table><caption>",
+    )?;
+    push_markup(text, caption)?;
+    push_columns(text)
+}
+
+/// What it shows.
+fn caption_words(time: Option<Tick>) -> &'static str
+    ensures { result.now ≡ caption_words time }
+{
+    match time {
+        Some(_) => "What is drawn",
+        None => "What is drawn, in ticks",
+    }
+}
+
+/// Appends what its columns are.
+#[tactic(auto, unfolding(crate::specs::Keys::column_heads))]
+fn push_columns(text: &mut String) -> Result<(), AllocError>
+    ensures { OnOk result (string_bytes text.new ≡ string_bytes text.old ++ column_heads) }
 {
     text.push_str(
-        "<details><summary>These figures in numbers</summary><div class=\"wide\"><table>\
-         <caption>What is drawn, in ticks</caption><thead><tr>\
+        "</caption><thead><tr>\
          <th scope=\"col\">value</th>\
          <th scope=\"col\">other keys</th>\
          <th scope=\"col\">suspected, 5th percentile</th>\

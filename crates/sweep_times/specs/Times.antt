@@ -1,10 +1,10 @@
 -- The figure of times: for each setting on the front, after how many ticks its crashes were first confirmed.
-use Rattle.std.specs.Prelude.{ℕ, ◌-◌, ◌==◌, if◌then◌else◌, List, [], ◌++◌, codes, length, slice_get, take, Option}
+use Rattle.std.specs.Prelude.{ℕ, ◌-◌, ◌==◌, if◌then◌else◌, List, [], ◌++◌, codes, length, slice_get, take, Option, None, Some}
 use Rattle.std.specs.List.{flat_map, range_with_len}
 use Rattle.std.specs.Option.{option_map_or}
 use Rattle.sweep_plan.specs.Sweep.{KeyValues}
 use Rattle.drawing.specs.Escaped.{markup}
-use Rattle.drawing.specs.Lengths.{time_text}
+use Rattle.drawing.specs.Lengths.{time_alone}
 use Rattle.drawing.specs.Numbers.{grouped}
 use Rattle.drawing.specs.Shapes.{figure_opening, figure_end}
 use Rattle.figures.specs.declared.histogram.Histogram.{Histogram}
@@ -24,7 +24,7 @@ row_end count = markup (codes "</td><td>") ++ grouped count ++ markup (codes "</
 
 -- the row of a bin: its first tick and its last, and how many times are in it
 unfoldable pub filled_row : Option Tick → Histogram → ℕ → ℕ → ℕ → List ℕ
-filled_row time times place bin count = row_opening place ++ time_text time (bin_start times bin) ++ markup (codes " to ") ++ time_text time (bin_end times bin - 1) ++ row_end count
+filled_row time times place bin count = row_opening place ++ time_alone time (bin_start times bin) ++ markup (codes " to ") ++ time_alone time (bin_end times bin - 1) ++ row_end count
 
 -- nothing where no times are in it
 unfoldable pub bin_row : Option Tick → Histogram → ℕ → ℕ → ℕ → List ℕ
@@ -50,13 +50,20 @@ setting_rows time place setting = bin_rows time setting.confirm_times place ++ n
 unfoldable pub rows_at : Option Tick → List SettingSummary → ℕ → List ℕ
 rows_at time settings place = option_map_or (setting_rows time place) (slice_get settings place) []
 
+-- what the cells of times are in: ticks, or units where it is known how long a tick lasts
+abbrev pub counted_word : Option Tick → List ℕ
+counted_word None = codes "ticks"
+counted_word (Some tick) = codes "time"
+
 -- what the columns are
-unfoldable pub times_heads : List ℕ
-times_heads = codes "<details><summary>These times in numbers</summary><div class=\"wide\"><table><caption>How many crashes were first confirmed when</caption><thead><tr><th scope=\"col\">setting</th><th scope=\"col\">ticks until first confirmed</th><th scope=\"col\">crashes</th></tr></thead><tbody>"
+unfoldable pub times_heads : Option Tick → List ℕ
+times_heads time =
+    markup (codes "<details><summary>These times in numbers</summary><div class=\"wide\"><table><caption>How many crashes were first confirmed when</caption><thead><tr><th scope=\"col\">setting</th><th scope=\"col\">")
+    ++ markup (counted_word time) ++ markup (codes " until first confirmed</th><th scope=\"col\">crashes</th></tr></thead><tbody>")
 
 -- the bins of the settings at these places in numbers, folded
 unfoldable pub times_table : Option Tick → List SettingSummary → List ℕ → List ℕ
-times_table time settings places = times_heads ++ flat_map (rows_at time settings) places ++ markup (codes "</tbody></table></div></details>")
+times_table time settings places = times_heads time ++ flat_map (rows_at time settings) places ++ markup (codes "</tbody></table></div></details>")
 
 -- what the charts show
 unfoldable pub times_words : List ℕ

@@ -2,10 +2,10 @@
 ghost use Rattle.std.specs.Prelude.{◌≡◌, ◌++◌, OnOk};
 ghost use Rattle.std.specs.List.{flat_map};
 ghost use Rattle.std.specs.String.{string_bytes};
-ghost use Rattle.sweep_times.specs.Times.{row_opening, row_end, filled_row, bin_row, row_at, bin_rows, never_row, setting_rows, rows_at, times_heads, times_table};
+ghost use Rattle.sweep_times.specs.Times.{row_opening, row_end, filled_row, bin_row, row_at, bin_rows, never_row, setting_rows, rows_at, counted_word, times_heads, times_table};
 
 use crate::bins::{bin_end, bin_start, count_at, never_confirmed};
-use drawing::{push_grouped, push_markup, push_timed};
+use drawing::{push_grouped, push_markup, push_time_alone};
 use figures::{Histogram, SettingSummary};
 use std::alloc::AllocError;
 use sweep_cells::{push_number, setting_at};
@@ -21,22 +21,38 @@ pub(crate) fn push_rows(
 ) -> Result<(), AllocError>
     ensures { OnOk result (string_bytes text.new ≡ string_bytes text.old ++ times_table time settings.now places.now) }
 {
-    push_heads(text)?;
+    push_heads(text, time)?;
     push_rows_of(text, time, settings, places)?;
     push_markup(text, "</tbody></table></div></details>")
 }
 
 /// Appends what the columns are.
 #[tactic(auto, unfolding(crate::specs::Times::times_heads))]
-fn push_heads(text: &mut String) -> Result<(), AllocError>
-    ensures { OnOk result (string_bytes text.new ≡ string_bytes text.old ++ times_heads) }
+fn push_heads(text: &mut String, time: Option<Tick>) -> Result<(), AllocError>
+    ensures { OnOk result (string_bytes text.new ≡ string_bytes text.old ++ times_heads time) }
 {
-    text.push_str(
+    let counted = counted_word(time);
+    push_markup(
+        text,
         "<details><summary>These times in numbers</summary><div class=\"wide\"><table>\
          <caption>How many crashes were first confirmed when</caption><thead><tr>\
-         <th scope=\"col\">setting</th><th scope=\"col\">ticks until first confirmed</th>\
-         <th scope=\"col\">crashes</th></tr></thead><tbody>",
+         <th scope=\"col\">setting</th><th scope=\"col\">",
+    )?;
+    push_markup(text, counted)?;
+    push_markup(
+        text,
+        " until first confirmed</th><th scope=\"col\">crashes</th></tr></thead><tbody>",
     )
+}
+
+/// What the cells of times are in.
+fn counted_word(time: Option<Tick>) -> &'static str
+    ensures { result.now ≡ counted_word time }
+{
+    match time {
+        Some(_) => "time",
+        None => "ticks",
+    }
 }
 
 /// Appends the rows of these settings.
@@ -148,9 +164,9 @@ fn push_filled_row(
     ensures { OnOk result (string_bytes text.new ≡ string_bytes text.old ++ filled_row time times.now place bin count) }
 {
     push_row_opening(text, place)?;
-    push_timed(text, time, bin_start(times, bin))?;
+    push_time_alone(text, time, bin_start(times, bin))?;
     push_markup(text, " to ")?;
-    push_timed(text, time, bin_end(times, bin).saturating_sub(1))?;
+    push_time_alone(text, time, bin_end(times, bin).saturating_sub(1))?;
     push_row_end(text, count)
 }
 

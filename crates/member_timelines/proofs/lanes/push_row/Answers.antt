@@ -4,4 +4,4 @@ use Rattle.member_timelines.proofs.lanes.push_row.Goals as goal
 
 pub returns : goal.returns
 unfolding table_row
-returns c = simp (c.in_ok-write-2.ensures.bytes, c.in_ok-push_lasting.ensures, c.in_ok-write.ensures.bytes, c.in_ok-push_escaped.ensures, c.in_ok-push_str.ensures.bytes, append_assoc) refl
+returns c = simp (c.in_ok-write.ensures.bytes, c.in_ok-push_moment_alone.ensures, c.in_ok-push_str-2.ensures.bytes, c.in_ok-push_escaped.ensures, c.in_ok-push_str.ensures.bytes, append_assoc) refl
