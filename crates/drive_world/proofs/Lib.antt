@@ -20,3 +20,13 @@ pub mod Busy
 pub mod Scripts
 pub mod Goes
 pub mod Opened
+pub mod Firsts
+pub mod Cuts
+pub mod Parts
+pub mod Beginnings
+pub mod Naming
+pub mod Handed
+pub mod Partings
+pub mod RowOrder
+pub mod Resting
+pub mod Ending
