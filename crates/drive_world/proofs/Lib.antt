@@ -26,7 +26,6 @@ pub mod Parts
 pub mod Beginnings
 pub mod Naming
 pub mod Handed
-pub mod Partings
 pub mod RowOrder
 pub mod Resting
 pub mod Ending
