@@ -1,0 +1,11 @@
+pub mod Telling
+pub mod Courses
+pub mod Drives
+pub mod WorldOf
+pub mod Next
+pub mod DriveOf
+pub mod Turns
+pub mod Halts
+pub mod Rows
+pub mod UnderWay
+pub mod Ends
