@@ -24,6 +24,7 @@ import presets
 import run_pages
 import shards
 import sweeps
+import test_model_drive
 import test_model_parts
 import test_model_rows
 import test_model_steps
@@ -34,8 +35,8 @@ from harness import end, parser_of, program_at
 from program import Program, Wrong
 from stand_in import StandIn
 
-KINDS = (worked, test_model_steps, test_model_parts, test_model_rows, draws, texts, commands, presets, sweeps, shards, run_pages,
-         large_pages, long_runs, writes)
+KINDS = (worked, test_model_steps, test_model_parts, test_model_rows, test_model_drive, draws, texts, commands, presets, sweeps, shards,
+         run_pages, large_pages, long_runs, writes)
 
 
 def failure_of(path, room, case):

@@ -1,0 +1,5 @@
+pub mod Cutting
+pub mod Walking
+pub mod Whole
+pub mod Judged
+pub mod Payloads

@@ -1,0 +1,11 @@
+use Rattle.std.proofs.Common.{◌≡◌, ◌<◌, All}
+use Rattle.std.specs.List.{range_with_len}
+use Rattle.scenario.specs.Setup.{member_count}
+use Rattle.drive_events.proofs.names.members.Given as goal
+
+-- the members so far
+abbrev pub invariant-loop-number : goal.invariant-loop-number
+invariant-loop-number l = record {
+  all : l.list.items ≡ range_with_len 0 l.number;
+  within : All (λ m. m < member_count l.scenario) l.list.items;
+}

@@ -1,0 +1,14 @@
+//! A harness behind two pipes: what is sent goes out while answers come in, so two full pipes hold nobody up.
+#![tactic(auto)]
+
+mod chunks;
+mod ends;
+mod incoming;
+mod pipes;
+pub mod system;
+#[cfg(test)]
+mod tests;
+
+pub use ends::{Closed, Ends, Ready};
+pub use incoming::Found;
+pub use pipes::{Pipes, ReceiveError, SendError};

@@ -1,0 +1,56 @@
+-- Of an event that isn't asked no answer counts.
+use Rattle.std.proofs.Common.{◌≡◌, ◌≢◌, [], List, Option, Some, None, ap, refl}
+use Rattle.std.specs.Option.{option_map}
+use Rattle.std.specs.FinMap.{get}
+use Rattle.base.specs.declared.key.Key.{Key}
+use Rattle.base.specs.World.{World, outcome}
+use Rattle.scenario.specs.Setup.{Setup}
+use Rattle.drive_events.specs.declared.content.Content.{Content}
+use Rattle.drive_events.specs.declared.content.Content.TheVariants.{Start, Crash, Leave, Timer, Message}
+use Rattle.drive_answers.specs.declared.action.Action.{Action}
+use Rattle.drive_process.specs.declared.process.Phase.{Phase}
+use Rattle.drive_process.specs.declared.process.Phase.TheVariants.{Waiting, Up, Down}
+use Rattle.drive_process.specs.Process.{Process, Effect, unchanged}
+use Rattle.drive_process.specs.Driven.{Answers, heeded, driven}
+use Rattle.drive_world.specs.declared.fate.Fate.TheVariants.{Asked}
+use Rattle.drive_world.specs.Telling.{fate_at, fate_by, fate_of}
+use Rattle.drive_world.specs.Courses.{outcome_by}
+
+unasked : (s : Setup) (k : Key) (content : Content) (phase : Phase) (actions : List Action) (o : Effect) → fate_at content phase ≢ Asked
+    → heeded s k content phase [] o ≡ heeded s k content phase actions o
+unfolding heeded
+unasked s k Start Waiting actions o other = absurd (other refl)
+unasked s k Start Up actions o other = absurd (other refl)
+unasked s k Start Down actions o other = refl
+unasked s k Crash Waiting actions o other = refl
+unasked s k Crash Up actions o other = refl
+unasked s k Crash Down actions o other = refl
+unasked s k Leave Waiting actions o other = refl
+unasked s k Leave Up actions o other = absurd (other refl)
+unasked s k Leave Down actions o other = refl
+unasked s k (Timer id) Waiting actions o other = refl
+unasked s k (Timer id) Up actions o other = absurd (other refl)
+unasked s k (Timer id) Down actions o other = refl
+unasked s k (Message m) Waiting actions o other = refl
+unasked s k (Message m) Up actions o other = absurd (other refl)
+unasked s k (Message m) Down actions o other = refl
+
+module _ (s : Setup) (answers : Answers) (k : Key) (content : Content) where
+  passed_by : (held : Option Process) → fate_by content (option_map (λ p. p.phase) held) ≢ Asked
+      → option_map (λ p. heeded s k content p.phase [] (unchanged p)) held ≡ option_map (driven s answers k content) held
+  unfolding driven
+  passed_by None other = refl
+  passed_by (Some p) other = ap Some (unasked s k content p.phase (answers k) (unchanged p) other)
+
+  answered_by : (held : Option Process) → option_map (λ p. heeded s k content p.phase (answers k) (unchanged p)) held ≡ option_map (driven s answers k content) held
+  unfolding driven
+  answered_by None = refl
+  answered_by (Some p) = refl
+
+  -- what is over at once comes to what the machine makes of it
+  pub passed : (w : World Process Content) → fate_of w k content ≢ Asked → outcome_by s [] w k content ≡ outcome (driven s answers) w k content
+  passed w other = passed_by (get w.members k.to) other
+
+  -- and so does what is answered
+  pub answered : (w : World Process Content) → outcome_by s (answers k) w k content ≡ outcome (driven s answers) w k content
+  answered w = answered_by (get w.members k.to)

@@ -1,0 +1,7 @@
+pub mod Telling
+pub mod Courses
+pub mod Drives
+pub mod WorldOf
+pub mod Next
+pub mod DriveOf
+pub mod Turns

@@ -1,0 +1,33 @@
+//! What a drive needs of a harness: it takes lines that tell of events, and gives lines that answer them.
+ghost use Rattle.std.specs.Prelude.{◌≡◌, ◌++◌, ◌∷◌, [], ℕ, List, IfOk, OnOk, OnErr};
+
+/// Why a harness gives no line.
+#[derive(Clone, Copy, Debug, PartialEq, Eq, Drop)]
+pub enum NoLine {
+    /// Its line has no line feed among so many bytes as a line may have.
+    Long,
+    /// Its text ended before the line feed, or can't be read.
+    Ended,
+    /// Memory was refused.
+    Memory,
+}
+
+/// A harness that takes lines without waiting for itself: while it is told, it takes no answer that wasn't asked.
+pub trait Harness {
+    // the bytes that it was told
+    ghost told: { Self → List ℕ };
+
+    // the lines that it gave
+    ghost gave: { Self → List (List ℕ) };
+
+    /// Tells it lines. An error says that it can't be told any more.
+    fn tell(&mut self, lines: &[u8]) -> Result<(), ()>
+        ensures told { OnOk result (told self.new ≡ told self.old ++ lines.now) }
+        ensures gave { gave self.new ≡ gave self.old };
+
+    /// Its next line, without the line feed. It waits for it without limit.
+    fn answer(&mut self) -> Result<Vec<u8>, NoLine>
+        ensures gave { IfOk result (λ line. gave self.new ≡ gave self.old ++ line.items ∷ []) }
+        ensures told { told self.new ≡ told self.old }
+        ensures none { OnErr result (gave self.new ≡ gave self.old) };
+}

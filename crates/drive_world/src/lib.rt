@@ -1,0 +1,22 @@
+//! The world of a drive: which event is told next, which answer is taken, and which rows can be written.
+#![tactic(auto)]
+
+mod driving;
+mod ends;
+mod fate;
+mod harness;
+pub mod laws;
+mod opening;
+mod pending;
+mod processes;
+mod setting;
+mod taker;
+mod turn;
+mod waiting;
+mod world;
+
+pub use driving::{drive, write_end};
+pub use ends::{DriveError, Stop};
+pub use harness::{Harness, NoLine};
+pub use setting::Setting;
+pub use taker::RowTaker;

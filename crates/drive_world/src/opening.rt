@@ -1,0 +1,83 @@
+//! The world in which a drive begins: all members wait, and all events of the script pend.
+ghost use Rattle.std.specs.Prelude.{◌≡◌, ◌<◌, [], length, OnOk, IfOk};
+ghost use Rattle.base.specs.World.{with_events};
+ghost use Rattle.scenario.specs.Setup.{member_count};
+ghost use Rattle.member.specs.Opening.{script_key};
+ghost use Rattle.drive_process.specs.Driven.{script_of, ending};
+ghost use Rattle.drive_world.specs.Courses.{at_first};
+ghost use Rattle.drive_world.specs.WorldOf.{events_in};
+ghost use Rattle.drive_world.specs.DriveOf.{drive_of};
+
+use crate::pending::Pending;
+use crate::processes::Processes;
+use crate::waiting::Waiting;
+use crate::world::World;
+use base::{Key, MemberId, Memory, Moment};
+use drive_events::Content;
+use drive_process::Event;
+use scenario::Scenario;
+use std::alloc::Global;
+
+impl World {
+    /// The world of a scenario before anything is told.
+    pub(crate) fn open(alloc: Global, scenario: &Scenario) -> Result<Self, Memory>
+        ensures drive { IfOk result (λ world. drive_of world ≡ at_first scenario.now) }
+        ensures rows { IfOk result (λ world. world.rows.items ≡ []) }
+        ensures places { IfOk result (λ world. length world.waiting.busy.items ≡ member_count scenario.now) }
+    {
+        let mut pending = Pending::new(alloc);
+        for number in 0..scenario.members() {
+            push_script(&mut pending, scenario, MemberId(number as u16))?;
+        }
+        let processes = Processes::of(alloc, scenario)?;
+        let waiting = Waiting::new(alloc, scenario.members())?;
+        Ok(World {
+            processes,
+            pending,
+            waiting,
+            rows: Vec::new(alloc),
+            begun: false,
+            answers: 0,
+        })
+    }
+}
+
+/// What the script has for a member pends: its start, and its crash or its leave, if it has one.
+fn push_script(pending: &mut Pending, scenario: &Scenario, member: MemberId) -> Result<(), Memory>
+    requires { member < member_count scenario.now }
+    ensures { OnOk result (events_in pending.new ≡ with_events (events_in pending.old) (script_of scenario.now member)) }
+{
+    let start = script_event(member, scenario.start(member), 0, Content::Start);
+    pending.push(start)?;
+    push_ending(pending, member, scenario.crash(member), Content::Crash)?;
+    push_ending(pending, member, scenario.leave(member), Content::Leave)
+}
+
+/// The event with which a member's part ends pends, if the script has it.
+fn push_ending(
+    pending: &mut Pending,
+    member: MemberId,
+    at: Option<Moment>,
+    content: Content,
+) -> Result<(), Memory>
+    ensures { OnOk result (events_in pending.new ≡ with_events (events_in pending.old) (ending content member at)) }
+{
+    match at {
+        Some(at) => pending.push(script_event(member, at, 1, content)),
+        None => Ok(()),
+    }
+}
+
+/// An event of the script: its receiver is its sender.
+fn script_event(member: MemberId, at: Moment, number: u64, content: Content) -> Event
+    ensures key { result.key ≡ script_key member at number }
+    ensures content { result.content ≡ content }
+{
+    let key = Key {
+        at,
+        to: member,
+        from: member,
+        number,
+    };
+    Event { key, content }
+}

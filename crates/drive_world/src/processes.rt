@@ -1,0 +1,68 @@
+//! The processes of all members, each at the place of its member's number.
+ghost use Rattle.std.specs.Prelude.{◌≡◌, ◌<◌, IfOk, IsErrOf};
+ghost use Rattle.std.specs.Option.{option_map};
+ghost use Rattle.std.specs.FinMap.{get};
+ghost use Rattle.member.specs.Here.{IsSoundSetting};
+ghost use Rattle.drive_process.specs.Answers.{AreSoundActions};
+ghost use Rattle.drive_process.specs.Driven.{opening};
+ghost use Rattle.drive_world.specs.WorldOf.{members_of, Heeds};
+
+use base::{MemberId, Memory};
+use drive_answers::Action;
+use drive_process::{Effects, Event, Phase, Process, heed};
+use links::Links;
+use member::StepError;
+use scenario::Scenario;
+use std::alloc::Global;
+
+/// A process for each member.
+#[derive(Drop)]
+pub(crate) struct Processes {
+    pub(crate) list: Vec<Process>,
+}
+
+impl Processes {
+    /// All members of the scenario before their starts.
+    pub(crate) fn of(alloc: Global, scenario: &Scenario) -> Result<Self, Memory>
+        ensures { IfOk result (λ all. members_of all ≡ (opening scenario.now).members) }
+    {
+        let mut list = Vec::new(alloc);
+        for number in 0..scenario.members() {
+            list.push(Process::of(scenario, MemberId(number as u16)))?;
+        }
+        Ok(Processes { list })
+    }
+
+    /// Whether a member has started, runs or is down: `None` where it is none of the scenario.
+    pub(crate) fn phase(&self, member: &MemberId) -> Option<Phase>
+        ensures { result ≡ option_map (λ p. p.phase) (get (members_of self.now) member.now) }
+    {
+        let place = member.index();
+        if place < self.list.len() {
+            Some(self.list[place].phase())
+        } else {
+            None
+        }
+    }
+
+    /// Lets the receiver of an event heed it by these actions, and gives what that makes: `None` where it is for nobody.
+    pub(crate) fn heed(
+        &mut self,
+        alloc: Global,
+        scenario: &Scenario,
+        links: &Links,
+        event: &Event,
+        actions: Vec<Action>,
+    ) -> Result<Option<Effects>, StepError>
+        requires setting { IsSoundSetting scenario.now links.now event.now.key }
+        requires sound { AreSoundActions scenario.now event.now.key.to actions.items }
+        ensures { IfOk result (λ effects. Heeds scenario.now event.now actions.items (members_of self.old) (members_of self.new) effects) }
+    {
+        let place = event.key.to.index();
+        if self.list.len() <= place {
+            return Ok(None);
+        }
+        let process = &mut self.list[place];
+        Ok(Some(heed(alloc, process, scenario, links, event, actions)?))
+    }
+}

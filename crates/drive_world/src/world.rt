@@ -1,0 +1,141 @@
+//! A world that a harness drives: its processes, the events that pend, and the rows that can't be written yet.
+ghost use Rattle.std.specs.Prelude.{◌≡◌, ◌≤◌, ◌<◌, OnOk, IfSome, IfNone, Some, None};
+ghost use Rattle.std.specs.Bool.{OnTrue, OnFalse};
+ghost use Rattle.std.specs.FinMap.{get};
+ghost use Rattle.scenario.specs.Setup.{member_count};
+ghost use Rattle.drive_events.specs.declared.content.Content.{Content as AContent};
+ghost use Rattle.drive_process.specs.Answers.{AreSoundActions};
+ghost use Rattle.drive_world.specs.Telling.{fate_at};
+ghost use Rattle.drive_world.specs.WorldOf.{events_in};
+ghost use Rattle.base.specs.World.{IsOver};
+ghost use Rattle.drive_world.specs.Turns.{GoesOn};
+ghost use Rattle.drive_world.specs.DriveOf.{world_of, IsSetting, IsSafeBound, Settles, Adds, HasFate};
+
+use crate::fate::Fate;
+use crate::pending::Pending;
+use crate::processes::Processes;
+use crate::setting::Setting;
+use crate::waiting::Waiting;
+use base::{Fault, Key, Memory, Moment};
+use drive_answers::Action;
+use drive_events::Content;
+use drive_process::{Effects, Event, Phase};
+use std::alloc::Global;
+use trace::Row;
+
+/// A world of processes and events, of which some wait for their answers.
+#[derive(Drop)]
+pub(crate) struct World {
+    pub(crate) processes: Processes,
+    pub(crate) pending: Pending,
+    pub(crate) waiting: Waiting,
+    /// The rows of events that are over, in the order made, but for those that are written.
+    pub(crate) rows: Vec<Row>,
+    /// Whether a line was told.
+    pub(crate) begun: bool,
+    /// How many answers were taken.
+    pub(crate) answers: u64,
+}
+
+impl World {
+    /// What becomes of an event that pends, if it may be told: `None` where none has the key.
+    pub(crate) fn fate(&self, key: &Key) -> Option<Fate>
+        ensures fate { IfSome result (HasFate self.now key.now) }
+        ensures none { IfNone result (get (events_in self.now.pending) key.now ≡ None) }
+    {
+        let content = self.pending.content(key)?;
+        match self.processes.phase(&key.to) {
+            Some(phase) => Some(fate_at(content, phase)),
+            None => Some(Fate::Untold),
+        }
+    }
+
+    /// Whether an event up to the end pends.
+    pub(crate) fn goes_on(&self, end: Moment) -> bool
+        ensures on { OnTrue result (GoesOn end self.now) }
+        ensures over { OnFalse result (IsOver end (world_of self.now)) }
+    {
+        match self.pending.least() {
+            Some(least) => least.at <= end,
+            None => false,
+        }
+    }
+
+    /// The moment before which the least event of a member is safe.
+    pub(crate) fn safe_bound(&self, setting: &Setting) -> Moment
+        ensures { IsSafeBound setting.now.scenario.now.end setting.now.least_delay (world_of self.now) result }
+    {
+        let past = setting.scenario.end().ticks() + 1;
+        let Some(least) = self.pending.least() else {
+            return Moment(past);
+        };
+        let Some(delay) = setting.least_delay else {
+            return Moment(past);
+        };
+        let near = least.at.ticks().saturating_add(delay);
+        Moment(past.min(near))
+    }
+
+    /// The event of a key is over, by these actions: its receiver heeds it, what that makes pends, and its rows are kept.
+    ///
+    /// Faults: `Memory`; `CounterOverflow` where a number would pass 2^63.
+    pub(crate) fn settle(
+        &mut self,
+        alloc: Global,
+        setting: &Setting,
+        key: &Key,
+        actions: Vec<Action>,
+    ) -> Result<(), Fault>
+        requires setting { IsSetting setting.now }
+        requires early { key.now.at ≤ setting.now.scenario.now.end }
+        requires receiver { key.now.to < member_count setting.now.scenario.now }
+        requires sender { key.now.from < member_count setting.now.scenario.now }
+        requires sound { AreSoundActions setting.now.scenario.now key.now.to actions.items }
+        ensures settles { OnOk result ((content : AContent) → get (events_in self.old.pending) key.now ≡ Some content
+            → Settles setting.now.scenario.now key.now content actions.items self.old self.new) }
+        ensures waiting { OnOk result (self.new.waiting ≡ self.old.waiting) }
+        ensures begun { OnOk result (self.new.begun ≡ self.old.begun) }
+    {
+        let Some(content) = self.pending.take(key) else {
+            return Ok(());
+        };
+        let event = Event { key: *key, content };
+        let made = self
+            .processes
+            .heed(alloc, setting.scenario, setting.links, &event, actions)?;
+        Ok(self.add(made)?)
+    }
+
+    /// What an event has made pends, and its rows are kept.
+    fn add(&mut self, made: Option<Effects>) -> Result<(), Memory>
+        ensures added { OnOk result (Adds made self.old self.new) }
+        ensures processes { self.new.processes ≡ self.old.processes }
+        ensures waiting { self.new.waiting ≡ self.old.waiting }
+        ensures begun { self.new.begun ≡ self.old.begun }
+    {
+        let Some(effects) = made else {
+            return Ok(());
+        };
+        let Effects { events, mut rows } = effects;
+        self.pending.push_all(events)?;
+        self.rows.append(&mut rows)?;
+        Ok(())
+    }
+}
+
+/// What becomes of an event of a member of this phase.
+fn fate_at(content: &Content, phase: Phase) -> Fate
+    ensures { result ≡ fate_at content.now phase }
+{
+    match phase {
+        Phase::Waiting => match content {
+            Content::Start => Fate::Asked,
+            _ => Fate::Untold,
+        },
+        Phase::Up => match content {
+            Content::Crash => Fate::Told,
+            _ => Fate::Asked,
+        },
+        Phase::Down => Fate::Untold,
+    }
+}
