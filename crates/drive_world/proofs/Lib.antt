@@ -20,3 +20,8 @@ pub mod Busy
 pub mod Scripts
 pub mod Goes
 pub mod Opened
+pub mod Cuts
+pub mod Parts
+pub mod Beginnings
+pub mod Naming
+pub mod Handed

@@ -23,6 +23,11 @@ use Rattle.drive_world.specs.Courses.{move_by, take}
 use Rattle.drive_world.specs.WorldOf.{events_in}
 use Rattle.drive_world.specs.DriveOf.{drive_of, world_of, Settles}
 use Rattle.drive_world.specs.Turns.{Comes, Turns}
+use Rattle.drive_world.specs.declared.ends.Halt.{Halt}
+use Rattle.drive_world.specs.declared.ends.Halt.TheVariants.{Stopped, Closed}
+use Rattle.drive_world.specs.Halts.{IsHalted, ComesTo}
+use Rattle.drive_world.specs.Next.{has_one_for}
+use Rattle.drive_world.proofs.Nexts.{free_by}
 
 pub same_drive : (w v : World Process Content) (a b : List Key) (x y : Bool) → w ≡ v → a ≡ b → x ≡ y → ◌≡◌ {A = Drive} (record { world = w; waiting = a; begun = x }) (record { world = v; waiting = b; begun = y })
 same_drive w v a b x y world waiting begun i = record { world = world i; waiting = waiting i; begun = begun i }
@@ -125,3 +130,26 @@ never_stuck s least_delay w k sound is least in_time nobody none =
       };
       free = subst (AllByRecursion (λ (q : Key). q.to ≢ k.to)) (sym nobody) tt;
     })
+
+-- the member of the least of all events has one that waits, where none may be told
+pub first_waits : (s : Setup) (least_delay : Option ℕ) (w : Held) (k : Key) → IsSound s → IsLeastDelay s least_delay → IsLeastKey (events_in w.pending) k → k.at ≤ s.end → NoneMay s least_delay (drive_of w)
+    → has_one_for k.to w.waiting.keys.items ≡ true
+first_waits s least_delay w k sound is least in_time none = either (has_one_for k.to w.waiting.keys.items) refl
+  where
+    either : (b : Bool) → has_one_for k.to w.waiting.keys.items ≡ b → b ≡ true
+    either true has = refl
+    either false has = absurd (none k (record {
+      safe = record {
+        first = record { here = least.here; least = λ q here same. least.least q here };
+        in_time = in_time;
+        near = near_least s (world_of w) k least_delay sound is least;
+      };
+      free = free_by k.to w.waiting.keys.items has;
+    }))
+
+-- what the drive comes to where no answer came
+pub halts_by : (s : Setup) (least_delay : Option ℕ) (halt : Option Halt) (before after : Held) (told_old told_new : List ℕ) (gave_old gave_new : List (List ℕ)) → is_some halt ≡ true
+    → IsHalted s least_delay before after told_old told_new gave_old gave_new → ComesTo s least_delay halt before after told_old told_new gave_old gave_new
+halts_by s least_delay None before after told_old told_new gave_old gave_new some halted = absurd (false≢true some)
+halts_by s least_delay (Some (Stopped place stop event)) before after told_old told_new gave_old gave_new some halted = halted
+halts_by s least_delay (Some Closed) before after told_old told_new gave_old gave_new some halted = inl halted

@@ -1,18 +1,19 @@
 -- Wherever a drive comes, events are for members and of members.
-use Rattle.std.proofs.Common.{◌≡◌, ◌≢◌, ◌++◌, ◌∷◌, ◌∙◌, length, ◌⊎◌, inl, inr, ℕ, ◌≤◌, ◌<◌, Bool, true, false, cond, List, [], Option, Some, None, ap, sym, subst, refl}
+use Rattle.std.proofs.Common.{◌≡◌, ◌≢◌, ◌++◌, ◌∷◌, ◌∙◌, length, ◌⊎◌, inl, inr, ℕ, ◌≤◌, ◌<◌, Bool, true, false, cond, List, [], map, Option, Some, None, ap, sym, subst, refl}
 use Rattle.std.specs.Option.{is_some, option_map}
 use Rattle.std.specs.List.{AllByRecursion}
 use Rattle.std.specs.Ordering.{eq_by_cmp, is_eq}
 use Rattle.std.specs.Cmp.{tied_itself}
 use Rattle.std.specs.FinMap.{FinMap, get, contains_key, insert, remove, get-insert}
 use Rattle.base.specs.declared.key.Key.{Key}
-use Rattle.base.specs.World.{World, Outcome, IsPending, settled, events_of, with_events}
+use Rattle.base.specs.World.{World, Outcome, IsPending, settled, rows_of, events_of, with_events}
 use Rattle.base.specs.Order.{key_cmp, key_total}
 use Rattle.base.specs.Run.{holds-with_events, contains-remove, tells}
 use Rattle.base.proofs.Rising.{all_append, all_weaker}
 use Rattle.windows.proofs.Early.{get-removed}
 use Rattle.scenario.specs.Setup.{Setup, IsSound, member_count}
 use Rattle.trace.specs.declared.row.Row.{Row}
+use Rattle.member.specs.Places.{place_of}
 use Rattle.drive_events.specs.declared.content.Content.{Content}
 use Rattle.drive_answers.specs.declared.action.Action.{Action}
 use Rattle.drive_process.specs.Answers.{AreSoundActions, AreSoundAnswers}
@@ -23,13 +24,23 @@ use Rattle.drive_process.proofs.Fair.{fair_driven}
 use Rattle.drive_world.specs.Courses.{outcome_by}
 use Rattle.drive_world.specs.declared.world.World.{World as Held}
 use Rattle.drive_world.specs.DriveOf.{world_of, IsPeopled, Settles}
+use Rattle.drive_world.specs.Rows.{key_of}
 use Rattle.drive_world.specs.Turns.{Waits, IsOnWay}
 
 -- what holds of the events that pend and of those made holds of all that pend then
-holds_after : (P : Key → Type 0) (w : World Process Content) (k : Key) (o : Option (Outcome Process Content Row)) → ((r : Key) → IsPending w r → P r) → AllByRecursion (λ e. P e.0) (events_of o)
+pub holds_after : (P : Key → Type 0) (w : World Process Content) (k : Key) (o : Option (Outcome Process Content Row)) → ((r : Key) → IsPending w r → P r) → AllByRecursion (λ e. P e.0) (events_of o)
     → (r : Key) → IsPending (settled w k o) r → P r
 holds_after P w k None old new r here = old r (contains-remove w.pending k r here).0
 holds_after P w k (Some o) old new r here = holds-with_events P o.events (remove w.pending k) (λ t there. old t (contains-remove w.pending k t there).0) new r here
+
+all_keyed : (k : Key) (rows : List Row) (is : List ℕ) → map place_of rows ≡ map (λ i. (k, i)) is → AllByRecursion (λ row. key_of row ≡ k) rows
+all_keyed k [] is same = tt
+all_keyed k (row ∷ rows) [] same = cc
+all_keyed k (row ∷ rows) (i ∷ is) same =
+    let whole : place_of row ∷ map place_of rows ≡ (k, i) ∷ map (λ i. (k, i)) is = same in
+    let first : place_of row ≡ (k, i) = cc in
+    let rest : map place_of rows ≡ map (λ i. (k, i)) is = cc in
+    (ap (λ (p : Key × ℕ). p.0) first, all_keyed k rows is rest)
 
 -- answers that give these actions to the one event, and none to others
 only : Key → List Action → Answers
@@ -70,6 +81,21 @@ module _ (s : Setup) (sound : IsSound s) (k : Key) (content : Content) (actions 
       let o = heeded s k content p.phase actions (unchanged p) in
       all_weaker (λ e. (e.0.from ≡ k.to) × (p.next_number ≤ e.0.number) × (e.0.number < o.state.next_number)) (λ e. e.0.from < member_count s)
       (λ e made. subst (λ m. m < member_count s) (sym made.0) member) o.events (well_made p).made
+
+  later_by : (held : Option Process) → AllByRecursion (λ e. k.at < e.0.at) (events_of (option_map (λ p. heeded s k content p.phase actions (unchanged p)) held))
+  later_by None = tt
+  later_by (Some p) = (well_made p).later
+
+  keyed_by : (held : Option Process) → AllByRecursion (λ row. key_of row ≡ k) (rows_of (option_map (λ p. heeded s k content p.phase actions (unchanged p)) held))
+  keyed_by None = tt
+  keyed_by (Some p) = all_keyed k (heeded s k content p.phase actions (unchanged p)).rows _ (well_made p).counts
+
+  -- each event that is made comes later, and each row carries the event's key
+  pub events_later : (w : World Process Content) → AllByRecursion (λ e. k.at < e.0.at) (events_of (outcome_by s actions w k content))
+  events_later w = later_by (get w.members k.to)
+
+  pub rows_keyed : (w : World Process Content) → AllByRecursion (λ row. key_of row ≡ k) (rows_of (outcome_by s actions w k content))
+  rows_keyed w = keyed_by (get w.members k.to)
 
   pub people_after : (w : World Process Content) → IsPeopled s w → IsPeopled s (settled w k (outcome_by s actions w k content))
   people_after w people = record {

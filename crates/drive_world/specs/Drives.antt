@@ -22,6 +22,7 @@ use Rattle.drive_process.specs.Answers.{AreSoundAnswers}
 use Rattle.drive_process.specs.Driven.{Answers, driven, opening}
 use Rattle.drive_process.specs.Own.{Says}
 use Rattle.drive_world.specs.Courses.{Course, IsCourse}
+use Rattle.drive_world.specs.Next.{has_one_for}
 
 -- these answers give each asked event what was taken for it, in the order asked; of the last nothing may have been taken
 abbrev pub Agree : Answers → List Key → List (List ℕ × List Action) → Type 0
@@ -41,22 +42,39 @@ pub record DrivesTo (s : Setup) (came_in : List (List ℕ)) (told : List ℕ) (r
   pub lines : course.lines ≡ told
   pub run : (answers : Answers) → AreSoundAnswers s answers → Agree answers course.asked course.taken → (keys : List Key) × SequentialRun (driven s answers) s.end (opening s) keys rows
 
--- A beginning of it: the rows of all events before the first that was to be answered and wasn't. That one is the least that pends.
+-- The run by these answers up to an event: all events before it were handled, and none else.
+pub record RunsBefore (s : Setup) (answers : Answers) (key : Key) (rows : List Row) : Type 0 where
+  pub keys : List Key
+  pub world : World Process Content
+  pub run : Run (driven s answers) s.end (opening s) keys rows world
+  pub early : AllByRecursion (λ k. IsBefore k key) keys
+  pub late : (q : Key) → IsPending world q → ¬ (IsBefore q key)
+
+-- A beginning of the trace, up to some event, whatever the answers to other events would have been.
+pub record BeginsDrive (s : Setup) (rows : List Row) : Type 0 where
+  pub least_delay : Option ℕ
+  pub least : IsLeastDelay s least_delay
+  pub course : Course
+  pub is : IsCourse s least_delay course
+  pub key : Key
+  pub run : (answers : Answers) → AreSoundAnswers s answers → Agree answers course.asked course.taken → RunsBefore s answers key rows
+
+-- The beginning of it that has the rows of all events before the first that was to be answered and wasn't. That one is the least that
+-- pends, and its member waits for an answer. What came in behind the answers is no answer.
 pub record DrivesUpTo (s : Setup) (came_in : List (List ℕ)) (told : List ℕ) (rows : List Row) : Type 0 where
   pub least_delay : Option ℕ
   pub least : IsLeastDelay s least_delay
   pub course : Course
   pub is : IsCourse s least_delay course
-  -- what came in behind is a line that is no answer, if there is one
   pub behind : List (List ℕ)
-  pub read : map (λ t. t.0) course.taken ++ behind ≡ came_in
+  pub read : came_in ≡ map (λ t. t.0) course.taken ++ behind
   pub lines : course.lines ≡ told
   pub key : Key
-  pub first : (q : Key) → IsPending course.last.world q → ¬ (IsBefore q key)
+  pub in_time : key.at ≤ s.end
   pub pends : IsPending course.last.world key
-  pub run : (answers : Answers) → AreSoundAnswers s answers → Agree answers course.asked course.taken
-      → (keys : List Key) × (world : World Process Content) × Run (driven s answers) s.end (opening s) keys rows world × AllByRecursion (λ k. IsBefore k key) keys
-      × ((q : Key) → IsPending world q → ¬ (IsBefore q key))
+  pub first : (q : Key) → IsPending course.last.world q → ¬ (IsBefore q key)
+  pub unanswered : has_one_for key.to course.last.waiting ≡ true
+  pub run : (answers : Answers) → AreSoundAnswers s answers → Agree answers course.asked course.taken → RunsBefore s answers key rows
 
 -- ---- our own members
 

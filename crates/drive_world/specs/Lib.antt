@@ -5,3 +5,7 @@ pub mod WorldOf
 pub mod Next
 pub mod DriveOf
 pub mod Turns
+pub mod Halts
+pub mod Rows
+pub mod UnderWay
+pub mod Ends

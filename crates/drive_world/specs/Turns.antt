@@ -5,9 +5,7 @@ use Rattle.base.specs.World.{World, IsPending}
 use Rattle.drive_events.specs.declared.content.Content.{Content}
 use Rattle.drive_process.specs.Process.{Process}
 use Rattle.std.specs.List.{AllByRecursion}
-use Rattle.std.specs.List.Sorted.{IsPermutation, IsSorted}
-use Rattle.std.specs.declared.cmp.Ordering.{Ordering}
-use Rattle.windows.specs.Cluster.{IsRowOrder}
+use Rattle.std.specs.List.Sorted.{IsPermutation}
 use Rattle.scenario.specs.Setup.{Setup, member_count}
 use Rattle.trace.specs.declared.row.Row.{Row}
 use Rattle.drive_world.specs.declared.world.World.{World as Held}
@@ -54,10 +52,3 @@ pub record HasCome (s : Setup) (least_delay : Option ℕ) (w : Held) (told : Lis
   pub lines : course.lines ≡ told
   pub read : map (λ t. t.0) course.taken ≡ gave
   pub rows : IsPermutation course.rows (written ++ w.rows.items)
-
--- these rows, sorted
-pub record IsInRowOrder (rows sorted : List Row) : Type 0 where
-  pub cmp : Row → Row → Ordering
-  pub order : IsRowOrder cmp
-  pub same : IsPermutation rows sorted
-  pub up : IsSorted cmp sorted

@@ -1,65 +1,103 @@
 //! The loop of a drive: turn after turn, until no event up to the end is left.
-ghost use Rattle.std.specs.Prelude.{◌≡◌, ◌++◌, List, [], OnOk};
-ghost use Rattle.std.specs.List.Sorted.{IsPermutation, IsSorted};
-ghost use Rattle.trace.specs.declared.row.Row.{Row as ARow};
+ghost use Rattle.std.specs.Prelude.{◌≡◌, ◌++◌, ◌+◌, ◌<◌, ◌^◌, ℕ, List, [], Option, IfOk, OnOk, OnErr, IfErr};
+ghost use Rattle.std.specs.Io.KnownBytes.{Appends};
+ghost use Rattle.trace.specs.Text.{trace_text};
 ghost use Rattle.drive_events.specs.Line.{end_line};
+ghost use Rattle.run_output.specs.Written.{sink_failures};
 ghost use Rattle.drive_world.specs.Drives.{DrivesTo};
 ghost use Rattle.drive_world.specs.DriveOf.{IsSetting};
-ghost use Rattle.drive_world.specs.Turns.{IsInRowOrder};
+ghost use Rattle.drive_world.specs.UnderWay.{IsUnderWay};
+ghost use Rattle.drive_world.specs.Ends.{EndsEarly, drive_failures, HasTaken, TakesBeginning, PausesAt};
 
-use crate::ends::DriveError;
-use crate::harness::Harness;
+use crate::early::end_early;
+use crate::ends::{DriveError, Halt, error_of};
+use crate::handing::hand_on;
+use crate::harness::{Harness, Untold};
 use crate::setting::Setting;
-use crate::taker::RowTaker;
 use crate::turn::turn;
 use crate::world::World;
-use base::{Fault, Memory};
+use base::Fault;
 use drive_events::push_end;
+use reports::Tallies;
+use run_output::RowSink;
 use scenario::Scenario;
 use std::alloc::Global;
 use trace::Row;
 
 /// Drives the world of a scenario to its end: the harness is told of each event, and its answers say what comes of them. The
-/// rows of the trace are then handed on, in their order.
+/// place takes the trace: its rows are handed on as soon as no event before them is left. It gives what was tallied of them.
 ///
-/// Errors: `Stopped` where an answer is none; `Closed` where the harness can't be told; a fault: `Memory`, `CounterOverflow`
-/// where a number of a member or of the turns would pass its limit, and those of the taker.
-pub fn drive<H: Harness, R: RowTaker>(
+/// Errors: `Stopped` where an answer is none; `Closed` where the harness can't be told: the place has then got the rows
+/// of all events before the first that was to be answered and wasn't. A fault: `Memory`; `CounterOverflow` where a number
+/// of a member, of the turns or of the report would pass its limit; `Write` where the place failed.
+pub fn drive<H: Harness, T: RowSink<P>, P>(
     alloc: Global,
     setting: &Setting,
     harness: &mut H,
-    taker: &mut R,
-) -> Result<(), DriveError>
+    place: &mut P,
+) -> Result<Tallies, DriveError>
     requires setting { IsSetting setting.now }
     requires untold { H.told harness.old ≡ [] }
     requires ungiven { H.gave harness.old ≡ [] }
-    requires untaken { R.given taker.old ≡ [] }
-    ensures { OnOk result (DrivesTo setting.now.scenario.now (H.gave harness.new) (H.told harness.new) (R.given taker.new)) }
+    requires countable { T.failed place.old < 2 ^ 63 }
+    requires none_gathered { T.gathered place.old setting.now.scenario.now [] }
+    ensures done { IfOk result (DrivesTo setting.now.scenario.now (H.gave harness.new) (H.told harness.new)) }
+    ensures whole { IfOk result (λ tallies. Appends (T.held place.old) (T.held place.new) (trace_text setting.now.scenario.now tallies)) }
+    ensures gathered { IfOk result (T.gathered place.new setting.now.scenario.now) }
+    ensures early { IfErr result (λ error. EndsEarly setting.now.scenario.now error (H.gave harness.new) (H.told harness.new)
+        (T.held place.old) (T.held place.new)) }
+    ensures failures { T.failed place.new ≡ T.failed place.old + drive_failures result }
 {
     let mut world = World::open(alloc, setting.scenario)?;
-    for _turn in 0..u64::MAX {
-        if !world.goes_on(setting.scenario.end()) {
-            return Ok(hand_on(world.rows, taker)?);
+    let mut tallies = Tallies::new(alloc);
+    T::begin(place)?;
+    match play::<H, T, P>(alloc, &mut world, setting, harness, &mut tallies, place)? {
+        None => {
+            hand_on::<T, P>(alloc, world.rows, setting.scenario, &mut tallies, place)?;
+            Ok(tallies)
         }
-        turn(alloc, &mut world, setting, harness)?;
+        Some(halt) => {
+            end_early::<T, P>(alloc, world, setting, &halt, &mut tallies, place)?;
+            Err(error_of(halt))
+        }
     }
-    Err(DriveError::Fault(Fault::CounterOverflow))
 }
 
-/// Hands rows on, in their order.
-fn hand_on<R: RowTaker>(mut rows: Vec<Row>, taker: &mut R) -> Result<(), Fault>
-    ensures { OnOk result ((sorted : List ARow) × IsInRowOrder rows.items sorted × (R.given taker.new ≡ R.given taker.old ++ sorted)) }
+/// Turn after turn, until no event up to the end is left, or until the drive halts.
+fn play<H: Harness, T: RowSink<P>, P>(
+    alloc: Global,
+    world: &mut World,
+    setting: &Setting,
+    harness: &mut H,
+    tallies: &mut Tallies,
+    place: &mut P,
+) -> Result<Option<Halt>, Fault>
+    requires setting { IsSetting setting.now }
+    requires begun { IsUnderWay ⟦<Row as Ord>⟧.cmp setting.now.scenario.now setting.now.least_delay world.old (H.told harness.old) (H.gave harness.old) tallies.old }
+    requires countable { T.failed place.old < 2 ^ 63 }
+    requires gathered { T.gathered place.old setting.now.scenario.now tallies.old }
+    ensures pauses { IfOk result (λ halt. PausesAt ⟦<Row as Ord>⟧.cmp setting.now.scenario.now setting.now.least_delay halt world.new
+        (H.told harness.new) (H.gave harness.new) tallies.new) }
+    ensures taken { (first : Option (List ℕ)) → HasTaken setting.now.scenario.now first (T.held place.old) tallies.old
+        → OnOk result (HasTaken setting.now.scenario.now first (T.held place.new) tallies.new) }
+    ensures part { (first : Option (List ℕ)) → HasTaken setting.now.scenario.now first (T.held place.old) tallies.old
+        → OnErr result (TakesBeginning setting.now.scenario.now first (T.held place.new)) }
+    ensures gathered { OnOk result (T.gathered place.new setting.now.scenario.now tallies.new) }
+    ensures failures { T.failed place.new ≡ T.failed place.old + sink_failures result }
 {
-    sort(&mut rows)?;
-    taker.take(rows.as_slice())
-}
-
-/// Sorts rows into row order.
-fn sort(rows: &mut Vec<Row>) -> Result<(), Memory>
-    ensures same { IsPermutation rows.old.items rows.new.items }
-    ensures sorted { OnOk result (IsSorted ⟦<Row as Ord>⟧.cmp rows.new.items) }
-{
-    Ok(rows.sort()?)
+    for _turn in 0..u64::MAX {
+        let Some(least) = world.next_until(setting.scenario.end()) else {
+            return Ok(None);
+        };
+        if world.has_enough() {
+            let rows = world.take_before(alloc, &least)?;
+            hand_on::<T, P>(alloc, rows, setting.scenario, tallies, place)?;
+        }
+        if let Some(halt) = turn(alloc, world, setting, harness)? {
+            return Ok(Some(halt));
+        }
+    }
+    Err(Fault::CounterOverflow)
 }
 
 /// Writes to a harness that the end of the scenario is reached. `Closed` where it can't be told.
@@ -74,7 +112,19 @@ pub fn write_end<H: Harness>(
     let mut line = String::new(alloc);
     push_end(&mut line, scenario)?;
     match harness.tell(line.as_bytes()) {
+        Ok(()) => {}
+        Err(untold) => return Err(cannot_tell(untold)),
+    }
+    match harness.flush() {
         Ok(()) => Ok(()),
-        Err(()) => Err(DriveError::Closed),
+        Err(untold) => Err(cannot_tell(untold)),
+    }
+}
+
+/// How a drive ends where the harness can't be told its end.
+fn cannot_tell(untold: Untold) -> DriveError {
+    match untold {
+        Untold::Closed => DriveError::Closed,
+        Untold::Memory => DriveError::Fault(Fault::Memory),
     }
 }

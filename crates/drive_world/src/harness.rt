@@ -1,6 +1,15 @@
 //! What a drive needs of a harness: it takes lines that tell of events, and gives lines that answer them.
 ghost use Rattle.std.specs.Prelude.{◌≡◌, ◌++◌, ◌∷◌, [], ℕ, List, IfOk, OnOk, OnErr};
 
+/// Why a harness can't be told lines.
+#[derive(Clone, Copy, Debug, PartialEq, Eq, Drop)]
+pub enum Untold {
+    /// Nobody takes them.
+    Closed,
+    /// Memory was refused.
+    Memory,
+}
+
 /// Why a harness gives no line.
 #[derive(Clone, Copy, Debug, PartialEq, Eq, Drop)]
 pub enum NoLine {
@@ -8,6 +17,8 @@ pub enum NoLine {
     Long,
     /// Its text ended before the line feed, or can't be read.
     Ended,
+    /// Nobody takes what it was told before.
+    Closed,
     /// Memory was refused.
     Memory,
 }
@@ -20,9 +31,14 @@ pub trait Harness {
     // the lines that it gave
     ghost gave: { Self → List (List ℕ) };
 
-    /// Tells it lines. An error says that it can't be told any more.
-    fn tell(&mut self, lines: &[u8]) -> Result<(), ()>
+    /// Tells it lines: they may be gathered before they go out.
+    fn tell(&mut self, lines: &[u8]) -> Result<(), Untold>
         ensures told { OnOk result (told self.new ≡ told self.old ++ lines.now) }
+        ensures gave { gave self.new ≡ gave self.old };
+
+    /// Has all that it was told go out.
+    fn flush(&mut self) -> Result<(), Untold>
+        ensures told { told self.new ≡ told self.old }
         ensures gave { gave self.new ≡ gave self.old };
 
     /// Its next line, without the line feed. It waits for it without limit.

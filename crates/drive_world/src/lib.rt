@@ -2,21 +2,21 @@
 #![tactic(auto)]
 
 mod driving;
+mod early;
 mod ends;
 mod fate;
+mod handing;
 mod harness;
 pub mod laws;
 mod opening;
 mod pending;
 mod processes;
 mod setting;
-mod taker;
 mod turn;
 mod waiting;
 mod world;
 
 pub use driving::{drive, write_end};
 pub use ends::{DriveError, Stop};
-pub use harness::{Harness, NoLine};
+pub use harness::{Harness, NoLine, Untold};
 pub use setting::Setting;
-pub use taker::RowTaker;

@@ -11,7 +11,7 @@ ghost use Rattle.drive_world.specs.DriveOf.{drive_of};
 use crate::pending::Pending;
 use crate::processes::Processes;
 use crate::waiting::Waiting;
-use crate::world::World;
+use crate::world::{FEW, World};
 use base::{Key, MemberId, Memory, Moment};
 use drive_events::Content;
 use drive_process::Event;
@@ -36,6 +36,7 @@ impl World {
             pending,
             waiting,
             rows: Vec::new(alloc),
+            enough: FEW,
             begun: false,
             answers: 0,
         })

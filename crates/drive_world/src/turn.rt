@@ -1,5 +1,6 @@
 //! One turn of a drive: an event is told, or is over at once, or takes the next answer.
-ghost use Rattle.std.specs.Prelude.{◌≡◌, ◌<◌, ◌++◌, Some, true, not, OnOk};
+ghost use Rattle.std.specs.Prelude.{◌≡◌, ◌<◌, ◌++◌, Some, true, not, ℕ, List, OnOk, IfOk};
+ghost use Rattle.std.specs.Option.{is_some};
 ghost use Rattle.std.specs.FinMap.{get};
 ghost use Rattle.scenario.specs.Setup.{member_count};
 ghost use Rattle.drive_events.specs.declared.content.Content.{Content as AContent};
@@ -8,28 +9,32 @@ ghost use Rattle.drive_world.specs.Telling.{IsNext, NoneMay};
 ghost use Rattle.drive_world.specs.WorldOf.{events_in};
 ghost use Rattle.drive_world.specs.DriveOf.{drive_of, IsSetting};
 ghost use Rattle.drive_world.specs.Turns.{Turns, GoesOn, IsOnWay};
+ghost use Rattle.drive_world.specs.Halts.{ComesTo};
 
-use crate::ends::{DriveError, Stop};
+use crate::ends::{Halt, Stop};
 use crate::fate::Fate;
-use crate::harness::{Harness, NoLine};
+use crate::harness::{Harness, NoLine, Untold};
+use crate::pending::Pending;
 use crate::setting::Setting;
 use crate::world::World;
-use base::{Fault, Key};
+use base::{Key, Memory};
 use drive_answers::{AnswerError, read_answer};
 use drive_events::push_event;
+use member::StepError;
+use scenario::Scenario;
 use std::alloc::Global;
 
-/// Tells the next event, or where none may be told, takes the next answer.
+/// Tells the next event, or where none may be told, takes the next answer: `Some` where the drive halts.
 pub(crate) fn turn<H: Harness>(
     alloc: Global,
     world: &mut World,
     setting: &Setting,
     harness: &mut H,
-) -> Result<(), DriveError>
+) -> Result<Option<Halt>, StepError>
     requires setting { IsSetting setting.now }
     requires way { IsOnWay setting.now.scenario.now world.old }
     requires goes_on { GoesOn setting.now.scenario.now.end world.old }
-    ensures turns { OnOk result (Turns setting.now.scenario.now setting.now.least_delay world.old world.new
+    ensures comes { IfOk result (λ halt. ComesTo setting.now.scenario.now setting.now.least_delay halt world.old world.new
         (H.told harness.old) (H.told harness.new) (H.gave harness.old) (H.gave harness.new)) }
     ensures way { OnOk result (IsOnWay setting.now.scenario.now world.new) }
 {
@@ -40,69 +45,88 @@ pub(crate) fn turn<H: Harness>(
     }
 }
 
-/// The next event has its fate.
+/// The next event has its fate, and the harness is told where somebody is.
 fn tell<H: Harness>(
     alloc: Global,
     world: &mut World,
     setting: &Setting,
     harness: &mut H,
     key: &Key,
-) -> Result<(), DriveError>
+) -> Result<Option<Halt>, StepError>
     requires setting { IsSetting setting.now }
     requires way { IsOnWay setting.now.scenario.now world.old }
     requires next { IsNext setting.now.scenario.now setting.now.least_delay (drive_of world.old) key.now }
-    ensures turns { OnOk result (Turns setting.now.scenario.now setting.now.least_delay world.old world.new
+    ensures comes { IfOk result (λ halt. ComesTo setting.now.scenario.now setting.now.least_delay halt world.old world.new
         (H.told harness.old) (H.told harness.new) (H.gave harness.old) (H.gave harness.new)) }
     ensures way { OnOk result (IsOnWay setting.now.scenario.now world.new) }
 {
+    let line = advance(alloc, world, setting, key)?;
+    if line.is_empty() {
+        return Ok(None);
+    }
+    match harness.tell(line.as_slice()) {
+        Ok(()) => Ok(None),
+        Err(Untold::Closed) => Ok(Some(Halt::Closed)),
+        Err(Untold::Memory) => Err(StepError::Memory),
+    }
+}
+
+/// The next event has its fate. Gives the line that tells of it: no bytes where nobody is told.
+pub(crate) fn advance(
+    alloc: Global,
+    world: &mut World,
+    setting: &Setting,
+    key: &Key,
+) -> Result<Vec<u8>, StepError>
+    requires setting { IsSetting setting.now }
+    requires way { IsOnWay setting.now.scenario.now world.old }
+    requires next { IsNext setting.now.scenario.now setting.now.least_delay (drive_of world.old) key.now }
+    ensures turns { IfOk result (λ line. (told : List ℕ) (gave : List (List ℕ))
+        → Turns setting.now.scenario.now setting.now.least_delay world.old world.new told (told ++ line.items) gave gave) }
+    ensures way { OnOk result (IsOnWay setting.now.scenario.now world.new) }
+{
     let Some(fate) = world.fate(key) else {
-        return Ok(());
+        return Ok(Vec::new(alloc));
     };
     match fate {
-        Fate::Untold => Ok(world.settle(alloc, setting, key, Vec::new(alloc))?),
+        Fate::Untold => {
+            world.settle(alloc, setting, key, Vec::new(alloc))?;
+            Ok(Vec::new(alloc))
+        }
         Fate::Told => {
-            tell_line(alloc, world, setting, harness, key)?;
-            Ok(world.settle(alloc, setting, key, Vec::new(alloc))?)
+            let line = line_of(alloc, &world.pending, setting.scenario, key, !world.begun)?;
+            world.begun = true;
+            world.settle(alloc, setting, key, Vec::new(alloc))?;
+            Ok(line)
         }
         Fate::Asked => {
-            tell_line(alloc, world, setting, harness, key)?;
-            Ok(world.waiting.push(key)?)
+            let line = line_of(alloc, &world.pending, setting.scenario, key, !world.begun)?;
+            world.begun = true;
+            world.waiting.push(key)?;
+            Ok(line)
         }
     }
 }
 
-/// Tells the line of an event that pends.
-fn tell_line<H: Harness>(
+/// The line that tells of an event that pends.
+fn line_of(
     alloc: Global,
-    world: &mut World,
-    setting: &Setting,
-    harness: &mut H,
+    pending: &Pending,
+    scenario: &Scenario,
     key: &Key,
-) -> Result<(), DriveError>
-    requires to { key.now.to < member_count setting.now.scenario.now }
-    requires from { key.now.from < member_count setting.now.scenario.now }
-    ensures told { OnOk result ((content : AContent) → get (events_in world.old.pending) key.now ≡ Some content
-        → H.told harness.new ≡ H.told harness.old ++ line_of setting.now.scenario.now (not world.old.begun) key.now content) }
-    ensures gave { H.gave harness.new ≡ H.gave harness.old }
-    ensures begun { OnOk result ((content : AContent) → get (events_in world.old.pending) key.now ≡ Some content → world.new ≡ record world.old { begun = true }) }
+    is_first: bool,
+) -> Result<Vec<u8>, Memory>
+    requires to { key.now.to < member_count scenario.now }
+    requires from { key.now.from < member_count scenario.now }
+    ensures { IfOk result (λ line. (content : AContent) → get (events_in pending.now) key.now ≡ Some content
+        → line.items ≡ line_of scenario.now is_first key.now content) }
 {
-    let Some(content) = world.pending.content(key) else {
-        return Ok(());
-    };
     let mut line = Vec::new(alloc);
-    push_event(
-        alloc,
-        &mut line,
-        setting.scenario,
-        key,
-        content,
-        !world.begun,
-    )?;
-    if harness.tell(line.as_slice()).is_err() {
-        return Err(DriveError::Closed);
-    }
-    world.begun = true;
-    Ok(())
+    let Some(content) = pending.content(key) else {
+        return Ok(line);
+    };
+    push_event(alloc, &mut line, scenario, key, content, is_first)?;
+    Ok(line)
 }
 
 /// The first event that waits takes the next answer.
@@ -111,45 +135,87 @@ fn take<H: Harness>(
     world: &mut World,
     setting: &Setting,
     harness: &mut H,
-) -> Result<(), DriveError>
+) -> Result<Option<Halt>, StepError>
     requires setting { IsSetting setting.now }
     requires way { IsOnWay setting.now.scenario.now world.old }
     requires goes_on { GoesOn setting.now.scenario.now.end world.old }
     requires none { NoneMay setting.now.scenario.now setting.now.least_delay (drive_of world.old) }
-    ensures turns { OnOk result (Turns setting.now.scenario.now setting.now.least_delay world.old world.new
+    ensures comes { IfOk result (λ halt. ComesTo setting.now.scenario.now setting.now.least_delay halt world.old world.new
         (H.told harness.old) (H.told harness.new) (H.gave harness.old) (H.gave harness.new)) }
     ensures way { OnOk result (IsOnWay setting.now.scenario.now world.new) }
 {
     let Some(key) = world.waiting.first() else {
-        return Ok(());
+        return Ok(None);
     };
     let place = world.answers.saturating_add(1);
     let line = match harness.answer() {
         Ok(line) => line,
-        Err(none) => return Err(no_line(none, place)),
+        Err(none) => return no_line(alloc, world, setting.scenario, &key, none, place),
     };
     let actions = match read_answer(alloc, setting.scenario, key.to, line.as_slice()) {
         Ok(actions) => actions,
-        Err(error) => return Err(no_answer(error, place)),
+        Err(error) => return no_answer(alloc, world, setting.scenario, &key, error, place),
     };
     world.answers = place;
     world.waiting.pop();
-    Ok(world.settle(alloc, setting, &key, actions)?)
+    world.settle(alloc, setting, &key, actions)?;
+    Ok(None)
 }
 
-/// How a drive ends where no line came.
-fn no_line(none: NoLine, place: u64) -> DriveError {
+/// How a drive halts where no line came for an event.
+fn no_line(
+    alloc: Global,
+    world: &World,
+    scenario: &Scenario,
+    key: &Key,
+    none: NoLine,
+    place: u64,
+) -> Result<Option<Halt>, StepError>
+    requires to { key.now.to < member_count scenario.now }
+    requires from { key.now.from < member_count scenario.now }
+    ensures { IfOk result (λ halt. is_some halt ≡ true) }
+{
     match none {
-        NoLine::Long => DriveError::Stopped(place, Stop::Long),
-        NoLine::Ended => DriveError::Stopped(place, Stop::Ended),
-        NoLine::Memory => DriveError::Fault(Fault::Memory),
+        NoLine::Long => stopped(alloc, world, scenario, key, place, Stop::Long),
+        NoLine::Ended => stopped(alloc, world, scenario, key, place, Stop::Ended),
+        NoLine::Closed => Ok(Some(Halt::Closed)),
+        NoLine::Memory => Err(StepError::Memory),
     }
 }
 
-/// How a drive ends where a line is no answer.
-fn no_answer(error: AnswerError, place: u64) -> DriveError {
+/// How a drive halts where a line is no answer to an event.
+fn no_answer(
+    alloc: Global,
+    world: &World,
+    scenario: &Scenario,
+    key: &Key,
+    error: AnswerError,
+    place: u64,
+) -> Result<Option<Halt>, StepError>
+    requires to { key.now.to < member_count scenario.now }
+    requires from { key.now.from < member_count scenario.now }
+    ensures { IfOk result (λ halt. is_some halt ≡ true) }
+{
     match error {
-        AnswerError::Memory => DriveError::Fault(Fault::Memory),
-        _ => DriveError::Stopped(place, Stop::Answer(error)),
+        AnswerError::Memory => Err(StepError::Memory),
+        _ => stopped(alloc, world, scenario, key, place, Stop::Answer(error)),
     }
+}
+
+/// How a drive halts whose answer at this place is none. The first event that is told is the first that is answered.
+fn stopped(
+    alloc: Global,
+    world: &World,
+    scenario: &Scenario,
+    key: &Key,
+    place: u64,
+    stop: Stop,
+) -> Result<Option<Halt>, StepError>
+    requires to { key.now.to < member_count scenario.now }
+    requires from { key.now.from < member_count scenario.now }
+    ensures { IfOk result (λ halt. is_some halt ≡ true) }
+{
+    let mut event = line_of(alloc, &world.pending, scenario, key, place == 1)?;
+    event.pop();
+    Ok(Some(Halt::Stopped { place, stop, event }))
 }

@@ -1,6 +1,5 @@
 //! A world that a harness drives: its processes, the events that pend, and the rows that can't be written yet.
-ghost use Rattle.std.specs.Prelude.{◌≡◌, ◌≤◌, ◌<◌, OnOk, IfSome, IfNone, Some, None};
-ghost use Rattle.std.specs.Bool.{OnTrue, OnFalse};
+ghost use Rattle.std.specs.Prelude.{◌≡◌, ◌≤◌, ◌<◌, OnOk, IfOk, IfSome, IfNone, Some, None};
 ghost use Rattle.std.specs.FinMap.{get};
 ghost use Rattle.scenario.specs.Setup.{member_count};
 ghost use Rattle.drive_events.specs.declared.content.Content.{Content as AContent};
@@ -8,20 +7,27 @@ ghost use Rattle.drive_process.specs.Answers.{AreSoundActions};
 ghost use Rattle.drive_world.specs.Telling.{fate_at};
 ghost use Rattle.drive_world.specs.WorldOf.{events_in};
 ghost use Rattle.base.specs.World.{IsOver};
-ghost use Rattle.drive_world.specs.Turns.{GoesOn};
+ghost use Rattle.worker_queue.specs.Queue.{IsLeastKey};
+ghost use Rattle.drive_world.specs.Rows.{rows_before, rows_from};
 ghost use Rattle.drive_world.specs.DriveOf.{world_of, IsSetting, IsSafeBound, Settles, Adds, HasFate};
 
 use crate::fate::Fate;
+use crate::handing::parted;
 use crate::pending::Pending;
 use crate::processes::Processes;
 use crate::setting::Setting;
 use crate::waiting::Waiting;
-use base::{Fault, Key, Memory, Moment};
+use base::{Key, Memory, Moment};
 use drive_answers::Action;
 use drive_events::Content;
 use drive_process::{Effects, Event, Phase};
+use member::StepError;
 use std::alloc::Global;
+use std::mem::replace;
 use trace::Row;
+
+/// So few rows aren't handed on before the end.
+pub(crate) const FEW: usize = 4_096;
 
 /// A world of processes and events, of which some wait for their answers.
 #[derive(Drop)]
@@ -31,6 +37,8 @@ pub(crate) struct World {
     pub(crate) waiting: Waiting,
     /// The rows of events that are over, in the order made, but for those that are written.
     pub(crate) rows: Vec<Row>,
+    /// Of so many rows those that can be are handed on.
+    pub(crate) enough: usize,
     /// Whether a line was told.
     pub(crate) begun: bool,
     /// How many answers were taken.
@@ -50,15 +58,34 @@ impl World {
         }
     }
 
-    /// Whether an event up to the end pends.
-    pub(crate) fn goes_on(&self, end: Moment) -> bool
-        ensures on { OnTrue result (GoesOn end self.now) }
-        ensures over { OnFalse result (IsOver end (world_of self.now)) }
+    /// The least key of the events that pend, if it comes no later than the end.
+    pub(crate) fn next_until(&self, end: Moment) -> Option<Key>
+        ensures least { IfSome result (IsLeastKey (events_in self.now.pending)) }
+        ensures in_time { IfSome result (λ k. k.at ≤ end) }
+        ensures over { IfNone result (IsOver end (world_of self.now)) }
     {
-        match self.pending.least() {
-            Some(least) => least.at <= end,
-            None => false,
-        }
+        let Some(least) = self.pending.least() else {
+            return None;
+        };
+        if least.at <= end { Some(least) } else { None }
+    }
+
+    /// Whether rows enough are kept that some should be handed on.
+    pub(crate) fn has_enough(&self) -> bool {
+        self.rows.len() >= self.enough
+    }
+
+    /// Takes out the rows of the events before this one. So many as twice those that stay are enough from then on.
+    pub(crate) fn take_before(&mut self, alloc: Global, key: &Key) -> Result<Vec<Row>, Memory>
+        ensures taken { IfOk result (λ rows. rows.items ≡ rows_before key.now self.old.rows.items) }
+        ensures left { OnOk result (self.new.rows.items ≡ rows_from key.now self.old.rows.items) }
+        ensures same { OnOk result (self.new ≡ record self.old { rows = self.new.rows; enough = self.new.enough }) }
+    {
+        let rows = replace(&mut self.rows, Vec::new(alloc));
+        let (early, late) = parted(alloc, rows, key)?;
+        self.enough = late.len().saturating_mul(2).max(FEW);
+        self.rows = late;
+        Ok(early)
     }
 
     /// The moment before which the least event of a member is safe.
@@ -85,7 +112,7 @@ impl World {
         setting: &Setting,
         key: &Key,
         actions: Vec<Action>,
-    ) -> Result<(), Fault>
+    ) -> Result<(), StepError>
         requires setting { IsSetting setting.now }
         requires early { key.now.at ≤ setting.now.scenario.now.end }
         requires receiver { key.now.to < member_count setting.now.scenario.now }
