@@ -1,0 +1,2 @@
+pub mod Harnesses
+pub mod Outcomes
