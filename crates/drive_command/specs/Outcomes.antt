@@ -10,7 +10,8 @@ use Rattle.page_runs.specs.Pages.{IsPageOf}
 use Rattle.clap.specs.Words.{Text}
 use Rattle.files.specs.Files.{KnownFile, Making, HoldsNow, CannotMake, CannotMakeSecond, CannotMakeThird, AreThreeFiles, AreFourFiles}
 use Rattle.drive_events.specs.Line.{end_line}
-use Rattle.drive_world.specs.Drives.{DrivesTo, DrivesUpTo}
+use Rattle.drive_world.specs.Drives.{BeginsDrive, DrivesTo, DrivesUpTo}
+use Rattle.drive_world.specs.Ends.{DrivesToBy}
 use Rattle.command_line.specs.Words.{AsksForDrive}
 use Rattle.command_line.specs.declared.driving.DriveWords.{DriveWords}
 use Rattle.command_line.specs.declared.failure.Failure.{Failure}
@@ -29,10 +30,13 @@ HoldsAsked before after name text = IfSome name (λ n. HoldsNow (before n) (afte
 abbrev pub HoldsPage : Text → List ℕ → Setup → List Row → KnownFile → KnownFile → Type 0
 HoldsPage name release s rows old new = (text : List ℕ) × IsPageOf None name s rows release text × HoldsNow old new text
 
--- no file has changed but those that the words name
-abbrev pub KeepsRest : Shelf → Shelf → DriveWords → Type 0
-KeepsRest before after drive =
-    (other : Text) → other ≢ drive.trace.now → word_given drive.report ≢ Some other → word_given drive.page ≢ Some other → after other ≡ before other
+-- no file has changed but those of the trace, the report and the page
+abbrev pub KeepsRest : Shelf → Shelf → Text → Option Text → Option Text → Type 0
+KeepsRest before after trace report page = (other : Text) → other ≢ trace → report ≢ Some other → page ≢ Some other → after other ≡ before other
+
+-- but those that the words name
+abbrev pub KeepsOthers : Shelf → Shelf → DriveWords → Type 0
+KeepsOthers before after drive = KeepsRest before after drive.trace.now (word_given drive.report) (word_given drive.page)
 
 -- the files of a scenario, a trace, a report and a page, where they are asked for, are different ones
 abbrev pub AreDifferent : Making → Text → Text → Option Text → Option Text → Type 0
@@ -52,16 +56,20 @@ pub record StoresDrive (s : Setup) (release : List ℕ) (before after : Shelf) (
   pub traced : HoldsNow (before drive.trace.now) (after drive.trace.now) (trace_text s rows)
   pub reported : HoldsAsked before after (word_given drive.report) (report_text s rows)
   pub paged : IfSome (word_given drive.page) (λ name. HoldsPage drive.file.now release s rows (before name) (after name))
-  pub others : KeepsRest before after drive
+  pub others : KeepsOthers before after drive
 
--- the drive that the words of `drive` ask for was done by this release, and the harness was told the end behind all events
+-- the drive of a scenario was done by this release, and the harness was told the end behind all events
+pub record DrivesScenario (s : Setup) (release : List ℕ) (before after : Shelf) (making : Making) (drive : DriveWords) (came_in : List (List ℕ)) (told : List ℕ) : Type 0 where
+  pub apart : AreApart making drive
+  pub lines : List ℕ
+  pub stored : StoresDrive s release before after drive came_in lines
+  pub ended : told ≡ lines ++ end_line s
+
+-- the drive that the words of `drive` ask for was done, of the scenario that the file holds
 pub record DrivesAll (release : List ℕ) (before after : Shelf) (making : Making) (drive : DriveWords) (came_in : List (List ℕ)) (told : List ℕ) : Type 0 where
   pub scenario : Setup
   pub accepted : HasVerdict (before drive.file.now) (Ok scenario)
-  pub apart : AreApart making drive
-  pub lines : List ℕ
-  pub stored : StoresDrive scenario release before after drive came_in lines
-  pub ended : told ≡ lines ++ end_line scenario
+  pub done : DrivesScenario scenario release before after making drive came_in told
 
 -- a drive that the words ask for was done by this release
 abbrev pub DoesDrive : List ℕ → List Text → Shelf → Shelf → Making → List (List ℕ) → List ℕ → Type 0
@@ -69,22 +77,48 @@ DoesDrive release words before after making came_in told = (drive : DriveWords) 
 
 -- ---- what was not done
 
--- The drive came up to an event that was to be answered and wasn't: the trace has the rows of all events before it, the report and the page
--- are empty. No other file has changed.
-pub record StopsDrive (s : Setup) (before after : Shelf) (drive : DriveWords) (came_in : List (List ℕ)) (told : List ℕ) : Type 0 where
+-- The drive came so far that the trace has these rows. The report and the page are empty. No other file has changed.
+pub record LeavesRows (Came : List Row → Type 0) (s : Setup) (before after : Shelf) (drive : DriveWords) : Type 0 where
   pub rows : List Row
-  pub driven : DrivesUpTo s came_in told rows
+  pub came : Came rows
   pub traced : HoldsNow (before drive.trace.now) (after drive.trace.now) (trace_text s rows)
   pub reported : HoldsAsked before after (word_given drive.report) []
   pub paged : HoldsAsked before after (word_given drive.page) []
-  pub others : KeepsRest before after drive
+  pub others : KeepsOthers before after drive
 
--- A fault ended it, in the trace, which has a beginning of its text, or in the report or the page, when the trace is whole.
-pub record BreaksOff (s : Setup) (before after : Shelf) (drive : DriveWords) (came_in : List (List ℕ)) (told : List ℕ) : Type 0 where
+-- it came up to an event that was to be answered and wasn't: its rows are those of all events before that one
+abbrev pub StopsDrive : Setup → Shelf → Shelf → DriveWords → List (List ℕ) → List ℕ → Type 0
+StopsDrive s before after drive came_in told = LeavesRows (DrivesUpTo s came_in told) s before after drive
+
+-- how far it comes where the harness can't be told: these lines are those that it should have been told
+abbrev pub ComesUntold : Setup → List (List ℕ) → List Row → Type 0
+ComesUntold s came_in rows = (lines : List ℕ) × (DrivesUpTo s came_in lines rows ⊎ DrivesToBy s came_in lines rows)
+
+-- the same where the harness couldn't be told any more; where no answer is missing, those of all events
+abbrev pub LosesHarness : Setup → Shelf → Shelf → DriveWords → List (List ℕ) → Type 0
+LosesHarness s before after drive came_in = LeavesRows (ComesUntold s came_in) s before after drive
+
+-- the file of this name, where one is asked for, holds a beginning of this text now
+abbrev pub BeginsAsked : Shelf → Shelf → Option Text → List ℕ → Type 0
+BeginsAsked before after name text = IfSome name (λ n. HoldsBeginning (before n) (after n) text)
+
+-- it is empty, or holds a beginning of the page
+abbrev pub BeginsPageAsked : Text → List ℕ → Setup → List Row → Shelf → Shelf → Option Text → Type 0
+BeginsPageAsked file release s rows before after name =
+    IfSome name (λ n. HoldsNow (before n) (after n) [] ⊎ ((text : List ℕ) × IsPageOf None file s rows release text × HoldsBeginning (before n) (after n) text))
+
+-- A fault ended it: in the trace, which has a beginning of its text, when the report and the page are empty; in the report, when the trace
+-- is whole and the page empty; or in the page, when both are whole. No other file has changed.
+pub record BreaksOff (s : Setup) (release : List ℕ) (before after : Shelf) (drive : DriveWords) (came_in : List (List ℕ)) (told : List ℕ) : Type 0 where
   pub rows : List Row
-  pub driven : DrivesUpTo s came_in told rows ⊎ DrivesTo s came_in told rows
-  pub traced : HoldsBeginning (before drive.trace.now) (after drive.trace.now) (trace_text s rows)
-  pub others : KeepsRest before after drive
+  pub written : ((BeginsDrive s rows ⊎ DrivesTo s came_in told rows) × HoldsBeginning (before drive.trace.now) (after drive.trace.now) (trace_text s rows)
+      × HoldsAsked before after (word_given drive.report) [] × HoldsAsked before after (word_given drive.page) [])
+      ⊎ ((DrivesTo s came_in told rows × HoldsNow (before drive.trace.now) (after drive.trace.now) (trace_text s rows)
+      × BeginsAsked before after (word_given drive.report) (report_text s rows) × HoldsAsked before after (word_given drive.page) [])
+      ⊎ (DrivesTo s came_in told rows × HoldsNow (before drive.trace.now) (after drive.trace.now) (trace_text s rows)
+      × HoldsAsked before after (word_given drive.report) (report_text s rows)
+      × BeginsPageAsked drive.file.now release s rows before after (word_given drive.page)))
+  pub others : KeepsOthers before after drive
 
 -- the file of a page can't be made, or it is that of the scenario, of the trace or of the report
 abbrev pub CannotMakePage : Making → Text → Text → Option Text → Text → Type 0
@@ -104,9 +138,9 @@ DriveEnds Refused s release before after making drive came_in told (File name) =
 DriveEnds Refused s release before after making drive came_in told Memory = after ≡ before
 DriveEnds Refused s release before after making drive came_in told (Drive (stop.Answer place cause event)) = AreApart making drive × StopsDrive s before after drive came_in told
 DriveEnds Refused s release before after making drive came_in told (Drive stop.Closed) =
-    AreApart making drive × (StopsDrive s before after drive came_in told ⊎ ((lines : List ℕ) × StoresDrive s release before after drive came_in lines))
+    AreApart making drive × (LosesHarness s before after drive came_in ⊎ ((lines : List ℕ) × StoresDrive s release before after drive came_in lines))
 DriveEnds Refused s release before after making drive came_in told (Run cause) =
-    AreApart making drive × (BreaksOff s before after drive came_in told ⊎ ((lines : List ℕ) × StoresDrive s release before after drive came_in lines))
+    AreApart making drive × (BreaksOff s release before after drive came_in told ⊎ ((lines : List ℕ) × StoresDrive s release before after drive came_in lines))
     × (cause ≡ fault.Write → Refused)
 DriveEnds Refused s release before after making drive came_in told _ = ⊥
 

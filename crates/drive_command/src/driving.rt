@@ -1,15 +1,18 @@
 //! The drive of the scenario of a file.
-ghost use Rattle.std.specs.Prelude.{◌≡◌, ◌<◌, [], OnOk, IfErr};
-ghost use Rattle.drive_command.specs.Outcomes.{DrivesAll, DriveFails};
+ghost use Rattle.std.specs.Prelude.{◌≡◌, ◌<◌, ◌++◌, [], OnOk, OnErr, IfErr};
+ghost use Rattle.drive_events.specs.Line.{end_line};
+ghost use Rattle.drive_command.specs.Ends.{EndsBy};
+ghost use Rattle.drive_command.specs.Outcomes.{DriveEnds, DriveFails, DrivesAll, DrivesScenario};
 
 use crate::ends::drive_failure;
 use crate::making::{close_files, make_files};
-use crate::paging::Shown;
 use crate::playing::play;
 use command_line::{DriveWords, Failure, Release};
-use drive_world::{Harness, Setting, write_end};
+use drive_world::{DriveError, Harness, Setting, write_end};
 use files::Files;
 use links::Links;
+use page_runs::{PageSeries, RunShown};
+use scenario::Scenario;
 use scenario_files::load;
 use std::alloc::Global;
 
@@ -37,27 +40,66 @@ pub fn drive<'a, H: Harness, F: Files>(
     ensures whole { OnOk result (F.refused files.new ≡ F.refused files.old) }
 {
     let scenario = load(alloc, words.file, files)?;
-    let links = match Links::of(alloc, &scenario) {
-        Ok(links) => links,
-        Err(_) => return Err(Failure::Memory),
+    drive_scenario(alloc, release, &scenario, words, files, harness)
+}
+
+/// Drives a scenario, and writes its trace, its report and its page to the files that the words name.
+fn drive_scenario<'a, H: Harness, F: Files>(
+    alloc: Global,
+    release: &Release<'_>,
+    scenario: &Scenario,
+    words: DriveWords<'a>,
+    files: &mut F,
+    harness: &mut H,
+) -> Result<(), Failure<'a>>
+    requires untold { H.told harness.old ≡ [] }
+    requires ungiven { H.gave harness.old ≡ [] }
+    ensures done { OnOk result (DrivesScenario scenario.now release.now.version.now (F.known files.old) (F.known files.new) (F.making files.old) words.entry
+        (H.gave harness.new) (H.told harness.new)) }
+    ensures failed { IfErr result (DriveEnds (F.refused files.old < F.refused files.new) scenario.now release.now.version.now
+        (F.known files.old) (F.known files.new) (F.making files.old) words.entry (H.gave harness.new) (H.told harness.new)) }
+    ensures whole { OnOk result (F.refused files.new ≡ F.refused files.old) }
+{
+    let Ok(links) = Links::of(alloc, scenario) else {
+        return Err(Failure::Memory);
+    };
+    let Ok(series) = PageSeries::new(alloc, scenario) else {
+        return Err(Failure::Memory);
     };
     let setting = Setting {
-        scenario: &scenario,
+        scenario,
         links: &links,
         least_delay: links.least_delay(),
     };
-    let shown = Shown {
+    let shown = RunShown {
         name: words.file,
         release: release.version,
+        tick: None,
     };
     let made = make_files(words, files)?;
-    let (made, outcome) = play(alloc, &setting, shown, harness, made);
+    let (made, outcome) = play(alloc, &setting, &shown, harness, series, made);
     close_files(words, made, files);
-    if let Err(error) = outcome {
-        return Err(drive_failure(error));
-    }
-    match write_end(alloc, &scenario, harness) {
-        Ok(()) => Ok(()),
+    told(alloc, scenario, harness, outcome)
+}
+
+/// Tells the harness the end of a drive that was done, and says how a drive ended.
+fn told<H: Harness>(
+    alloc: Global,
+    scenario: &Scenario,
+    harness: &mut H,
+    outcome: Result<(), DriveError>,
+) -> Result<(), Failure<'static>>
+    ensures done { OnOk result (OnOk outcome.entry (H.told harness.new ≡ H.told harness.old ++ end_line scenario.now)) }
+    ensures was { OnErr outcome.entry (OnOk result ⊥) }
+    ensures failed { IfErr result (EndsBy outcome.entry) }
+    ensures told { OnErr outcome.entry (H.told harness.new ≡ H.told harness.old) }
+    ensures gave { H.gave harness.new ≡ H.gave harness.old }
+{
+    match outcome {
+        Ok(()) => match write_end(alloc, scenario, harness) {
+            Ok(()) => Ok(()),
+            Err(error) => Err(drive_failure(error)),
+        },
         Err(error) => Err(drive_failure(error)),
     }
 }

@@ -1,4 +1,9 @@
 //! The files of a drive: that of the trace, and those of the report and the page where they are asked for.
+ghost use Rattle.std.specs.Prelude.{◌≡◌, ◌+◌, Some, None, IfOk, IfErr, OnOk};
+ghost use Rattle.scenario_files.specs.Shelves.{word_given};
+ghost use Rattle.drive_command.specs.Making.{AreMade, ClosesAll, ClosesAsked, MakeFails, failures_asked, failures_closed};
+ghost use Rattle.drive_command.specs.Outcomes.{AreDifferent};
+
 use command_line::{DriveWords, Failure};
 use files::{Files, PairFault, TripleFault};
 use scenario_files::file_failure;
@@ -19,28 +24,22 @@ pub(crate) struct Made<M: Write + Drop> {
 pub(crate) fn make_files<'a, F: Files>(
     words: DriveWords<'a>,
     files: &mut F,
-) -> Result<Made<F::Made>, Failure<'a>> {
+) -> Result<Made<F::Made>, Failure<'a>>
+    ensures made { IfOk result (AreMade F.Made.contents (F.known files.old) (F.known files.new)
+        words.entry.trace.now (word_given words.entry.report) (word_given words.entry.page)) }
+    ensures apart { OnOk result (AreDifferent (F.making files.old) words.entry.file.now words.entry.trace.now (word_given words.entry.report)
+        (word_given words.entry.page)) }
+    ensures failed { IfErr result (MakeFails (F.known files.old) (F.known files.new) (F.making files.old)
+        words.entry.file.now words.entry.trace.now (word_given words.entry.report) (word_given words.entry.page)) }
+    ensures counted { F.refused files.new ≡ F.refused files.old }
+{
     match words.page {
         Some(page) => match words.report {
             Some(report) => make_three(words, report, page, files),
-            None => {
-                let (trace, page) = make_two(words, page, files)?;
-                Ok(Made {
-                    trace,
-                    report: None,
-                    page: Some(page),
-                })
-            }
+            None => make_with_page(words, page, files),
         },
         None => match words.report {
-            Some(report) => {
-                let (trace, report) = make_two(words, report, files)?;
-                Ok(Made {
-                    trace,
-                    report: Some(report),
-                    page: None,
-                })
-            }
+            Some(report) => make_with_report(words, report, files),
             None => make_one(words, files),
         },
     }
@@ -50,7 +49,13 @@ pub(crate) fn make_files<'a, F: Files>(
 fn make_one<'a, F: Files>(
     words: DriveWords<'a>,
     files: &mut F,
-) -> Result<Made<F::Made>, Failure<'a>> {
+) -> Result<Made<F::Made>, Failure<'a>>
+    ensures made { IfOk result (AreMade F.Made.contents (F.known files.old) (F.known files.new) words.entry.trace.now None None) }
+    ensures apart { OnOk result (AreDifferent (F.making files.old) words.entry.file.now words.entry.trace.now None None) }
+    ensures failed { IfErr result (MakeFails (F.known files.old) (F.known files.new) (F.making files.old)
+        words.entry.file.now words.entry.trace.now None None) }
+    ensures counted { F.refused files.new ≡ F.refused files.old }
+{
     match files.make(words.file, words.trace) {
         Ok(trace) => Ok(Made {
             trace: Put::new(trace),
@@ -61,16 +66,52 @@ fn make_one<'a, F: Files>(
     }
 }
 
-/// Makes the file of the trace and another one.
-fn make_two<'a, F: Files>(
+/// Makes the files of the trace and the report.
+fn make_with_report<'a, F: Files>(
     words: DriveWords<'a>,
-    other: &'a str,
+    report: &'a str,
     files: &mut F,
-) -> Result<(Put<F::Made>, Put<F::Made>), Failure<'a>> {
-    match files.make_both(words.file, words.trace, other) {
-        Ok((trace, second)) => Ok((Put::new(trace), Put::new(second))),
+) -> Result<Made<F::Made>, Failure<'a>>
+    ensures made { IfOk result (AreMade F.Made.contents (F.known files.old) (F.known files.new) words.entry.trace.now
+        (Some report.entry.now) None) }
+    ensures apart { OnOk result (AreDifferent (F.making files.old) words.entry.file.now words.entry.trace.now (Some report.entry.now) None) }
+    ensures failed { IfErr result (MakeFails (F.known files.old) (F.known files.new) (F.making files.old)
+        words.entry.file.now words.entry.trace.now (Some report.entry.now) None) }
+    ensures counted { F.refused files.new ≡ F.refused files.old }
+{
+    match files.make_both(words.file, words.trace, report) {
+        Ok((made_trace, made_report)) => Ok(Made {
+            trace: Put::new(made_trace),
+            report: Some(Put::new(made_report)),
+            page: None,
+        }),
         Err(PairFault::First) => Err(Failure::File(words.trace)),
-        Err(PairFault::Second) => Err(Failure::File(other)),
+        Err(PairFault::Second) => Err(Failure::File(report)),
+        Err(PairFault::Memory) => Err(Failure::Memory),
+    }
+}
+
+/// Makes the files of the trace and the page.
+fn make_with_page<'a, F: Files>(
+    words: DriveWords<'a>,
+    page: &'a str,
+    files: &mut F,
+) -> Result<Made<F::Made>, Failure<'a>>
+    ensures made { IfOk result (AreMade F.Made.contents (F.known files.old) (F.known files.new) words.entry.trace.now
+        None (Some page.entry.now)) }
+    ensures apart { OnOk result (AreDifferent (F.making files.old) words.entry.file.now words.entry.trace.now None (Some page.entry.now)) }
+    ensures failed { IfErr result (MakeFails (F.known files.old) (F.known files.new) (F.making files.old)
+        words.entry.file.now words.entry.trace.now None (Some page.entry.now)) }
+    ensures counted { F.refused files.new ≡ F.refused files.old }
+{
+    match files.make_both(words.file, words.trace, page) {
+        Ok((made_trace, made_page)) => Ok(Made {
+            trace: Put::new(made_trace),
+            report: None,
+            page: Some(Put::new(made_page)),
+        }),
+        Err(PairFault::First) => Err(Failure::File(words.trace)),
+        Err(PairFault::Second) => Err(Failure::File(page)),
         Err(PairFault::Memory) => Err(Failure::Memory),
     }
 }
@@ -81,7 +122,15 @@ fn make_three<'a, F: Files>(
     report: &'a str,
     page: &'a str,
     files: &mut F,
-) -> Result<Made<F::Made>, Failure<'a>> {
+) -> Result<Made<F::Made>, Failure<'a>>
+    ensures made { IfOk result (AreMade F.Made.contents (F.known files.old) (F.known files.new) words.entry.trace.now
+        (Some report.entry.now) (Some page.entry.now)) }
+    ensures apart { OnOk result (AreDifferent (F.making files.old) words.entry.file.now words.entry.trace.now
+        (Some report.entry.now) (Some page.entry.now)) }
+    ensures failed { IfErr result (MakeFails (F.known files.old) (F.known files.new) (F.making files.old)
+        words.entry.file.now words.entry.trace.now (Some report.entry.now) (Some page.entry.now)) }
+    ensures counted { F.refused files.new ≡ F.refused files.old }
+{
     match files.make_three(words.file, words.trace, report, page) {
         Ok((made_trace, made_report, made_page)) => Ok(Made {
             trace: Put::new(made_trace),
@@ -96,7 +145,12 @@ fn make_three<'a, F: Files>(
 }
 
 /// Closes the files that were made for the words.
-pub(crate) fn close_files<F: Files>(words: DriveWords<'_>, made: Made<F::Made>, files: &mut F) {
+pub(crate) fn close_files<F: Files>(words: DriveWords<'_>, made: Made<F::Made>, files: &mut F)
+    ensures closed { ClosesAll F.Made.contents (F.known files.old) (F.known files.new)
+        words.entry.trace.now (word_given words.entry.report) (word_given words.entry.page) made.entry }
+    ensures refused { F.refused files.new
+        ≡ F.refused files.old + failures_closed (word_given words.entry.report) (word_given words.entry.page) made.entry }
+{
     let Made {
         trace,
         report,
@@ -108,12 +162,15 @@ pub(crate) fn close_files<F: Files>(words: DriveWords<'_>, made: Made<F::Made>, 
 }
 
 /// Closes a file that is asked for.
-fn close_asked<F: Files>(name: Option<&str>, made: Option<Put<F::Made>>, files: &mut F) {
-    let Some(name) = name else {
-        return;
-    };
-    let Some(made) = made else {
-        return;
-    };
-    files.close(name, made);
+fn close_asked<F: Files>(name: Option<&str>, made: Option<Put<F::Made>>, files: &mut F)
+    ensures closed { ClosesAsked F.Made.contents (F.known files.old) (F.known files.new) (word_given name.entry) made.entry }
+    ensures refused { F.refused files.new ≡ F.refused files.old + failures_asked (word_given name.entry) made.entry }
+{
+    match name {
+        Some(name) => match made {
+            Some(made) => files.close(name, made),
+            None => {}
+        },
+        None => {}
+    }
 }

@@ -1,9 +1,20 @@
 //! A drive into its sinks: the trace as its rows come, then the report and the page.
+ghost use Rattle.std.specs.Prelude.{◌≡◌, ◌≢◌, ◌+◌, ◌<◌, ◌^◌, [], IfOk, IfErr, OnOk, OnErr, All};
+ghost use Rattle.std.specs.Io.KnownBytes.{Appends};
+ghost use Rattle.series.specs.Series.{AreSeriesOf};
+ghost use Rattle.trace.specs.Text.{NamesMembers, trace_text};
+ghost use Rattle.trace.specs.Sinks.{AppendsBeginning};
+ghost use Rattle.reports.specs.Text.{report_text};
+ghost use Rattle.run_output.specs.Written.{sink_failures};
+ghost use Rattle.drive_world.specs.Drives.{DrivesTo};
+ghost use Rattle.drive_world.specs.DriveOf.{IsSetting};
+ghost use Rattle.drive_world.specs.Ends.{drive_failures};
+ghost use Rattle.drive_command.specs.Playing.{AppendsAsked, AppendsBeginningAsked, AreUnfailed, BeginsPageIn, HasShape, HaveShape, IsFault, LeavesBy, LeavesTraceBy, WritesAll, WritesPageAsked, WritesRestPart, failures_in, failures_of};
+
 use crate::making::Made;
-use crate::paging::{Shown, write_page};
-use crate::series::AskedSeries;
 use base::Fault;
 use drive_world::{DriveError, Harness, Setting, drive};
+use page_runs::{PageData, PageSeries, RunShown, write_page};
 use reports::Tallies;
 use run_output::{TraceAndGathered, Written, flush, write_tallied};
 use scenario::Scenario;
@@ -12,59 +23,97 @@ use std::io::Write;
 use trace::{Put, Sink};
 
 /// Drives the world of a scenario to its end, writes its trace, and then its report and its page where they are asked
-/// for, and gives the files back.
+/// for, and gives the files back. The series of the page are gathered in any case.
 ///
 /// Errors: those of `drive_world::drive`; then a fault: `Memory`, `Write` where a file failed.
 pub(crate) fn play<M: Write + Drop, H: Harness>(
     alloc: Global,
     setting: &Setting<'_>,
-    shown: Shown<'_>,
+    shown: &RunShown<'_>,
     harness: &mut H,
+    series: PageSeries,
     made: Made<M>,
-) -> (Made<M>, Result<(), DriveError>) {
-    let gathered = match AskedSeries::new(alloc, setting.scenario, made.page.is_some()) {
-        Ok(gathered) => gathered,
-        Err(_) => return (made, Err(DriveError::Fault(Fault::Memory))),
-    };
+) -> (Made<M>, Result<(), DriveError>)
+    requires setting { IsSetting setting.now }
+    requires untold { H.told harness.old ≡ [] }
+    requires ungiven { H.gave harness.old ≡ [] }
+    requires none_gathered { AreSeriesOf setting.now.scenario.now series.series [] }
+    requires unfailed { AreUnfailed made }
+    requires untimed { shown.now.tick ≡ None }
+    ensures done { OnOk result.1 (WritesAll M.contents setting.now.scenario.now shown.now.name.now shown.now.release.now
+        (H.gave harness.new) (H.told harness.new) made.entry result.0) }
+    ensures early { IfErr result.1 (LeavesBy M.contents setting.now.scenario.now shown.now.name.now shown.now.release.now
+        (H.gave harness.new) (H.told harness.new) made.entry result.0) }
+    ensures shape { HaveShape made.entry result.0 }
+    ensures whole { OnOk result.1 (failures_in result.0 ≡ 0) }
+    ensures refused { IfErr result.1 (λ error. error ≡ DriveError.Fault Fault.Write → 0 < failures_in result.0) }
+{
     let Made {
         trace,
         report,
         page,
     } = made;
-    let mut place = TraceAndGathered { trace, gathered };
+    let mut place = TraceAndGathered {
+        trace,
+        gathered: series,
+    };
     let outcome = write_trace(alloc, setting, harness, &mut place);
     let TraceAndGathered { trace, gathered } = place;
-    let mut made = Made {
-        trace,
-        report,
-        page,
-    };
-    let tallies = match outcome {
-        Ok(tallies) => tallies,
-        Err(error) => return (made, Err(error)),
-    };
-    let written = write_rest(
-        alloc,
-        setting.scenario,
-        shown,
-        &tallies,
-        &gathered,
-        &mut made,
-    );
-    match written {
-        Ok(()) => (made, Ok(())),
-        Err(fault) => (made, Err(DriveError::Fault(fault))),
+    match outcome {
+        Ok(tallies) => {
+            let told = PageData { tallies, gathered };
+            let mut report = report;
+            let mut page = page;
+            let written = write_rest(
+                alloc,
+                setting.scenario,
+                shown,
+                &told,
+                &mut report,
+                &mut page,
+            );
+            (
+                Made {
+                    trace,
+                    report,
+                    page,
+                },
+                written,
+            )
+        }
+        Err(error) => (
+            Made {
+                trace,
+                report,
+                page,
+            },
+            Err(error),
+        ),
     }
 }
 
-/// Drives the world of a scenario to its end, and writes its trace.
+/// Drives the world of a scenario to its end, writes its trace, and flushes its sink.
 fn write_trace<A: Sink, H: Harness>(
     alloc: Global,
     setting: &Setting<'_>,
     harness: &mut H,
-    place: &mut TraceAndGathered<A, AskedSeries>,
-) -> Result<Tallies, DriveError> {
-    let tallies = drive::<H, Written, TraceAndGathered<A, AskedSeries>>(
+    place: &mut TraceAndGathered<A, PageSeries>,
+) -> Result<Tallies, DriveError>
+    requires setting { IsSetting setting.now }
+    requires untold { H.told harness.old ≡ [] }
+    requires ungiven { H.gave harness.old ≡ [] }
+    requires none_gathered { AreSeriesOf setting.now.scenario.now place.old.gathered.series [] }
+    requires unfailed { A.failed place.old.trace ≡ 0 }
+    ensures done { IfOk result (DrivesTo setting.now.scenario.now (H.gave harness.new) (H.told harness.new)) }
+    ensures written { IfOk result (λ tallies. Appends (A.held place.old.trace) (A.held place.new.trace)
+        (trace_text setting.now.scenario.now tallies)) }
+    ensures named { IfOk result (λ tallies. All (NamesMembers setting.now.scenario.now) tallies) }
+    ensures gathered { IfOk result (λ tallies. AreSeriesOf setting.now.scenario.now place.new.gathered.series tallies) }
+    ensures early { IfErr result (LeavesTraceBy setting.now.scenario.now (H.gave harness.new) (H.told harness.new)
+        (A.held place.old.trace) (A.held place.new.trace)) }
+    ensures failures { A.failed place.new.trace ≡ drive_failures result }
+{
+    let tallies = drive::<H, Written, TraceAndGathered<A, PageSeries>>(
         alloc, setting, harness, place,
     )?;
     match flush(&mut place.trace) {
@@ -73,17 +122,32 @@ fn write_trace<A: Sink, H: Harness>(
     }
 }
 
-/// Writes the report and then the page, where they are asked for.
+/// Writes the report and then the page on the rows of a drive, where they are asked for.
+///
+/// Errors: a fault alone: `Memory`; `Write` where a file failed.
 fn write_rest<M: Write + Drop>(
     alloc: Global,
     scenario: &Scenario,
-    shown: Shown<'_>,
-    tallies: &Tallies,
-    gathered: &AskedSeries,
-    made: &mut Made<M>,
-) -> Result<(), Fault> {
-    write_report(alloc, scenario, tallies, &mut made.report)?;
-    write_asked(alloc, scenario, shown, tallies, gathered, &mut made.page)
+    shown: &RunShown<'_>,
+    told: &PageData,
+    report: &mut Option<Put<M>>,
+    page: &mut Option<Put<M>>,
+) -> Result<(), DriveError>
+    requires named { All (NamesMembers scenario.now) told.now.tallies }
+    requires gathered { AreSeriesOf scenario.now told.now.gathered.series told.now.tallies }
+    requires untimed { shown.now.tick ≡ None }
+    requires unfailed { (failures_of report.old ≡ 0) × (failures_of page.old ≡ 0) }
+    ensures reported { OnOk result (AppendsAsked M.contents (report_text scenario.now told.now.tallies) report.old report.new) }
+    ensures paged { OnOk result (WritesPageAsked M.contents shown.now.name.now shown.now.release.now scenario.now told.now.tallies page.old page.new) }
+    ensures part { IfErr result (λ error. IsFault error × WritesRestPart M.contents scenario.now shown.now.name.now shown.now.release.now told.now.tallies
+        report.old report.new page.old page.new) }
+    ensures shape { HasShape report.old report.new × HasShape page.old page.new }
+    ensures whole { OnOk result (failures_of report.new + failures_of page.new ≡ 0) }
+    ensures refused { IfErr result (λ error. error ≡ DriveError.Fault Fault.Write → 0 < failures_of report.new + failures_of page.new) }
+{
+    write_report(alloc, scenario, &told.tallies, report)?;
+    write_asked(alloc, scenario, shown, told, page)?;
+    Ok(())
 }
 
 /// Writes the report, where one is asked for.
@@ -92,7 +156,14 @@ fn write_report<M: Write>(
     scenario: &Scenario,
     tallies: &Tallies,
     report: &mut Option<Put<M>>,
-) -> Result<(), Fault> {
+) -> Result<(), Fault>
+    requires named { All (NamesMembers scenario.now) tallies.now }
+    requires unfailed { failures_of report.old ≡ 0 }
+    ensures whole { OnOk result (AppendsAsked M.contents (report_text scenario.now tallies.now) report.old report.new) }
+    ensures part { OnErr result (AppendsBeginningAsked M.contents (report_text scenario.now tallies.now) report.old report.new) }
+    ensures shape { HasShape report.old report.new }
+    ensures failures { failures_of report.new ≡ sink_failures result }
+{
     match report {
         Some(report) => Ok(write_tallied(alloc, tallies, scenario, report)?),
         None => Ok(()),
@@ -103,15 +174,24 @@ fn write_report<M: Write>(
 fn write_asked<M: Write>(
     alloc: Global,
     scenario: &Scenario,
-    shown: Shown<'_>,
-    tallies: &Tallies,
-    gathered: &AskedSeries,
+    shown: &RunShown<'_>,
+    told: &PageData,
     page: &mut Option<Put<M>>,
-) -> Result<(), Fault> {
+) -> Result<(), Fault>
+    requires named { All (NamesMembers scenario.now) told.now.tallies }
+    requires gathered { AreSeriesOf scenario.now told.now.gathered.series told.now.tallies }
+    requires untimed { shown.now.tick ≡ None }
+    requires unfailed { failures_of page.old ≡ 0 }
+    ensures whole { OnOk result (WritesPageAsked M.contents shown.now.name.now shown.now.release.now scenario.now told.now.tallies page.old page.new) }
+    ensures part { OnErr result (BeginsPageIn M.contents shown.now.name.now shown.now.release.now scenario.now told.now.tallies page.old page.new) }
+    ensures shape { HasShape page.old page.new }
+    ensures unfailed { OnOk result (failures_of page.new ≡ 0) }
+    ensures refused { IfErr result (λ fault. fault ≡ Fault.Write → 0 < failures_of page.new) }
+{
     match page {
-        Some(page) => match &gathered.series {
-            Some(series) => write_page(alloc, scenario, shown, tallies, series, page),
-            None => Ok(()),
+        Some(page) => match write_page(alloc, scenario, shown, told, page) {
+            Ok(_) => Ok(()),
+            Err(fault) => Err(fault),
         },
         None => Ok(()),
     }

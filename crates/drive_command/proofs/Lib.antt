@@ -1,0 +1,6 @@
+mod Closing
+mod Counting
+mod Differing
+mod Ending
+mod Opened
+mod Playing
