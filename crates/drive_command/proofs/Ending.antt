@@ -1,5 +1,5 @@
 -- What the files hold of a drive that was done, and of one that wasn't.
-use Rattle.std.proofs.Common.{◌≡◌, ◌⊎◌, ◌∙◌, ◌<◌, ℕ, List, [], Option, Some, None, Result, Ok, Err, OnOk, IfErr, ap, subst, sym, refl, inl, inr}
+use Rattle.std.proofs.Common.{◌≡◌, ◌⊎◌, ◌∙◌, ◌++◌, ℕ, List, [], Option, ap, append-nil, subst, sym, refl, inl, inr}
 use Rattle.base.specs.declared.fault.Fault.{Fault}
 use Rattle.base.specs.declared.fault.Fault.TheVariants as fault
 use Rattle.scenario.specs.Setup.{Setup}
@@ -13,14 +13,15 @@ use Rattle.command_line.specs.declared.driving.DriveWords.{DriveWords}
 use Rattle.command_line.specs.declared.failure.Failure.{Failure}
 use Rattle.command_line.specs.declared.failure.Failure.TheVariants.{Run, Drive}
 use Rattle.scenario_files.specs.Shelves.{Shelf, word_given}
+use Rattle.drive_events.specs.Line.{end_line}
 use Rattle.drive_world.specs.Drives.{BeginsDrive, DrivesTo, DrivesUpTo}
 use Rattle.drive_world.specs.declared.ends.DriveError.{DriveError}
 use Rattle.drive_world.specs.declared.ends.DriveError.TheVariants as error
 use Rattle.drive_world.specs.declared.ends.Stop.{Stop}
 use Rattle.drive_command.specs.declared.making.Made.{Made}
-use Rattle.drive_command.specs.Ends.{EndsBy, IsToldBy, TellsAnswer}
+use Rattle.drive_command.specs.Ends.{IsToldBy, TellsAnswer}
 use Rattle.drive_command.specs.Making.{AreMade, ClosesAll}
-use Rattle.drive_command.specs.Outcomes.{AreApart, BreaksOff, ComesUntold, DriveEnds, LeavesRows, LosesHarness, StopsDrive, StoresDrive}
+use Rattle.drive_command.specs.Outcomes.{AreApart, BreaksOff, ComesUntold, DriveEnds, DrivesScenario, LeavesRows, LosesHarness, StopsDrive, StoresDrive}
 use Rattle.drive_command.specs.Playing.{LeavesBy, WritesAll, WritesPart, WritesUpTo}
 use Rattle.drive_command.proofs.Closing.{begins_asked, empty_asked, page_asked, page_begins, page_holds, report_holds, rest_kept, trace_begins, trace_holds}
 
@@ -112,12 +113,36 @@ module _ {M : Type 0} (contents : M → Option (List ℕ)) (s : Setup) (release 
     by_answer place stop event (stopped.Answer told_place cause text) tells stops = (apart, stops)
     by_answer place stop event stopped.Closed tells stops = absurd tells
 
-    pub drive_left : (e : DriveError) (failure : Failure) → IsToldBy e failure → LeavesBy contents s drive.file.now release gave told first last e
+    left : (e : DriveError) (failure : Failure) → IsToldBy e failure → LeavesBy contents s drive.file.now release gave told first last e
         → (e ≡ error.Fault fault.Write → Refused) → Ends failure
-    drive_left (error.Stopped place stop event) failure (inl tells) leaves refused =
-        subst Ends (sym tells.2.0) (by_answer place stop event.items tells.0 tells.2.1 (rows_left (DrivesUpTo s gave told) leaves))
-    drive_left (error.Stopped place stop event) failure (inr is) leaves refused =
+    left (error.Stopped place stop event) failure (inl tells) leaves refused =
+        subst Ends (sym tells.1) (by_answer place stop event.items tells.0 tells.2 (rows_left (DrivesUpTo s gave told) leaves))
+    left (error.Stopped place stop event) failure (inr is) leaves refused =
         subst Ends (sym is) (apart, inl (stop_breaks (rows_left (DrivesUpTo s gave told) leaves)), by_memory fault.Memory refl)
-    drive_left error.Closed failure is leaves refused = subst Ends (sym is) (apart, inl (rows_left (ComesUntold s gave) leaves))
-    drive_left (error.Fault cause) failure is leaves refused =
-        subst Ends (sym is) (apart, inl (breaks leaves), λ write. refused (ap error.Fault write))
+    left error.Closed failure is leaves refused = subst Ends (sym is) (apart, inl (rows_left (ComesUntold s gave) leaves))
+    left (error.Fault cause) failure is leaves refused = subst Ends (sym is) (apart, inl (breaks leaves), λ write. refused (ap error.Fault write))
+
+    pub drive_left : (gave_now : List (List ℕ)) (told_now : List ℕ) → gave_now ≡ gave → told_now ≡ told → (e : DriveError) (failure : Failure) → IsToldBy e failure
+        → LeavesBy contents s drive.file.now release gave told first last e → (e ≡ error.Fault fault.Write → Refused)
+        → DriveEnds Refused s release start end making drive gave_now told_now failure
+    drive_left gave_now told_now same same_too e failure is leaves refused =
+        subst (λ (lines : List (List ℕ)). DriveEnds Refused s release start end making drive lines told_now failure) (sym same)
+        (subst (λ (bytes : List ℕ). DriveEnds Refused s release start end making drive gave bytes failure) (sym same_too) (left e failure is leaves refused))
+
+    -- it was done, but the end couldn't be told
+    pub drive_untold : (gave_now : List (List ℕ)) (told_now : List ℕ) → gave_now ≡ gave → (failure : Failure)
+        → (failure ≡ Drive stopped.Closed) ⊎ (failure ≡ Run fault.Memory) → WritesAll contents s drive.file.now release gave told first last
+        → DriveEnds Refused s release start end making drive gave_now told_now failure
+    drive_untold gave_now told_now same failure by writes =
+        subst (λ (lines : List (List ℕ)). DriveEnds Refused s release start end making drive lines told_now failure) (sym same) (go by)
+      where
+        go : (failure ≡ Drive stopped.Closed) ⊎ (failure ≡ Run fault.Memory) → DriveEnds Refused s release start end making drive gave told_now failure
+        go (inl is) = subst (DriveEnds Refused s release start end making drive gave told_now) (sym is) (apart, inr (told, drive_stored writes))
+        go (inr is) = subst (DriveEnds Refused s release start end making drive gave told_now) (sym is) (apart, inr (told, drive_stored writes), by_memory fault.Memory refl)
+
+  -- and it was done with its end
+  pub drive_done : (gave_now : List (List ℕ)) (told_now : List ℕ) → gave_now ≡ gave → told_now ≡ told ++ end_line s → AreApart making drive
+      → WritesAll contents s drive.file.now release gave told first last → DrivesScenario s release start end making drive gave_now told_now
+  drive_done gave_now told_now same ended apart writes =
+      subst (λ (lines : List (List ℕ)). DrivesScenario s release start end making drive lines told_now) (sym same)
+      (record { apart = apart; lines = told; stored = drive_stored writes; ended = ended })

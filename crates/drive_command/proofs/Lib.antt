@@ -4,3 +4,4 @@ mod Differing
 mod Ending
 mod Opened
 mod Playing
+mod Told

@@ -15,7 +15,7 @@ use Rattle.drive_world.specs.Ends.{EndsEarly, drive_failures}
 use Rattle.drive_world.specs.declared.ends.DriveError.{DriveError}
 use Rattle.drive_world.specs.declared.ends.DriveError.TheVariants as error
 use Rattle.drive_command.specs.declared.making.Made.{Made}
-use Rattle.drive_command.specs.Playing.{AppendsAsked, AppendsTrace, HasShape, IsFault, LeavesBy, LeavesTraceBy, WritesAll, WritesPageAsked, WritesPart, WritesRestPart, failures_in, failures_of}
+use Rattle.drive_command.specs.Playing.{AppendsAsked, AppendsTrace, HasShape, LeavesBy, LeavesTraceBy, WritesAll, WritesPageAsked, WritesPart, WritesRestPart, failures_in, failures_of}
 
 -- ---- the trace
 
@@ -54,15 +54,7 @@ module _ {M : Type 0} (contents : M → Option (List ℕ)) (s : Setup) (name rel
     wrote_all (Ok x) reported paged = record { rows = rows; driven = driven; trace = traced; report = reported; page = paged }
     wrote_all (Err e) reported paged = tt
 
-    rest_left : (e : DriveError) → IsFault e → WritesRestPart contents s name release rows old.report new.report old.page new.page
-        → LeavesBy contents s name release gave told old new e
-    rest_left (error.Stopped place stop event) is part = absurd is
-    rest_left error.Closed is part = absurd is
-    rest_left (error.Fault cause) is (inl part) = record { rows = rows; written = inr (inl (driven, traced, part.0, part.1)) }
-    rest_left (error.Fault cause) is (inr part) = record { rows = rows; written = inr (inr (driven, traced, part.0, part.1)) }
-
-    pub wrote_part : {T : Type 0} (result : Result T DriveError)
-        → IfErr result (λ e. IsFault e × WritesRestPart contents s name release rows old.report new.report old.page new.page)
-        → IfErr result (LeavesBy contents s name release gave told old new)
-    wrote_part (Ok x) part = tt
-    wrote_part (Err e) part = rest_left e part.0 part.1
+    pub wrote_part : (cause : Fault) → WritesRestPart contents s name release rows old.report new.report old.page new.page
+        → LeavesBy contents s name release gave told old new (error.Fault cause)
+    wrote_part cause (inl part) = record { rows = rows; written = inr (inl (driven, traced, part.0, part.1)) }
+    wrote_part cause (inr part) = record { rows = rows; written = inr (inr (driven, traced, part.0, part.1)) }

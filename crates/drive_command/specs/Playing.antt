@@ -114,11 +114,6 @@ LeavesTraceBy s gave told old new error.Closed = (rows : List Row) × ComesUntol
 LeavesTraceBy s gave told old new (error.Fault cause) =
     (rows : List Row) × (BeginsDrive s rows ⊎ DrivesTo s gave told rows) × AppendsBeginning old new (trace_text s rows)
 
--- the error is a fault
-abbrev pub IsFault : DriveError → Type 0
-IsFault (error.Fault cause) = Unit {0}
-IsFault _ = ⊥
-
 -- what the report and the page have got where a fault came in them
 abbrev pub WritesRestPart : {M : Type 0} → (M → Option (List ℕ)) → Setup → List ℕ → List ℕ → List Row → Option (Put M) → Option (Put M) → Option (Put M) → Option (Put M) → Type 0
 WritesRestPart contents s name release rows report_old report_new page_old page_new =

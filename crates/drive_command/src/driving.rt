@@ -1,6 +1,8 @@
 //! The drive of the scenario of a file.
 ghost use Rattle.std.specs.Prelude.{◌≡◌, ◌<◌, ◌++◌, [], OnOk, OnErr, IfErr};
+ghost use Rattle.links.specs.Arrival.{AreLinksOf};
 ghost use Rattle.drive_events.specs.Line.{end_line};
+ghost use Rattle.drive_world.specs.DriveOf.{IsSetting};
 ghost use Rattle.drive_command.specs.Ends.{EndsBy};
 ghost use Rattle.drive_command.specs.Outcomes.{DriveEnds, DriveFails, DrivesAll, DrivesScenario};
 
@@ -66,11 +68,7 @@ fn drive_scenario<'a, H: Harness, F: Files>(
     let Ok(series) = PageSeries::new(alloc, scenario) else {
         return Err(Failure::Memory);
     };
-    let setting = Setting {
-        scenario,
-        links: &links,
-        least_delay: links.least_delay(),
-    };
+    let setting = setting_of(scenario, &links);
     let shown = RunShown {
         name: words.file,
         release: release.version,
@@ -80,6 +78,21 @@ fn drive_scenario<'a, H: Harness, F: Files>(
     let (made, outcome) = play(alloc, &setting, &shown, harness, series, made);
     close_files(words, made, files);
     told(alloc, scenario, harness, outcome)
+}
+
+/// What a drive of the scenario reads, by the scenario's links.
+fn setting_of<'s>(scenario: &'s Scenario, links: &'s Links) -> Setting<'s>
+    requires { AreLinksOf links.now scenario.now }
+    ensures scenario { result.scenario.now ≡ scenario.entry.now }
+    ensures setting { IsSetting result }
+{
+    let _end = scenario.end();
+    let least_delay = links.least_delay();
+    Setting {
+        scenario,
+        links,
+        least_delay,
+    }
 }
 
 /// Tells the harness the end of a drive that was done, and says how a drive ended.

@@ -9,7 +9,7 @@ ghost use Rattle.run_output.specs.Written.{sink_failures};
 ghost use Rattle.drive_world.specs.Drives.{DrivesTo};
 ghost use Rattle.drive_world.specs.DriveOf.{IsSetting};
 ghost use Rattle.drive_world.specs.Ends.{drive_failures};
-ghost use Rattle.drive_command.specs.Playing.{AppendsAsked, AppendsBeginningAsked, AreUnfailed, BeginsPageIn, HasShape, HaveShape, IsFault, LeavesBy, LeavesTraceBy, WritesAll, WritesPageAsked, WritesRestPart, failures_in, failures_of};
+ghost use Rattle.drive_command.specs.Playing.{AppendsAsked, AppendsBeginningAsked, AreUnfailed, BeginsPageIn, HasShape, HaveShape, LeavesBy, LeavesTraceBy, WritesAll, WritesPageAsked, WritesRestPart, failures_in, failures_of};
 
 use crate::making::Made;
 use base::Fault;
@@ -42,11 +42,11 @@ pub(crate) fn play<M: Write + Drop, H: Harness>(
     requires untimed { shown.now.tick ≡ None }
     ensures done { OnOk result.1 (WritesAll M.contents setting.now.scenario.now shown.now.name.now shown.now.release.now
         (H.gave harness.new) (H.told harness.new) made.entry result.0) }
-    ensures early { IfErr result.1 (LeavesBy M.contents setting.now.scenario.now shown.now.name.now shown.now.release.now
-        (H.gave harness.new) (H.told harness.new) made.entry result.0) }
+    ensures early { IfErr result.1 (λ error. LeavesBy M.contents setting.now.scenario.now shown.now.name.now shown.now.release.now
+        (H.gave harness.new) (H.told harness.new) made.entry result.0 error
+        × (error ≡ DriveError.Fault Fault.Write → 0 < failures_in result.0)) }
     ensures shape { HaveShape made.entry result.0 }
     ensures whole { OnOk result.1 (failures_in result.0 ≡ 0) }
-    ensures refused { IfErr result.1 (λ error. error ≡ DriveError.Fault Fault.Write → 0 < failures_in result.0) }
 {
     let Made {
         trace,
@@ -72,14 +72,15 @@ pub(crate) fn play<M: Write + Drop, H: Harness>(
                 &mut report,
                 &mut page,
             );
-            (
-                Made {
-                    trace,
-                    report,
-                    page,
-                },
-                written,
-            )
+            let made = Made {
+                trace,
+                report,
+                page,
+            };
+            match written {
+                Ok(()) => (made, Ok(())),
+                Err(fault) => (made, Err(DriveError::Fault(fault))),
+            }
         }
         Err(error) => (
             Made {
@@ -124,7 +125,7 @@ fn write_trace<A: Sink, H: Harness>(
 
 /// Writes the report and then the page on the rows of a drive, where they are asked for.
 ///
-/// Errors: a fault alone: `Memory`; `Write` where a file failed.
+/// Faults: `Memory`; `Write` where a file failed.
 fn write_rest<M: Write + Drop>(
     alloc: Global,
     scenario: &Scenario,
@@ -132,22 +133,23 @@ fn write_rest<M: Write + Drop>(
     told: &PageData,
     report: &mut Option<Put<M>>,
     page: &mut Option<Put<M>>,
-) -> Result<(), DriveError>
+) -> Result<(), Fault>
     requires named { All (NamesMembers scenario.now) told.now.tallies }
     requires gathered { AreSeriesOf scenario.now told.now.gathered.series told.now.tallies }
     requires untimed { shown.now.tick ≡ None }
-    requires unfailed { (failures_of report.old ≡ 0) × (failures_of page.old ≡ 0) }
+    requires unfailed { failures_of report.old ≡ 0 }
+    requires unfailed_page { failures_of page.old ≡ 0 }
     ensures reported { OnOk result (AppendsAsked M.contents (report_text scenario.now told.now.tallies) report.old report.new) }
     ensures paged { OnOk result (WritesPageAsked M.contents shown.now.name.now shown.now.release.now scenario.now told.now.tallies page.old page.new) }
-    ensures part { IfErr result (λ error. IsFault error × WritesRestPart M.contents scenario.now shown.now.name.now shown.now.release.now told.now.tallies
+    ensures part { OnErr result (WritesRestPart M.contents scenario.now shown.now.name.now shown.now.release.now told.now.tallies
         report.old report.new page.old page.new) }
-    ensures shape { HasShape report.old report.new × HasShape page.old page.new }
+    ensures shape { HasShape report.old report.new }
+    ensures shape_page { HasShape page.old page.new }
     ensures whole { OnOk result (failures_of report.new + failures_of page.new ≡ 0) }
-    ensures refused { IfErr result (λ error. error ≡ DriveError.Fault Fault.Write → 0 < failures_of report.new + failures_of page.new) }
+    ensures refused { IfErr result (λ fault. fault ≡ Fault.Write → 0 < failures_of report.new + failures_of page.new) }
 {
     write_report(alloc, scenario, &told.tallies, report)?;
-    write_asked(alloc, scenario, shown, told, page)?;
-    Ok(())
+    write_asked(alloc, scenario, shown, told, page)
 }
 
 /// Writes the report, where one is asked for.

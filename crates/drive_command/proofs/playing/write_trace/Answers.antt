@@ -1,0 +1,11 @@
+use Rattle.std.proofs.Common.{subst}
+use Rattle.drive_command.proofs.Playing.{all_early, handed_early, unflushed}
+use Rattle.drive_command.proofs.playing.write_trace.Goals as goal
+
+pub returns-in_err-tallies-clause-early : goal.returns-in_err-tallies-clause-early
+returns-in_err-tallies-clause-early g c =
+    handed_early c.args.setting.now.scenario.now _ _ _ _ _ _ c.from_residual.ensures.1 c.in_err-tallies.ensures.early
+
+pub returns-in_ok-tallies-in-Err-clause-early : goal.returns-in_ok-tallies-in-Err-clause-early
+returns-in_ok-tallies-in-Err-clause-early g c =
+    unflushed c.args.setting.now.scenario.now _ c.in_ok-tallies.tallies _ _ _ _ _ c.in_ok-tallies.ensures.done c.in_ok-tallies.ensures.whole c.flush.ensures.same
