@@ -2,10 +2,11 @@
 model's own members, driven over two pipes, write what `run` writes."""
 
 import json
+import shutil
 import subprocess
 
 from generate import run_case
-from harness import call
+from harness import TESTS, call
 from model_harness import Harness
 from program import Case, DATA, expect, expect_ran
 from scenarios import document_of, judge
@@ -16,6 +17,11 @@ NEWEST_RUN = 3
 RUNS = 20
 SEED = 20261130
 SECONDS = 60
+ANSWERS = 40
+EXAMPLES = TESTS.parent / 'examples'
+# what examples/drive/smallest makes of examples/two.toml: a ping each, and its ack
+SMALLEST_ROWS = (b'0,n-0,n-0,0,start,,0,0\n0,n-1,n-1,0,start,,0,0\n1,n-0,n-0,1,ping,n-1,1,0\n'
+                 b'2,n-1,n-0,2,ack,n-0,1,0\n2,n-1,n-1,1,ping,n-0,1,0\n3,n-0,n-1,3,ack,n-1,1,0\n')
 
 
 def drive_words(program, *more):
@@ -57,7 +63,7 @@ def drive_by(program, harness):
 def check_own(program, text):
     """The model's own members write what `run` writes: trace, report and page."""
     program.keep('s.toml', text)
-    expect('status', drive_by(program, Harness(judge(document_of(text.encode()), NEWEST_RUN)[1])), 0)
+    expect('status', drive_by(program, Harness(judge(document_of(text), NEWEST_RUN)[1])), 0)
     ran = program.call(['run', 's.toml', '--trace', 'run.csv', '--report', 'run.txt', '--page', 'run.html'])
     expect('status of the run', ran.status, 0)
     for seen, wanted in (('t.csv', 'run.csv'), ('r.txt', 'run.txt'), ('p.html', 'run.html')):
@@ -71,7 +77,8 @@ def check_closed(program, text):
                           stderr=subprocess.PIPE) as world:
         told = world.stdout.readline()
         world.stdout.close()
-        world.stdin.write(b'[{"timer":1,"after":1}]\n')
+        # each answer makes an event more, so that the world soon writes again
+        world.stdin.write(ANSWERS * b'[{"timer":1,"after":1}]\n')
         world.stdin.flush()
         status = world.wait(SECONDS)
         said = world.stderr.read()
@@ -82,14 +89,36 @@ def check_closed(program, text):
     expect('report and page', (program.held('r.txt'), program.held('p.html')), (b'', b''))
 
 
+def check_smallest(program):
+    """The smallest harness, in C, plays the smallest scenario."""
+    built = program.folder / 'smallest'
+    ran = call(['cc', '-o', built, EXAMPLES / 'drive' / 'smallest' / 'smallest.c'], cwd=program.folder)
+    expect('the compiler', (ran.status, ran.err), (0, b''))
+    program.keep('s.toml', (EXAMPLES / 'two.toml').read_text())
+    expect_ran(call([built, *drive_words(program)], cwd=program.folder), 0, b'', b'')
+    expect('trace', program.held('t.csv'), HEAD + SMALLEST_ROWS)
+
+
+def check_python(program):
+    """The harness in Python writes what `run` writes."""
+    program.keep('s.toml', (EXAMPLES / 'two.toml').read_text())
+    harness = EXAMPLES / 'drive' / 'python' / 'harness.py'
+    expect_ran(call(['python3', harness, 's.toml', *drive_words(program)], cwd=program.folder), 0, b'', b'')
+    expect('status of the run', program.call(['run', 's.toml', '--trace', 'run.csv']).status, 0)
+    expect('trace', program.held('t.csv'), program.held('run.csv'))
+
+
 def cases():
     """Each drive of the data, some worked runs, random runs, and a harness that closes its end."""
     drives = json.loads((DATA / 'drive' / 'drives.json').read_text())
     for case in drives:
         yield Case(f'drive of the program: {case["name"]}', check_drive, (case,))
     for path in sorted((DATA / 'worked').glob('*.toml')):
-        yield Case(f'drive of the program, own members: {path.stem}', check_own, (path.read_text(),))
+        yield Case(f'drive of the program, own members: {path.stem}', check_own, (path.read_bytes(),))
     for number in range(RUNS):
         yield Case(f'drive of the program, own members: random run {number}', check_own,
                    (run_case(SEED, number, NEWEST_RUN)[0],))
     yield Case('drive of the program: standard output is closed', check_closed, (drives[0]['text'],))
+    yield Case('drive of the program: the harness in Python', check_python, ())
+    if shutil.which('cc'):
+        yield Case('drive of the program: the smallest harness', check_smallest, ())

@@ -5,3 +5,4 @@ mod Ending
 mod Opened
 mod Playing
 mod Told
+mod Unmade

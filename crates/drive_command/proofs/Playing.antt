@@ -15,7 +15,7 @@ use Rattle.drive_world.specs.Ends.{EndsEarly, drive_failures}
 use Rattle.drive_world.specs.declared.ends.DriveError.{DriveError}
 use Rattle.drive_world.specs.declared.ends.DriveError.TheVariants as error
 use Rattle.drive_command.specs.declared.making.Made.{Made}
-use Rattle.drive_command.specs.Playing.{AppendsAsked, AppendsTrace, HasShape, LeavesBy, LeavesTraceBy, WritesAll, WritesPageAsked, WritesPart, WritesRestPart, failures_in, failures_of}
+use Rattle.drive_command.specs.Playing.{AppendsTrace, LeavesBy, LeavesTraceBy, WritesAll, WritesPart, WritesRest, WritesRestPart}
 
 -- ---- the trace
 
@@ -49,12 +49,19 @@ module _ {M : Type 0} (contents : M → Option (List ℕ)) (s : Setup) (name rel
 
   -- the report and the page were written behind it
   module _ (rows : List Row) (driven : DrivesTo s gave told rows) (traced : AppendsTrace contents s rows old new) where
-    pub wrote_all : {T E : Type 0} (result : Result T E) → OnOk result (AppendsAsked contents (report_text s rows) old.report new.report)
-        → OnOk result (WritesPageAsked contents name release s rows old.page new.page) → OnOk result (WritesAll contents s name release gave told old new)
-    wrote_all (Ok x) reported paged = record { rows = rows; driven = driven; trace = traced; report = reported; page = paged }
-    wrote_all (Err e) reported paged = tt
+    pub wrote_all : {T E : Type 0} (result : Result T E) → OnOk result (WritesRest contents s name release rows old new)
+        → OnOk result (WritesAll contents s name release gave told old new)
+    wrote_all (Ok x) rest = record { rows = rows; driven = driven; trace = traced; report = rest.0; page = rest.1 }
+    wrote_all (Err e) rest = tt
 
-    pub wrote_part : (cause : Fault) → WritesRestPart contents s name release rows old.report new.report old.page new.page
-        → LeavesBy contents s name release gave told old new (error.Fault cause)
-    wrote_part cause (inl part) = record { rows = rows; written = inr (inl (driven, traced, part.0, part.1)) }
-    wrote_part cause (inr part) = record { rows = rows; written = inr (inr (driven, traced, part.0, part.1)) }
+    pub wrote_part : (e : DriveError) → WritesRestPart contents s name release rows old new e → LeavesBy contents s name release gave told old new e
+    wrote_part (error.Stopped place stop event) part = absurd part
+    wrote_part error.Closed part = absurd part
+    wrote_part (error.Fault cause) (inl part) = record { rows = rows; written = inr (inl (driven, traced, part.0, part.1)) }
+    wrote_part (error.Fault cause) (inr part) = record { rows = rows; written = inr (inr (driven, traced, part.0, part.1)) }
+
+    pub all_wrote_part : {T : Type 0} (Refused : Type 0) (result : Result T DriveError) → IfErr result (WritesRestPart contents s name release rows old new)
+        → IfErr result (λ e. e ≡ error.Fault fault.Write → Refused)
+        → IfErr result (λ e. LeavesBy contents s name release gave told old new e × (e ≡ error.Fault fault.Write → Refused))
+    all_wrote_part Refused (Ok x) part refused = tt
+    all_wrote_part Refused (Err e) part refused = (wrote_part e part, refused)

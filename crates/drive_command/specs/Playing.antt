@@ -114,11 +114,17 @@ LeavesTraceBy s gave told old new error.Closed = (rows : List Row) × ComesUntol
 LeavesTraceBy s gave told old new (error.Fault cause) =
     (rows : List Row) × (BeginsDrive s rows ⊎ DrivesTo s gave told rows) × AppendsBeginning old new (trace_text s rows)
 
--- what the report and the page have got where a fault came in them
-abbrev pub WritesRestPart : {M : Type 0} → (M → Option (List ℕ)) → Setup → List ℕ → List ℕ → List Row → Option (Put M) → Option (Put M) → Option (Put M) → Option (Put M) → Type 0
-WritesRestPart contents s name release rows report_old report_new page_old page_new =
-    (AppendsBeginningAsked contents (report_text s rows) report_old report_new × (page_new ≡ page_old))
-    ⊎ (AppendsAsked contents (report_text s rows) report_old report_new × BeginsPageIn contents name release s rows page_old page_new)
+-- the report on these rows and their page were written
+abbrev pub WritesRest : {M : Type 0} → (M → Option (List ℕ)) → Setup → List ℕ → List ℕ → List Row → Made M → Made M → Type 0
+WritesRest contents s name release rows old new =
+    AppendsAsked contents (report_text s rows) old.report new.report × WritesPageAsked contents name release s rows old.page new.page
+
+-- what they have got where a fault came in them
+abbrev pub WritesRestPart : {M : Type 0} → (M → Option (List ℕ)) → Setup → List ℕ → List ℕ → List Row → Made M → Made M → DriveError → Type 0
+WritesRestPart contents s name release rows old new (error.Fault cause) =
+    (AppendsBeginningAsked contents (report_text s rows) old.report new.report × (new.page ≡ old.page))
+    ⊎ (AppendsAsked contents (report_text s rows) old.report new.report × BeginsPageIn contents name release s rows old.page new.page)
+WritesRestPart contents s name release rows old new _ = ⊥
 
 -- what the sinks have got where the drive ended by an error
 abbrev pub LeavesBy : {M : Type 0} → (M → Option (List ℕ)) → Setup → List ℕ → List ℕ → List (List ℕ) → List ℕ → Made M → Made M → DriveError → Type 0

@@ -9,7 +9,7 @@ ghost use Rattle.run_output.specs.Written.{sink_failures};
 ghost use Rattle.drive_world.specs.Drives.{DrivesTo};
 ghost use Rattle.drive_world.specs.DriveOf.{IsSetting};
 ghost use Rattle.drive_world.specs.Ends.{drive_failures};
-ghost use Rattle.drive_command.specs.Playing.{AppendsAsked, AppendsBeginningAsked, AreUnfailed, BeginsPageIn, HasShape, HaveShape, LeavesBy, LeavesTraceBy, WritesAll, WritesPageAsked, WritesRestPart, failures_in, failures_of};
+ghost use Rattle.drive_command.specs.Playing.{AppendsAsked, AppendsBeginningAsked, AreUnfailed, BeginsPageIn, HasShape, HaveShape, LeavesBy, LeavesTraceBy, WritesAll, WritesPageAsked, WritesRest, WritesRestPart, failures_in, failures_of};
 
 use crate::making::Made;
 use base::Fault;
@@ -57,39 +57,26 @@ pub(crate) fn play<M: Write + Drop, H: Harness>(
         trace,
         gathered: series,
     };
-    let outcome = write_trace(alloc, setting, harness, &mut place);
-    let TraceAndGathered { trace, gathered } = place;
-    match outcome {
+    match write_trace(alloc, setting, harness, &mut place) {
         Ok(tallies) => {
+            let TraceAndGathered { trace, gathered } = place;
             let told = PageData { tallies, gathered };
-            let mut report = report;
-            let mut page = page;
-            let written = write_rest(
-                alloc,
-                setting.scenario,
-                shown,
-                &told,
-                &mut report,
-                &mut page,
-            );
             let made = Made {
                 trace,
                 report,
                 page,
             };
-            match written {
-                Ok(()) => (made, Ok(())),
-                Err(fault) => (made, Err(DriveError::Fault(fault))),
-            }
+            write_rest(alloc, setting.scenario, shown, &told, made)
         }
-        Err(error) => (
-            Made {
+        Err(error) => {
+            let TraceAndGathered { trace, .. } = place;
+            let made = Made {
                 trace,
                 report,
                 page,
-            },
-            Err(error),
-        ),
+            };
+            (made, Err(error))
+        }
     }
 }
 
@@ -123,33 +110,37 @@ fn write_trace<A: Sink, H: Harness>(
     }
 }
 
-/// Writes the report and then the page on the rows of a drive, where they are asked for.
+/// Writes the report and then the page on the rows of a drive, where they are asked for, and gives the files back.
 ///
-/// Faults: `Memory`; `Write` where a file failed.
+/// Errors: a fault: `Memory`; `Write` where a file failed.
 fn write_rest<M: Write + Drop>(
     alloc: Global,
     scenario: &Scenario,
     shown: &RunShown<'_>,
     told: &PageData,
-    report: &mut Option<Put<M>>,
-    page: &mut Option<Put<M>>,
-) -> Result<(), Fault>
+    made: Made<M>,
+) -> (Made<M>, Result<(), DriveError>)
     requires named { All (NamesMembers scenario.now) told.now.tallies }
     requires gathered { AreSeriesOf scenario.now told.now.gathered.series told.now.tallies }
     requires untimed { shown.now.tick ≡ None }
-    requires unfailed { failures_of report.old ≡ 0 }
-    requires unfailed_page { failures_of page.old ≡ 0 }
-    ensures reported { OnOk result (AppendsAsked M.contents (report_text scenario.now told.now.tallies) report.old report.new) }
-    ensures paged { OnOk result (WritesPageAsked M.contents shown.now.name.now shown.now.release.now scenario.now told.now.tallies page.old page.new) }
-    ensures part { OnErr result (WritesRestPart M.contents scenario.now shown.now.name.now shown.now.release.now told.now.tallies
-        report.old report.new page.old page.new) }
-    ensures shape { HasShape report.old report.new }
-    ensures shape_page { HasShape page.old page.new }
-    ensures whole { OnOk result (failures_of report.new + failures_of page.new ≡ 0) }
-    ensures refused { IfErr result (λ fault. fault ≡ Fault.Write → 0 < failures_of report.new + failures_of page.new) }
+    requires unfailed { AreUnfailed made }
+    ensures done { OnOk result.1 (WritesRest M.contents scenario.now shown.now.name.now shown.now.release.now told.now.tallies made.entry result.0) }
+    ensures part { IfErr result.1 (λ error. WritesRestPart M.contents scenario.now shown.now.name.now shown.now.release.now told.now.tallies
+        made.entry result.0 error) }
+    ensures same { result.0.trace ≡ made.entry.trace }
+    ensures shape { HaveShape made.entry result.0 }
+    ensures whole { OnOk result.1 (failures_in result.0 ≡ 0) }
+    ensures refused { IfErr result.1 (λ error. error ≡ DriveError.Fault Fault.Write → 0 < failures_in result.0) }
 {
-    write_report(alloc, scenario, &told.tallies, report)?;
-    write_asked(alloc, scenario, shown, told, page)
+    let mut made = made;
+    match write_report(alloc, scenario, &told.tallies, &mut made.report) {
+        Ok(()) => {}
+        Err(fault) => return (made, Err(DriveError::Fault(fault))),
+    }
+    match write_asked(alloc, scenario, shown, told, &mut made.page) {
+        Ok(()) => (made, Ok(())),
+        Err(fault) => (made, Err(DriveError::Fault(fault))),
+    }
 }
 
 /// Writes the report, where one is asked for.

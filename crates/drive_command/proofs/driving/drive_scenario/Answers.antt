@@ -5,6 +5,7 @@ use Rattle.scenario_files.specs.Shelves.{word_given}
 use Rattle.drive_command.proofs.Counting.{all_counted, are_unfailed, grown, kept}
 use Rattle.drive_command.proofs.Ending.{drive_done, drive_left, drive_untold}
 use Rattle.drive_command.proofs.Told.{told_done, told_failed}
+use Rattle.drive_command.proofs.Unmade.{unmade}
 use Rattle.drive_command.proofs.driving.drive_scenario.Goals as goal
 
 pub returns-in_ok-made-clause-done : goal.returns-in_ok-made-clause-done
@@ -49,3 +50,10 @@ pub play-made-requires : goal.play-made-requires
 play-made-requires g c = record {
   unfailed = are_unfailed g.F.Made.Write.contents (g.F.Files.known c.args.files.now) (g.F.Files.known c.make_files.new.files) _ _ _ c.in_ok-made.made c.in_ok-made.ensures.made;
 }
+
+pub returns-in_err-made-clause-failed : goal.returns-in_err-made-clause-failed
+returns-in_err-made-clause-failed g c =
+    let refused = g.F.Files.refused in
+    unmade (refused c.args.files.now < refused c.make_files.new.files) c.args.scenario.now c.args.release.now.version.now (g.F.Files.known c.args.files.now)
+    (g.F.Files.known c.make_files.new.files) (g.F.Files.making c.args.files.now) c.args.words (g.H.Harness.gave c.args.harness.now) (g.H.Harness.told c.args.harness.now)
+    _ _ c.from_residual.ensures.1 c.in_err-made.ensures.failed

@@ -1,10 +1,11 @@
-use Rattle.std.proofs.Common.{subst}
-use Rattle.drive_command.proofs.Playing.{all_early, handed_early, unflushed}
+use Rattle.scenario_files.proofs.Held.{handed_on}
+use Rattle.drive_command.specs.Playing.{LeavesTraceBy}
+use Rattle.drive_command.proofs.Playing.{early_trace, unflushed}
 use Rattle.drive_command.proofs.playing.write_trace.Goals as goal
 
 pub returns-in_err-tallies-clause-early : goal.returns-in_err-tallies-clause-early
 returns-in_err-tallies-clause-early g c =
-    handed_early c.args.setting.now.scenario.now _ _ _ _ _ _ c.from_residual.ensures.1 c.in_err-tallies.ensures.early
+    handed_on _ _ _ c.from_residual.ensures.1 (early_trace c.args.setting.now.scenario.now _ _ _ _ _ c.in_err-tallies.ensures.early)
 
 pub returns-in_ok-tallies-in-Err-clause-early : goal.returns-in_ok-tallies-in-Err-clause-early
 returns-in_ok-tallies-in-Err-clause-early g c =
