@@ -1,5 +1,5 @@
 -- How a command that failed ends, and what users read of it.
-use Rattle.std.specs.Prelude.{◌≡◌, ℕ, List, [], ◌∷◌, ◌++◌, Option, Result, Err, codes, string_bytes}
+use Rattle.std.specs.Prelude.{◌≡◌, ℕ, Bool, true, false, if◌then◌else◌, List, [], ◌∷◌, ◌++◌, Option, Result, Err, codes, string_bytes}
 use Rattle.std.specs.Fmt.{decimal}
 use Rattle.scenario_reader.specs.Rules.{verdict}
 use Rattle.scenario.specs.Division.{Deal}
@@ -121,11 +121,31 @@ message_of Memory = codes "memory"
 message_of (Drive cause) = stop_message cause
 message_of Output = codes "output"
 
--- the line on standard error, with its line feed; there is none where standard output failed
+-- whether a drive was stopped where standard output was closed
+abbrev pub is_closed : DriveStop → Bool
+is_closed (stop.Answer place cause event) = false
+is_closed stop.Closed = true
+
+-- whether no line reports the failure: standard output failed
+abbrev pub is_silent : Failure → Bool
+is_silent Output = true
+is_silent (Drive cause) = is_closed cause
+is_silent (File name) = false
+is_silent Usage = false
+is_silent Preset = false
+is_silent (NoItem key) = false
+is_silent (Rule number) = false
+is_silent (Mistaken number) = false
+is_silent (Setting number swept_keys) = false
+is_silent (Shards cause) = false
+is_silent Workers = false
+is_silent (Division cause) = false
+is_silent (Run cause) = false
+is_silent Memory = false
+
+-- the line on standard error, with its line feed
 abbrev pub failure_line : Failure → List ℕ
-failure_line Output = []
-failure_line (Drive stop.Closed) = []
-failure_line failure = codes "swimsim: " ++ message_of failure ++ 10 ∷ []
+failure_line failure = if is_silent failure then [] else codes "swimsim: " ++ message_of failure ++ 10 ∷ []
 
 -- what a scenario's text may be refused by: a rule, which is its verdict, or want of memory
 abbrev pub RefusesText : List ℕ → Failure → Type 0

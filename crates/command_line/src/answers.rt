@@ -1,7 +1,7 @@
 //! Why a drive was stopped, and what users see of it.
 ghost use Rattle.std.specs.Prelude.{◌≡◌};
 ghost use Rattle.std.specs.Fmt.{WritesOnOk};
-ghost use Rattle.command_line.specs.Failures.{answer_cause, answer_message, answer_reason, stop_message, stop_status};
+ghost use Rattle.command_line.specs.Failures.{answer_cause, answer_message, answer_reason, is_closed, stop_message, stop_status};
 
 use std::fmt;
 
@@ -41,6 +41,16 @@ pub(crate) fn stop_status(stop: &DriveStop) -> u8
     match stop {
         DriveStop::Answer { .. } => 6,
         DriveStop::Closed => 1,
+    }
+}
+
+/// Whether a drive was stopped where standard output was closed.
+pub(crate) fn is_closed(stop: &DriveStop) -> bool
+    ensures { result ≡ is_closed stop.now }
+{
+    match stop {
+        DriveStop::Answer { .. } => false,
+        DriveStop::Closed => true,
     }
 }
 

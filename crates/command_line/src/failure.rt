@@ -3,9 +3,9 @@ ghost use Rattle.std.specs.Prelude.{◌≡◌, ◌≤◌, ◌++◌, Some, OnOk, 
 ghost use Rattle.std.specs.Io.KnownBytes.{Appends};
 ghost use Rattle.std.specs.Fmt.{WritesOnOk};
 ghost use Rattle.shown_names.specs.Shown.{shown_name};
-ghost use Rattle.command_line.specs.Failures.{status_of, message_of, failure_line, fault_number, division_number, setting_swept_keys, shard_message};
+ghost use Rattle.command_line.specs.Failures.{status_of, message_of, failure_line, fault_number, is_silent, division_number, setting_swept_keys, shard_message};
 
-use crate::answers::{DriveStop, stop_status, write_stop};
+use crate::answers::{DriveStop, is_closed, stop_status, write_stop};
 use base::Fault;
 use scenario::DivisionFault;
 use shown_names::write_name;
@@ -185,9 +185,31 @@ fn write_shard<W: fmt::Write>(f: &mut fmt::Formatter<W>, name: &str, what: &str)
 fn tell<E: Write>(failure: &Failure<'_>, err: &mut E) -> io::Result<()>
     ensures told { OnOk result (Appends (E.contents err.old) (E.contents err.new) (failure_line failure.now)) }
 {
+    if is_silent(failure) {
+        return Ok(());
+    }
+    writeln!(err, "swimsim: {failure}")
+}
+
+/// Whether no line reports a failure: standard output failed.
+fn is_silent(failure: &Failure<'_>) -> bool
+    ensures { result ≡ is_silent failure.now }
+{
     match failure {
-        Failure::Output | Failure::Drive(DriveStop::Closed) => Ok(()),
-        _ => writeln!(err, "swimsim: {failure}"),
+        Failure::Output => true,
+        Failure::Drive(stop) => is_closed(stop),
+        Failure::File(_)
+        | Failure::Usage
+        | Failure::Preset
+        | Failure::NoItem { .. }
+        | Failure::Rule(_)
+        | Failure::Mistaken(_)
+        | Failure::Setting { .. }
+        | Failure::Shards(_)
+        | Failure::Workers
+        | Failure::Division(_)
+        | Failure::Run(_)
+        | Failure::Memory => false,
     }
 }
 
