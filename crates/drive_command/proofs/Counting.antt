@@ -40,8 +40,8 @@ module _ {M : Type 0} (contents : M → Option (List ℕ)) (before after : Shelf
         omega (arith, reported, paged)
 
 -- what a failed write adds is counted
-pub grown : (before after closed failed : ℕ) → after ≡ before + closed → closed ≡ failed → 0 < failed → before < after
-grown before after closed failed counted same more = omega (arith, counted, same, more)
+pub grown : (before made after closed failed : ℕ) → made ≡ before → after ≡ made + closed → closed ≡ failed → 0 < failed → before < after
+grown before made after closed failed same counted is more = omega (arith, same, counted, is, more)
 
 pub kept : (before made after closed failed : ℕ) → made ≡ before → after ≡ made + closed → closed ≡ failed → failed ≡ 0 → after ≡ before
 kept before made after closed failed same counted is none = omega (arith, same, counted, is, none)

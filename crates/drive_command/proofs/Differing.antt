@@ -6,7 +6,7 @@ use Rattle.scenario_files.specs.Shelves.{Shelf}
 use Rattle.scenario_files.proofs.Closed.{always, if_known}
 use Rattle.drive_command.specs.Making.{DifferAsked}
 
-pub none_differs : (name : Text) → None {A = Text} ≢ Some name
+pub none_differs : (name : Text) → ◌≢◌ {A = Option Text} None (Some name)
 none_differs name is = cc
 
 pub some_differs : (a b : Text) → a ≢ b → Some a ≢ Some b

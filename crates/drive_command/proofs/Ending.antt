@@ -6,13 +6,15 @@ use Rattle.scenario.specs.Setup.{Setup}
 use Rattle.trace.specs.declared.row.Row.{Row}
 use Rattle.trace.specs.Text.{trace_text}
 use Rattle.reports.specs.Text.{report_text}
-use Rattle.files.specs.Files.{Making}
+use Rattle.std.specs.Io.KnownBytes.{Appends}
+use Rattle.trace.specs.Writers.{writer_under}
+use Rattle.files.specs.Files.{HoldsNow, Making}
 use Rattle.command_line.specs.declared.answers.DriveStop.{DriveStop}
 use Rattle.command_line.specs.declared.answers.DriveStop.TheVariants as stopped
 use Rattle.command_line.specs.declared.driving.DriveWords.{DriveWords}
 use Rattle.command_line.specs.declared.failure.Failure.{Failure}
 use Rattle.command_line.specs.declared.failure.Failure.TheVariants.{Run, Drive}
-use Rattle.scenario_files.specs.Shelves.{Shelf, word_given}
+use Rattle.scenario_files.specs.Shelves.{HoldsBeginning, Shelf, word_given}
 use Rattle.drive_events.specs.Line.{end_line}
 use Rattle.drive_world.specs.Drives.{BeginsDrive, DrivesTo, DrivesUpTo}
 use Rattle.drive_world.specs.declared.ends.DriveError.{DriveError}
@@ -21,9 +23,9 @@ use Rattle.drive_world.specs.declared.ends.Stop.{Stop}
 use Rattle.drive_command.specs.declared.making.Made.{Made}
 use Rattle.drive_command.specs.Ends.{IsToldBy, TellsAnswer}
 use Rattle.drive_command.specs.Making.{AreMade, ClosesAll}
-use Rattle.drive_command.specs.Outcomes.{AreApart, BreaksOff, ComesUntold, DriveEnds, DrivesScenario, LeavesRows, LosesHarness, StopsDrive, StoresDrive}
-use Rattle.drive_command.specs.Playing.{LeavesBy, WritesAll, WritesPart, WritesUpTo}
-use Rattle.drive_command.proofs.Closing.{begins_asked, empty_asked, page_asked, page_begins, page_holds, report_holds, rest_kept, trace_begins, trace_holds}
+use Rattle.drive_command.specs.Outcomes.{AreApart, BeginsAsked, BeginsPageAsked, BreaksOff, ComesUntold, DriveEnds, DrivesScenario, HoldsAsked, KeepsRest, LeavesRows, LosesHarness, StopsDrive, StoresDrive}
+use Rattle.drive_command.specs.Playing.{AppendsAsked, AppendsBeginningAsked, AppendsTrace, BeginsPageIn, BeginsTraceIn, KeepsBoth, LeavesBy, WritesAll, WritesPart, WritesUpTo}
+use Rattle.drive_command.proofs.Closing.{Holds, begins_asked, empty_asked, page_asked, page_begins, page_holds, report_holds, rest_kept, trace_begins, trace_holds}
 
 -- up to an event, the run is a beginning of it
 begins_drive : (s : Setup) (came_in : List (List ℕ)) (told : List ℕ) (rows : List Row) → DrivesUpTo s came_in told rows → BeginsDrive s rows
@@ -33,16 +35,16 @@ module _ {M : Type 0} (contents : M → Option (List ℕ)) (s : Setup) (release 
     (first last : Made M) (gave : List (List ℕ)) (told : List ℕ)
     (makes : AreMade contents start made drive.trace.now (word_given drive.report) (word_given drive.page) first)
     (closes : ClosesAll contents made end drive.trace.now (word_given drive.report) (word_given drive.page) last) where
-  trace_now : _
+  trace_now : (text : List ℕ) → Appends (contents (writer_under first.trace)) (contents (writer_under last.trace)) text → HoldsNow (start drive.trace.now) (end drive.trace.now) text
   trace_now = trace_holds contents start made end drive.trace.now (word_given drive.report) (word_given drive.page) first last makes closes
 
-  report_now : _
+  report_now : Holds contents start end (word_given drive.report) first.report last.report
   report_now = report_holds contents start made end drive.trace.now (word_given drive.report) (word_given drive.page) first last makes closes
 
-  page_now : _
+  page_now : Holds contents start end (word_given drive.page) first.page last.page
   page_now = page_holds contents start made end drive.trace.now (word_given drive.report) (word_given drive.page) first last makes closes
 
-  others_now : _
+  others_now : KeepsRest start end drive.trace.now (word_given drive.report) (word_given drive.page)
   others_now = rest_kept contents start made end drive.trace.now (word_given drive.report) (word_given drive.page) first last makes closes
 
   pub drive_stored : WritesAll contents s drive.file.now release gave told first last → StoresDrive s release start end drive gave told
@@ -81,7 +83,24 @@ module _ {M : Type 0} (contents : M → Option (List ℕ)) (s : Setup) (release 
   breaks : WritesPart contents s drive.file.now release gave told first last → BreaksOff s release start end drive gave told
   breaks writes = record { rows = writes.rows; written = by writes.written; others = others_now }
     where
-      by : _ → _
+      trace_text_now : List ℕ
+      trace_text_now = trace_text s writes.rows
+
+      report_text_now : List ℕ
+      report_text_now = report_text s writes.rows
+
+      by : ((BeginsDrive s writes.rows ⊎ DrivesTo s gave told writes.rows) × BeginsTraceIn contents s writes.rows first last × KeepsBoth first last)
+          ⊎ ((DrivesTo s gave told writes.rows × AppendsTrace contents s writes.rows first last × AppendsBeginningAsked contents report_text_now first.report last.report
+          × (last.page ≡ first.page))
+          ⊎ (DrivesTo s gave told writes.rows × AppendsTrace contents s writes.rows first last × AppendsAsked contents report_text_now first.report last.report
+          × BeginsPageIn contents drive.file.now release s writes.rows first.page last.page))
+          → ((BeginsDrive s writes.rows ⊎ DrivesTo s gave told writes.rows) × HoldsBeginning (start drive.trace.now) (end drive.trace.now) trace_text_now
+          × HoldsAsked start end (word_given drive.report) [] × HoldsAsked start end (word_given drive.page) [])
+          ⊎ ((DrivesTo s gave told writes.rows × HoldsNow (start drive.trace.now) (end drive.trace.now) trace_text_now
+          × BeginsAsked start end (word_given drive.report) report_text_now × HoldsAsked start end (word_given drive.page) [])
+          ⊎ (DrivesTo s gave told writes.rows × HoldsNow (start drive.trace.now) (end drive.trace.now) trace_text_now
+          × HoldsAsked start end (word_given drive.report) report_text_now
+          × BeginsPageAsked drive.file.now release s writes.rows start end (word_given drive.page)))
       by (inl (driven, begun, same)) = inl (
         driven,
         trace_begins contents start made end drive.trace.now (word_given drive.report) (word_given drive.page) first last makes closes (trace_text s writes.rows) begun,
@@ -103,7 +122,7 @@ module _ {M : Type 0} (contents : M → Option (List ℕ)) (s : Setup) (release 
 
   -- why it was not done
   module _ (Refused : Type 0) (apart : AreApart making drive) where
-    Ends : Failure → Type 0
+    abbrev Ends : Failure → Type 0
     Ends failure = DriveEnds Refused s release start end making drive gave told failure
 
     by_memory : (cause : Fault) → cause ≡ fault.Memory → cause ≡ fault.Write → Refused

@@ -3,6 +3,6 @@ mod Counting
 mod Differing
 mod Ending
 mod Opened
-mod Playing
+mod Sinks
 mod Told
 mod Unmade

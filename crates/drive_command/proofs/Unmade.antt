@@ -12,7 +12,7 @@ use Rattle.drive_command.specs.Making.{MakeFails}
 use Rattle.drive_command.specs.Outcomes.{DriveEnds}
 
 module _ (Refused : Type 0) (s : Setup) (release : List ℕ) (before after : Shelf) (making : Making) (drive : DriveWords) (gave : List (List ℕ)) (told : List ℕ) where
-  Unmade : Failure → Type 0
+  abbrev pub Unmade : Failure → Type 0
   Unmade failure = MakeFails before after making drive.file.now drive.trace.now (word_given drive.report) (word_given drive.page) failure
 
   unmade_ends : (failure : Failure) → Unmade failure → DriveEnds Refused s release before after making drive gave told failure

@@ -102,10 +102,10 @@ fn told<H: Harness>(
     harness: &mut H,
     outcome: Result<(), DriveError>,
 ) -> Result<(), Failure<'static>>
-    ensures done { OnOk result (OnOk outcome.entry (H.told harness.new ≡ H.told harness.old ++ end_line scenario.now)) }
-    ensures was { OnErr outcome.entry (OnOk result ⊥) }
-    ensures failed { IfErr result (EndsBy outcome.entry) }
-    ensures told { OnErr outcome.entry (H.told harness.new ≡ H.told harness.old) }
+    ensures done { OnOk result (OnOk outcome (H.told harness.new ≡ H.told harness.old ++ end_line scenario.now)) }
+    ensures was { OnErr outcome (OnOk result ⊥) }
+    ensures failed { IfErr result (EndsBy outcome) }
+    ensures told { OnErr outcome (H.told harness.new ≡ H.told harness.old) }
     ensures gave { H.gave harness.new ≡ H.gave harness.old }
 {
     match outcome {

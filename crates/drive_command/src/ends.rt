@@ -10,7 +10,7 @@ use drive_world::{DriveError, Stop};
 
 /// The failure that a drive ended by.
 pub(crate) fn drive_failure(error: DriveError) -> Failure<'static>
-    ensures { IsToldBy error.entry result }
+    ensures { IsToldBy error result }
 {
     match error {
         DriveError::Stopped { place, stop, event } => stopped(place, stop, event),
@@ -21,7 +21,7 @@ pub(crate) fn drive_failure(error: DriveError) -> Failure<'static>
 
 /// The failure of an answer that is none. The line of the event is text, as each line that a drive writes.
 fn stopped(place: u64, stop: Stop, event: Vec<u8>) -> Failure<'static>
-    ensures { IsToldBy (error.Stopped place stop event.entry) result }
+    ensures { IsToldBy (error.Stopped place stop event) result }
 {
     let Some(cause) = cause_of(stop) else {
         return Failure::Run(Fault::Memory);

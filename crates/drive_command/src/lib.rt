@@ -4,10 +4,8 @@
 mod driving;
 mod ends;
 mod making;
-mod paging;
 mod pipe_harness;
 mod playing;
-mod series;
 
 pub use driving::drive;
 pub use pipe_harness::PipeHarness;

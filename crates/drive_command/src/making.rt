@@ -147,9 +147,9 @@ fn make_three<'a, F: Files>(
 /// Closes the files that were made for the words.
 pub(crate) fn close_files<F: Files>(words: DriveWords<'_>, made: Made<F::Made>, files: &mut F)
     ensures closed { ClosesAll F.Made.contents (F.known files.old) (F.known files.new)
-        words.entry.trace.now (word_given words.entry.report) (word_given words.entry.page) made.entry }
+        words.entry.trace.now (word_given words.entry.report) (word_given words.entry.page) made }
     ensures refused { F.refused files.new
-        ≡ F.refused files.old + failures_closed (word_given words.entry.report) (word_given words.entry.page) made.entry }
+        ≡ F.refused files.old + failures_closed (word_given words.entry.report) (word_given words.entry.page) made }
 {
     let Made {
         trace,
@@ -163,8 +163,8 @@ pub(crate) fn close_files<F: Files>(words: DriveWords<'_>, made: Made<F::Made>, 
 
 /// Closes a file that is asked for.
 fn close_asked<F: Files>(name: Option<&str>, made: Option<Put<F::Made>>, files: &mut F)
-    ensures closed { ClosesAsked F.Made.contents (F.known files.old) (F.known files.new) (word_given name.entry) made.entry }
-    ensures refused { F.refused files.new ≡ F.refused files.old + failures_asked (word_given name.entry) made.entry }
+    ensures closed { ClosesAsked F.Made.contents (F.known files.old) (F.known files.new) (word_given name.entry) made }
+    ensures refused { F.refused files.new ≡ F.refused files.old + failures_asked (word_given name.entry) made }
 {
     match name {
         Some(name) => match made {

@@ -41,11 +41,11 @@ pub(crate) fn play<M: Write + Drop, H: Harness>(
     requires unfailed { AreUnfailed made }
     requires untimed { shown.now.tick ≡ None }
     ensures done { OnOk result.1 (WritesAll M.contents setting.now.scenario.now shown.now.name.now shown.now.release.now
-        (H.gave harness.new) (H.told harness.new) made.entry result.0) }
+        (H.gave harness.new) (H.told harness.new) made result.0) }
     ensures early { IfErr result.1 (λ error. LeavesBy M.contents setting.now.scenario.now shown.now.name.now shown.now.release.now
-        (H.gave harness.new) (H.told harness.new) made.entry result.0 error
+        (H.gave harness.new) (H.told harness.new) made result.0 error
         × (error ≡ DriveError.Fault Fault.Write → 0 < failures_in result.0)) }
-    ensures shape { HaveShape made.entry result.0 }
+    ensures shape { HaveShape made result.0 }
     ensures whole { OnOk result.1 (failures_in result.0 ≡ 0) }
 {
     let Made {
@@ -124,11 +124,11 @@ fn write_rest<M: Write + Drop>(
     requires gathered { AreSeriesOf scenario.now told.now.gathered.series told.now.tallies }
     requires untimed { shown.now.tick ≡ None }
     requires unfailed { AreUnfailed made }
-    ensures done { OnOk result.1 (WritesRest M.contents scenario.now shown.now.name.now shown.now.release.now told.now.tallies made.entry result.0) }
+    ensures done { OnOk result.1 (WritesRest M.contents scenario.now shown.now.name.now shown.now.release.now told.now.tallies made result.0) }
     ensures part { IfErr result.1 (λ error. WritesRestPart M.contents scenario.now shown.now.name.now shown.now.release.now told.now.tallies
-        made.entry result.0 error) }
-    ensures same { result.0.trace ≡ made.entry.trace }
-    ensures shape { HaveShape made.entry result.0 }
+        made result.0 error) }
+    ensures same { result.0.trace ≡ made.trace }
+    ensures shape { HaveShape made result.0 }
     ensures whole { OnOk result.1 (failures_in result.0 ≡ 0) }
     ensures refused { IfErr result.1 (λ error. error ≡ DriveError.Fault Fault.Write → 0 < failures_in result.0) }
 {

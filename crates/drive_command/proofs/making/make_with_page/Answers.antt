@@ -8,5 +8,5 @@ returns-in-Ok-clause-made g c =
     made_with_page holds (known c.args.files.now) (known c.make_both.new.self) c.args.words.trace.now _
     (fresh holds _ _ _ _ c.in-Ok.ensures.empty c.in-Ok.ensures.made c.new.ensures.writer c.new.ensures.failures)
     c.args.page.now _
-    (fresh holds _ _ _ _ c.in-Ok.ensures.empty_too c.in-Ok.ensures.made_too c.new-2.ensures.writer c.new-2.ensures.failures)
+    (fresh holds _ _ _ _ c.in-Ok.ensures.empty_too c.in-Ok.ensures.made_too c.new-in-Ok.ensures.writer c.new-in-Ok.ensures.failures)
     c.in-Ok.ensures.differ c.in-Ok.ensures.others

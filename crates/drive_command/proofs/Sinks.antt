@@ -1,5 +1,5 @@
 -- What a drive leaves in its sinks.
-use Rattle.std.proofs.Common.{◌≡◌, ◌⊎◌, ◌+◌, ◌<◌, ℕ, List, Option, Some, None, Result, Ok, Err, OnOk, OnErr, IfOk, IfErr, ap, arith, subst, sym, refl, inl, inr}
+use Rattle.std.proofs.Common.{◌≡◌, ◌⊎◌, ◌+◌, ◌<◌, ◌∙◌, ℕ, List, Option, Some, None, Result, Ok, Err, OnOk, OnErr, IfOk, IfErr, ap, arith, subst, sym, refl, inl, inr}
 use Rattle.std.specs.Io.KnownBytes.{Appends, Keeps}
 use Rattle.base.specs.declared.fault.Fault.{Fault}
 use Rattle.base.specs.declared.fault.Fault.TheVariants as fault
@@ -65,3 +65,10 @@ module _ {M : Type 0} (contents : M → Option (List ℕ)) (s : Setup) (name rel
         → IfErr result (λ e. LeavesBy contents s name release gave told old new e × (e ≡ error.Fault fault.Write → Refused))
     all_wrote_part Refused (Ok x) part refused = tt
     all_wrote_part Refused (Err e) part refused = (wrote_part e part, refused)
+
+-- a failed write is counted
+pub grown_by : {T : Type 0} (result : Result T DriveError) (e : DriveError) (count report page : ℕ) → result ≡ Err e → count ≡ drive_failures result
+    → e ≡ error.Fault fault.Write → 0 < count + report + page
+grown_by result e count report page is counted write =
+    let one : count ≡ 1 = counted ∙ ap drive_failures (is ∙ ap Err write) in
+    omega (arith, one)
