@@ -18,6 +18,7 @@ from pathlib import Path
 import paths  # noqa: F401 (puts the folders of what follows on the path)
 import commands
 import draws
+import drives
 import large_pages
 import long_runs
 import presets
@@ -35,7 +36,7 @@ from harness import end, parser_of, program_at
 from program import Program, Wrong
 from stand_in import StandIn
 
-KINDS = (worked, test_model_steps, test_model_parts, test_model_rows, test_model_drive, draws, texts, commands, presets, sweeps, shards,
+KINDS = (worked, test_model_steps, test_model_parts, test_model_rows, test_model_drive, drives, draws, texts, commands, presets, sweeps, shards,
          run_pages, large_pages, long_runs, writes)
 
 

@@ -11,6 +11,7 @@ swimsim simulates clusters of the SWIM membership protocol. Its commands:
   sweep    runs a scenario by many seeds and settings, and writes a table
   join     puts the shards of a sweep together
   page     makes a sweep's page of the shards of its table
+  drive    runs a scenario whose members are another program's
 
 To try it:
 

@@ -103,10 +103,11 @@ fn scenario_lines<S: AsStr, F: Files>(
     Ok(lines)
 }
 
-/// The name of the file whose scenario a command runs or checks.
+/// The name of the file whose scenario a command runs, drives or checks.
 fn scenario_name<'a>(asked: &Asked<'a>) -> Option<&'a str> {
     match asked {
         Asked::Run(words) => Some(words.file),
+        Asked::Drive(words) => Some(words.file),
         Asked::Check(file) => Some(*file),
         Asked::Sweep(words) => Some(words.file),
         _ => None,

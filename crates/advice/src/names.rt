@@ -8,6 +8,7 @@ use std::alloc::Global;
 pub(crate) fn is_read(asked: &Asked<'_>, name: &str) -> bool {
     match asked {
         Asked::Run(words) => words.file == name,
+        Asked::Drive(words) => words.file == name,
         Asked::Check(file) => *file == name,
         Asked::Explain(words) => words.file == name,
         Asked::Sweep(words) => words.file == name || words.resume && words.table == name,
@@ -22,6 +23,11 @@ pub(crate) fn names_of<'a>(alloc: Global, asked: &Asked<'a>) -> Result<Vec<&'a s
     let mut names = Vec::new(alloc);
     match asked {
         Asked::Run(words) => {
+            names.extend_from_slice(&[words.file, words.trace])?;
+            push_given(&mut names, words.report)?;
+            push_given(&mut names, words.page)?;
+        }
+        Asked::Drive(words) => {
             names.extend_from_slice(&[words.file, words.trace])?;
             push_given(&mut names, words.report)?;
             push_given(&mut names, words.page)?;

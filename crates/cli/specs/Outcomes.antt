@@ -8,7 +8,7 @@ use Rattle.member_laws.specs.Runs.{CounterOverflows}
 use Rattle.run_output.specs.Promise.{ReportOverflows}
 use Rattle.clap.specs.Words.{Text}
 use Rattle.files.specs.Files.{KnownFile, Making}
-use Rattle.command_line.specs.Words.{AsksForRun, AsksForCheck, AsksForExplain, AsksForHelp, AsksForInit, AsksForNoPreset, AsksForVersion, IsNoCommand}
+use Rattle.command_line.specs.Words.{AsksForRun, AsksForCheck, AsksForDrive, AsksForExplain, AsksForHelp, AsksForInit, AsksForNoPreset, AsksForVersion, IsNoCommand}
 use Rattle.command_line.specs.Printed.{rows_line, members_line, release_line, HasText, PrintsPreset}
 use Rattle.command_line.specs.Failures.{status_of, IsMistaken}
 use Rattle.command_line.specs.declared.release.Release.{Release}
@@ -22,6 +22,8 @@ use Rattle.scenario_files.specs.Loading.{HasVerdict, LoadFails}
 use Rattle.join_command.specs.Outcomes.{DoesJoin, DoesNotJoin, DoesNotPage, DoesPage}
 use Rattle.explain_command.specs.Outcomes.{ExplainFails, IsExplained, PrintsMeaning}
 use Rattle.run_command.specs.Outcomes.{AsksForRunProgress, DoesRun, EndsWithCause, RunFails}
+use Rattle.drive_command.specs.Outcomes.{DoesDrive, DriveFails}
+use Rattle.command_line.specs.declared.driving.DriveWords.{DriveWords}
 use Rattle.sweep_command.specs.Outcomes.{AsksForProgress as AsksForSweepProgress, DoesSweep, DoesNotSweep}
 
 -- the words ask for a run or a sweep that tells how far it has come
@@ -59,19 +61,20 @@ DoesHelp words before after = AsksForHelp words × (after ≡ before)
 abbrev pub DoesVersion : List Text → Shelf → Shelf → Type 0
 DoesVersion words before after = AsksForVersion words × (after ≡ before)
 
--- what the words ask for was done: a run, and the number of its rows printed; a check, and the number of members
+-- What the words ask for was done, where the harness has given these lines and was told this: a run, and the number of its rows printed; a check, and the number of members
 -- printed; what a scenario means printed; a sweep, and the lines of its settings printed; a preset's scenario printed; shards joined, and the lines of
--- the settings printed; a page of shards made, and nothing printed; help was printed; or the line that tells of this release
-abbrev pub HasDone : Release → List Text → Shelf → Shelf → Making → Option (List ℕ) → Option (List ℕ) → Type 0
-HasDone release words before after making old new = ((count : ℕ) × DoesRun release.version.now words before after making count × Appends old new (rows_line count))
+-- the settings printed; a page of shards made, and nothing printed; a drive, and nothing else printed; help was printed; or the line that tells of this release
+abbrev pub HasDone : Release → List Text → Shelf → Shelf → Making → Option (List ℕ) → Option (List ℕ) → List (List ℕ) → List ℕ → Type 0
+HasDone release words before after making old new gave told = ((count : ℕ) × DoesRun release.version.now words before after making count × Appends old new (rows_line count))
     ⊎ (((members : ℕ) × DoesCheck words before after members × Appends old new (members_line members))
     ⊎ (DoesExplain words before after old new
     ⊎ (((lines : List ℕ) × DoesSweep release.version.now words before after making lines × Appends old new lines)
     ⊎ (DoesInit words before after old new
     ⊎ (((lines : List ℕ) × DoesJoin release.version.now words before after making lines × Appends old new lines)
     ⊎ ((DoesPage release.version.now words before after making × Keeps old new)
+    ⊎ ((DoesDrive release.version.now words before after making gave told × Keeps old new)
     ⊎ (DoesHelp words before after
-    ⊎ (DoesVersion words before after × Appends old new (release_line release)))))))))
+    ⊎ (DoesVersion words before after × Appends old new (release_line release))))))))))
 
 -- a text tells of the scenario of the file that the words ask to explain
 abbrev pub Explains : List Text → Shelf → Shelf → Type 0
@@ -104,32 +107,38 @@ abbrev pub DoesNotExplain : List Text → Shelf → Shelf → Option (List ℕ) 
 DoesNotExplain words before after old new failure = (explain : ExplainWords) × AsksForExplain words explain
     × IsRefused before after (ExplainFails (before explain.file.now) explain old new failure)
 
--- Why a run, a check, an explanation, a sweep, a joining or a page of shards that the words ask for was not done. By a failed write a run, a
--- sweep, a joining or a page ends only where a file refused one, as `Refused` says.
-abbrev pub DoesNot : Type 0 → List Text → Shelf → Shelf → Making → Option (List ℕ) → Option (List ℕ) → Failure → Type 0
-DoesNot Refused words before after making old new failure =
+-- why a drive that the words ask for was not done
+abbrev pub DoesNotDrive : Type 0 → List Text → Shelf → Shelf → Making → List (List ℕ) → List ℕ → Failure → Type 0
+DoesNotDrive Refused words before after making gave told failure =
+    (drive : DriveWords) × AsksForDrive words drive × ((version : List ℕ) × DriveFails Refused version before after making drive gave told failure)
+
+-- Why a run, a check, an explanation, a sweep, a joining, a page of shards or a drive that the words ask for was not done. By a failed write a
+-- run, a sweep, a joining, a page or a drive ends only where a file refused one, as `Refused` says.
+abbrev pub DoesNot : Type 0 → List Text → Shelf → Shelf → Making → Option (List ℕ) → Option (List ℕ) → List (List ℕ) → List ℕ → Failure → Type 0
+DoesNot Refused words before after making old new gave told failure =
     ((run : RunWords) × AsksForRun words run × ((version : List ℕ) × RunFails (λ s workers. EndsWithCause Refused (EndsRunBy s workers)) version before after making run failure))
     ⊎ (((file : Text) × AsksForCheck words file × CheckFails before after file failure)
     ⊎ (DoesNotExplain words before after old new failure
     ⊎ (DoesNotSweep Refused words before after making failure
     ⊎ (DoesNotJoin Refused words before after making failure
-    ⊎ DoesNotPage Refused words before after making failure))))
+    ⊎ (DoesNotPage Refused words before after making failure
+    ⊎ DoesNotDrive Refused words before after making gave told failure)))))
 
 -- why what the words ask for wasn't done
-abbrev pub Fails : Type 0 → List Text → Shelf → Shelf → Making → Option (List ℕ) → Option (List ℕ) → Failure → Type 0
-Fails Refused words before after making old new Usage = IsNoCommand words × (after ≡ before)
-Fails Refused words before after making old new Preset = AsksForNoPreset words × (after ≡ before)
-Fails Refused words before after making old new (NoItem key) = DoesNotSweep Refused words before after making (NoItem key)
-Fails Refused words before after making old new Output = DoneUnprinted words before after making
-Fails Refused words before after making old new (Mistaken rule) = DoesNotExplain words before after old new (Mistaken rule)
-Fails Refused words before after making old new Memory = after ≡ before
-Fails Refused words before after making old new failure = DoesNot Refused words before after making old new failure
+abbrev pub Fails : Type 0 → List Text → Shelf → Shelf → Making → Option (List ℕ) → Option (List ℕ) → List (List ℕ) → List ℕ → Failure → Type 0
+Fails Refused words before after making old new gave told Usage = IsNoCommand words × (after ≡ before)
+Fails Refused words before after making old new gave told Preset = AsksForNoPreset words × (after ≡ before)
+Fails Refused words before after making old new gave told (NoItem key) = DoesNotSweep Refused words before after making (NoItem key)
+Fails Refused words before after making old new gave told Output = DoneUnprinted words before after making
+Fails Refused words before after making old new gave told (Mistaken rule) = DoesNotExplain words before after old new (Mistaken rule)
+Fails Refused words before after making old new gave told Memory = after ≡ before
+Fails Refused words before after making old new gave told failure = DoesNot Refused words before after making old new gave told failure
 
 -- How a command ended that answered this status, which isn't 0: by a failure of that status. Standard output is as it was,
 -- unless it failed itself or has got the diagnostics of a text that was to be explained.
 pub record Ends {O : Type 0} (Refused : Type 0) (words : List Text) (before after : Shelf) (making : Making) (contents : O → Option (List ℕ)) (old new : O)
-    (status : ℕ) : Type 0 where
+    (gave : List (List ℕ)) (told_harness : List ℕ) (status : ℕ) : Type 0 where
   pub failure : Failure
   pub told : status ≡ status_of failure
-  pub cause : Fails Refused words before after making (contents old) (contents new) failure
+  pub cause : Fails Refused words before after making (contents old) (contents new) gave told_harness failure
   pub silent : failure ≢ Output → ¬ (IsMistaken failure) → new ≡ old

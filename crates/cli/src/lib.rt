@@ -9,8 +9,8 @@ pub mod system;
 
 pub use advice::Surroundings;
 pub use command_line::{
-    Asked, ExplainWords, Failure, JoinWords, PageWords, Release, RunWords, ShardFault, Split,
-    SweepWords, division_asked, parse, refuse, workers_asked,
+    AnswerFault, Asked, DriveStop, DriveWords, ExplainWords, Failure, JoinWords, PageWords,
+    Release, RunWords, ShardFault, Split, SweepWords, division_asked, parse, refuse, workers_asked,
 };
 pub use files::{FileFault, Files, PairFault, ReadFault, TripleFault, testing};
 pub use program::command;

@@ -1,7 +1,7 @@
 //! The program as a function over files and writers.
-ghost use Rattle.std.specs.Prelude.{◌≡◌, ◌≢◌, ◌⊎◌, ◌<◌, ◌≤◌, map, IfErr, OnOk, IsErrOf};
+ghost use Rattle.std.specs.Prelude.{◌≡◌, ◌≢◌, ◌⊎◌, ◌<◌, ◌≤◌, [], map, IfErr, OnOk, IsErrOf};
 ghost use Rattle.command_line.specs.Failures.{IsMistaken};
-ghost use Rattle.command_line.specs.Words.{AsksToExplain, IsCommand, IsNoCommand};
+ghost use Rattle.command_line.specs.Words.{AsksToDrive, AsksToExplain, IsCommand, IsNoCommand};
 ghost use Rattle.sweep_command.specs.Outcomes.{SetsNoItem};
 ghost use Rattle.cli.specs.Outcomes.{AsksForProgress, HasDone, Fails, Ends};
 
@@ -11,6 +11,8 @@ use command_line::{
     Asked, Failure, Release, parse, print_help, print_members, print_preset, print_release,
     print_rows, print_text, refuse,
 };
+use drive_command::drive;
+use drive_world::Harness;
 use explain_command::explain_file;
 use files::Files;
 use join_command::{join_files, page_files};
@@ -31,7 +33,7 @@ use sweep_command::sweep_file;
 /// `run` only where `err` is a terminal. `out` then gets nothing, unless it failed itself or gets the diagnostics of a scenario. `surroundings` are
 /// asked what the system says of a file that can't be read or made. A run or a sweep that is to tell how far it has come does so on `progress`, as far as that takes
 /// its lines.
-pub fn command<S: AsStr, F: Files, O: Write, E: Write, P: Write, A: Surroundings>(
+pub fn command<S: AsStr, F: Files, O: Write, E: Write, P: Write, A: Surroundings, H: Harness>(
     rt: &(impl Threads + Wait + Sync),
     alloc: Global,
     release: &Release<'_>,
@@ -40,25 +42,29 @@ pub fn command<S: AsStr, F: Files, O: Write, E: Write, P: Write, A: Surroundings
     out: &mut O,
     err: &mut E,
     progress: &mut P,
+    harness: &mut H,
     is_terminal: bool,
     most: Workers,
     surroundings: &A,
 ) -> u8
-    ensures range { result ≤ 5 }
+    // The harness was told nothing yet, and gave nothing.
+    requires untold { H.told harness.old ≡ [] }
+    requires ungiven { H.gave harness.old ≡ [] }
+    ensures range { result ≤ 6 }
 
     // Status 0: what the words ask for was done. A run has left its trace in the file of that name, its
     // report and its page where they are asked for, and told standard output the number of its rows; a check, the number
     // of members; an explanation, what the scenario means; a sweep has left its table and its page, and told the lines of its settings, unless it
     // is a shard; a preset's scenario was told; shards that were joined have left the table of the whole and its page, and told those
-    // lines; a page of shards was left, and nothing told; who asks for the version was told the line of this release.
+    // lines; a page of shards was left, and nothing told; a drive has left what a run leaves, as its harness answered, and told it the end; who asks for the version was told the line of this release.
     ensures done { result ≡ 0 → HasDone release.now (map S.text words.now) (F.known files.old) (F.known files.new) (F.making files.old)
-        (O.contents out.old) (O.contents out.new) }
+        (O.contents out.old) (O.contents out.new) (H.gave harness.new) (H.told harness.new) }
 
     // Any other status has its cause, which the files and the words bear out: by a failed write nothing ends unless a file
     // has refused one.
     ensures failed { result ≢ 0
         → Ends (F.refused files.old < F.refused files.new) (map S.text words.now) (F.known files.old) (F.known files.new) (F.making files.old)
-        O.contents out.old out.new result }
+        O.contents out.old out.new (H.gave harness.new) (H.told harness.new) result }
 
     // Status 2 is for words that are no command, and for the key of an item that the text hasn't. The former get it, unless
     // memory is refused.
@@ -72,8 +78,13 @@ pub fn command<S: AsStr, F: Files, O: Write, E: Write, P: Write, A: Surroundings
 
     // No words but those of a run or a sweep that is to tell of it write to `progress`.
     ensures unasked { ¬ (AsksForProgress (map S.text words.now)) → progress.new ≡ progress.old }
+
+    // Nor does the harness hear of anything but a drive.
+    ensures undriven { ¬ (AsksToDrive (map S.text words.now)) → harness.new ≡ harness.old }
 {
-    let performed = perform(rt, alloc, release, words, most, files, out, progress);
+    let performed = perform(
+        rt, alloc, release, words, most, files, out, progress, harness,
+    );
     match performed {
         Ok(()) => 0,
         Err(failure) => {
@@ -93,7 +104,7 @@ pub fn command<S: AsStr, F: Files, O: Write, E: Write, P: Write, A: Surroundings
 }
 
 /// Does what the words ask for.
-fn perform<'a, S: AsStr, F: Files, O: Write, P: Write>(
+fn perform<'a, S: AsStr, F: Files, O: Write, P: Write, H: Harness>(
     rt: &(impl Threads + Wait + Sync),
     alloc: Global,
     release: &Release<'_>,
@@ -102,12 +113,15 @@ fn perform<'a, S: AsStr, F: Files, O: Write, P: Write>(
     files: &mut F,
     out: &mut O,
     progress: &mut P,
+    harness: &mut H,
 ) -> Result<(), Failure<'a>>
+    requires untold { H.told harness.old ≡ [] }
+    requires ungiven { H.gave harness.old ≡ [] }
     ensures done { OnOk result (HasDone release.now (map S.text words.entry.now) (F.known files.old) (F.known files.new) (F.making files.old)
-        (O.contents out.old) (O.contents out.new)) }
+        (O.contents out.old) (O.contents out.new) (H.gave harness.new) (H.told harness.new)) }
     ensures failed { IfErr result
         (Fails (F.refused files.old < F.refused files.new) (map S.text words.entry.now) (F.known files.old) (F.known files.new) (F.making files.old)
-        (O.contents out.old) (O.contents out.new)) }
+        (O.contents out.old) (O.contents out.new) (H.gave harness.new) (H.told harness.new)) }
     ensures command { OnOk result (IsCommand (map S.text words.entry.now)) }
     ensures other { ¬ (IsCommand (map S.text words.entry.now))
         → IfErr result (λ failure. (failure ≡ Failure.Usage) ⊎ ((failure ≡ Failure.Preset) ⊎ (failure ≡ Failure.Memory))) }
@@ -115,6 +129,7 @@ fn perform<'a, S: AsStr, F: Files, O: Write, P: Write>(
     ensures preset { IsErrOf result Failure.Preset → IsNoCommand (map S.text words.entry.now) }
     ensures silent { IfErr result (λ failure. failure ≢ Failure.Output → ¬ (IsMistaken failure) → out.new ≡ out.old) }
     ensures unasked { ¬ (AsksForProgress (map S.text words.entry.now)) → progress.new ≡ progress.old }
+    ensures undriven { ¬ (AsksToDrive (map S.text words.entry.now)) → harness.new ≡ harness.old }
 {
     match parse(alloc, words)? {
         Asked::Help(help) => print_help(&help, out),
@@ -139,5 +154,6 @@ fn perform<'a, S: AsStr, F: Files, O: Write, P: Write>(
             print_text(joined.as_str(), out)
         }
         Asked::Page(words) => page_files(alloc, release, &words, files),
+        Asked::Drive(words) => drive(alloc, release, words, files, harness),
     }
 }

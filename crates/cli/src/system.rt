@@ -7,6 +7,9 @@ use crate::program::command;
 use crate::surroundings::{SystemSurroundings, is_terminal};
 pub use command_line::system::words;
 use command_line::{Release, refuse};
+use drive_command::PipeHarness;
+use drive_pipes::Ends;
+pub use drive_pipes::system::StandardEnds;
 pub use files::system::SystemFiles;
 use std::fs;
 use std::io::Write;
@@ -20,14 +23,15 @@ const NOTHING: &str = "/dev/null";
 
 /// Does what the words of the program's command line ask for, and answers the status that the program ends with.
 /// `release` is what it tells of itself; `out` and `err` are its streams; how far a run or a sweep has come
-/// goes to `progress`, where that is asked for.
+/// goes to `progress`, where that is asked for. `ends` are those of the two pipes of a drive's harness.
 pub fn run_program<
     R: Threads + Wait + Sync + Env + Files + AllocGlobal,
     O: Write,
     E: Write,
     P: Write,
->(rt: &R, release: &Release<'_>, out: &mut O, err: &mut E, progress: &mut P) -> ExitCode
-    ensures range { exit_status result ≤ 5 }
+    D: Ends + Drop,
+>(rt: &R, release: &Release<'_>, out: &mut O, err: &mut E, progress: &mut P, ends: D) -> ExitCode
+    ensures range { exit_status result ≤ 6 }
     ensures silent { 2 ≤ exit_status result → exit_status result ≢ 3 → out.new ≡ out.old }
     ensures quiet { exit_status result ≡ 0 → err.new ≡ err.old }
 {
@@ -39,6 +43,7 @@ pub fn run_program<
     let status = match words(rt) {
         Ok(words) => {
             let mut files = SystemFiles::new(rt);
+            let mut harness = PipeHarness::new(rt.alloc(), ends);
             command(
                 rt,
                 rt.alloc(),
@@ -48,6 +53,7 @@ pub fn run_program<
                 out,
                 err,
                 progress,
+                &mut harness,
                 is_terminal(rt),
                 most_workers(rt),
                 &SystemSurroundings { runtime: rt },

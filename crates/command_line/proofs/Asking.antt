@@ -2,10 +2,10 @@
 use Rattle.std.proofs.Common.{◌≡◌, List, [], Option, subst, codes}
 use Rattle.clap.specs.Words.{Row, Text, fault_of, subcommand_of}
 use Rattle.command_line.specs.Asking.{AsksIn, AsksForNoScenario, AsksForNoTable, AsksForNothing}
-use Rattle.command_line.specs.Words.{swimsim_app, Answers, AsksForNone, IsRunIn, IsCheckIn, IsExplainIn, IsSweepIn, IsInitIn, IsJoinIn, IsPageIn, Meets, NamesNoPreset}
+use Rattle.command_line.specs.Words.{swimsim_app, Answers, AsksForNone, IsRunIn, IsCheckIn, IsExplainIn, IsSweepIn, IsInitIn, IsJoinIn, IsPageIn, IsDriveIn, Meets, NamesNoPreset}
 use Rattle.command_line.specs.declared.joining.JoinWords.{JoinWords}
 use Rattle.command_line.specs.declared.words.Asked.{Asked}
-use Rattle.command_line.specs.declared.words.Asked.TheVariants.{Run, Check, Explain, Sweep, Init, Join, Page, Help, Version}
+use Rattle.command_line.specs.declared.words.Asked.TheVariants.{Run, Check, Explain, Sweep, Init, Join, Page, Drive, Help, Version}
 use Rattle.command_line.proofs.RunRows.{no_preset_no_sweep, no_preset_no_init, no_preset_no_join, no_preset_no_page, no_join_no_page, no_join_no_sweep}
 
 -- words without a fault ask for what the command asks for that they met
@@ -18,6 +18,7 @@ answers words met (Sweep sweep) clean same h = (clean, subst (λ m. IsSweepIn m 
 answers words met (Init preset) clean same h = (clean, subst (λ m. IsInitIn m preset) same h)
 answers words met (Join join) clean same h = (clean, subst (λ m. IsJoinIn m join) same h)
 answers words met (Page page) clean same h = (clean, subst (λ m. IsPageIn m page) same h)
+answers words met (Drive drive) clean same h = (clean, subst (λ m. IsDriveIn m drive) same h)
 answers words met (Help help) clean same h = absurd h
 answers words met Version clean same h = absurd h
 
@@ -33,6 +34,7 @@ asks_for_none words met clean same h =
       (λ preset asks. there.no_init preset asks.1),
       (λ join asks. there.no_table.no_join join asks.1),
       (λ page asks. there.no_table.no_page page asks.1),
+      (λ drive asks. there.no_scenario.no_drive drive asks.1),
     )
 
 -- a command that names no preset asks for nothing

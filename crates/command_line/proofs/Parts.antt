@@ -80,6 +80,7 @@ faultless answer deal is failure.Workers h = h
 faultless answer deal is (failure.Run cause) h = h
 faultless answer deal is failure.Memory h = h
 faultless answer deal is failure.Output h = h
+faultless answer deal is (failure.Drive cause) h = h
 
 -- the same with the number of parts as it was counted
 pub listed : (members parts : ℕ) (items : List (List ℕ)) (numbers : List ℕ) → parts ≡ past_greatest numbers → length items ≡ members → AreParts items numbers

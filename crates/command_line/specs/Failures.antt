@@ -1,5 +1,5 @@
 -- How a command that failed ends, and what users read of it.
-use Rattle.std.specs.Prelude.{◌≡◌, ℕ, List, [], ◌∷◌, ◌++◌, Option, Result, Err, codes, string_bytes}
+use Rattle.std.specs.Prelude.{◌≡◌, ℕ, Bool, true, false, if◌then◌else◌, List, [], ◌∷◌, ◌++◌, Option, Result, Err, codes, string_bytes}
 use Rattle.std.specs.Fmt.{decimal}
 use Rattle.scenario_reader.specs.Rules.{verdict}
 use Rattle.scenario.specs.Division.{Deal}
@@ -12,9 +12,18 @@ use Rattle.shown_names.specs.Shown.{shown_name}
 use Rattle.command_line.specs.Division.{AreParts, AsksForWorkers, DivisionFails, ListFails}
 use Rattle.command_line.specs.declared.words.Split.{Split}
 use Rattle.command_line.specs.declared.failure.Failure.{Failure}
-use Rattle.command_line.specs.declared.failure.Failure.TheVariants.{File, Usage, Preset, NoItem, Rule, Mistaken, Setting, Shards, Workers, Division, Run, Memory, Output}
+use Rattle.command_line.specs.declared.failure.Failure.TheVariants.{File, Usage, Preset, NoItem, Rule, Mistaken, Setting, Shards, Workers, Division, Run, Memory, Drive, Output}
+use Rattle.command_line.specs.declared.answers.AnswerFault.{AnswerFault}
+use Rattle.command_line.specs.declared.answers.AnswerFault.TheVariants as answer
+use Rattle.command_line.specs.declared.answers.DriveStop.{DriveStop}
+use Rattle.command_line.specs.declared.answers.DriveStop.TheVariants as stop
 use Rattle.command_line.specs.declared.failure.ShardFault.{ShardFault}
 use Rattle.command_line.specs.declared.failure.ShardFault.TheVariants as shard
+
+-- the exit status of a drive that was stopped
+abbrev pub stop_status : DriveStop → ℕ
+stop_status (stop.Answer place cause event) = 6
+stop_status stop.Closed = 1
 
 -- the exit status
 abbrev pub status_of : Failure → ℕ
@@ -31,6 +40,7 @@ status_of Workers = 4
 status_of (Division cause) = 4
 status_of (Run cause) = 5
 status_of Memory = 5
+status_of (Drive cause) = stop_status cause
 
 -- the failure of a text that was to be explained and is refused
 abbrev pub IsMistaken : Failure → Type 0
@@ -68,6 +78,32 @@ shard_message (shard.Torn name) = shard_told name.now (codes " torn")
 shard_message (shard.Older name) = shard_told name.now (codes " of an earlier version: make it again, or read it with that version")
 shard_message (shard.Missing number) = codes "piece " ++ decimal number ++ codes " missing"
 
+-- the cause for which an answer is none
+abbrev pub answer_cause : AnswerFault → List ℕ
+answer_cause answer.Long = codes "long"
+answer_cause answer.Ended = codes "ended"
+answer_cause answer.Json = codes "json"
+answer_cause answer.Action = codes "action"
+answer_cause answer.Member = codes "member"
+
+-- why it is none, in words
+abbrev pub answer_reason : AnswerFault → List ℕ
+answer_reason answer.Long = codes "no line feed among the first 1,048,577 bytes"
+answer_reason answer.Ended = codes "standard input ended, or can't be read, before the line feed"
+answer_reason answer.Json = codes "the line is no JSON"
+answer_reason answer.Action = codes "the line is no list of actions (docs/DRIVE.md)"
+answer_reason answer.Member = codes "'to' or 'about' names no member, or 'to' the member itself"
+
+-- which answer is none and for which cause; below it why, and the line of the event
+abbrev pub answer_message : ℕ → AnswerFault → List ℕ → List ℕ
+answer_message place cause event =
+    codes "answer " ++ decimal place ++ codes " " ++ answer_cause cause ++ codes "\n" ++ answer_reason cause ++ codes "\n" ++ event
+
+-- why a drive was stopped, in words
+abbrev pub stop_message : DriveStop → List ℕ
+stop_message (stop.Answer place cause event) = answer_message place cause (string_bytes event)
+stop_message stop.Closed = codes "output"
+
 -- what failed, in words
 abbrev pub message_of : Failure → List ℕ
 message_of (File name) = codes "file " ++ shown_name name.now
@@ -82,12 +118,34 @@ message_of Workers = codes "workers"
 message_of (Division cause) = codes "division V" ++ decimal (division_number cause)
 message_of (Run cause) = codes "run F" ++ decimal (fault_number cause)
 message_of Memory = codes "memory"
+message_of (Drive cause) = stop_message cause
 message_of Output = codes "output"
 
--- the line on standard error, with its line feed; there is none where standard output failed
+-- whether a drive was stopped where standard output was closed
+abbrev pub is_closed : DriveStop → Bool
+is_closed (stop.Answer place cause event) = false
+is_closed stop.Closed = true
+
+-- whether no line reports the failure: standard output failed
+abbrev pub is_silent : Failure → Bool
+is_silent Output = true
+is_silent (Drive cause) = is_closed cause
+is_silent (File name) = false
+is_silent Usage = false
+is_silent Preset = false
+is_silent (NoItem key) = false
+is_silent (Rule number) = false
+is_silent (Mistaken number) = false
+is_silent (Setting number swept_keys) = false
+is_silent (Shards cause) = false
+is_silent Workers = false
+is_silent (Division cause) = false
+is_silent (Run cause) = false
+is_silent Memory = false
+
+-- the line on standard error, with its line feed
 abbrev pub failure_line : Failure → List ℕ
-failure_line Output = []
-failure_line failure = codes "swimsim: " ++ message_of failure ++ 10 ∷ []
+failure_line failure = if is_silent failure then [] else codes "swimsim: " ++ message_of failure ++ 10 ∷ []
 
 -- what a scenario's text may be refused by: a rule, which is its verdict, or want of memory
 abbrev pub RefusesText : List ℕ → Failure → Type 0

@@ -18,7 +18,8 @@ use Rattle.arguments.specs.Rules.{file_rule, flag_rule, is_given, option_rule, r
 use Rattle.ticks.specs.Ticks.{IsTickWord}
 use Rattle.ticks.specs.declared.tick.Tick.{Tick}
 use Rattle.command_line.specs.declared.words.Asked.{Asked}
-use Rattle.command_line.specs.declared.words.Asked.TheVariants.{Run, Check, Explain, Sweep, Init, Join, Page, Help, Version}
+use Rattle.command_line.specs.declared.words.Asked.TheVariants.{Run, Check, Explain, Sweep, Init, Join, Page, Drive, Help, Version}
+use Rattle.command_line.specs.declared.driving.DriveWords.{DriveWords}
 use Rattle.command_line.specs.declared.explaining.ExplainWords.{ExplainWords}
 use Rattle.command_line.specs.declared.joining.JoinWords.{JoinWords}
 use Rattle.command_line.specs.declared.paging.PageWords.{PageWords}
@@ -31,11 +32,15 @@ use Rattle.command_line.specs.declared.words.Split.TheVariants as split
 abbrev pub with_tick : App → App
 with_tick app = with_rule app (option_rule (codes "tick"))
 
--- a command, and what says which files a run is written to: the option --trace, which is required; --report and --page; and --tick
-abbrev pub with_outputs : App → App
-with_outputs app =
+-- a command, and what says which files a run is written to: the option --trace, which is required; --report and --page
+abbrev pub with_written : App → App
+with_written app =
     let traced = with_rule app (required_rule (codes "trace")) in
-    with_tick (with_rule (with_rule traced (option_rule (codes "report"))) (option_rule (codes "page")))
+    with_rule (with_rule traced (option_rule (codes "report"))) (option_rule (codes "page"))
+
+-- and how long a tick lasts: --tick
+abbrev pub with_outputs : App → App
+with_outputs app = with_tick (with_written app)
 
 -- and how many workers run it, and which part each member is in: --workers, --parts and --division
 abbrev pub with_parting : App → App
@@ -46,6 +51,10 @@ with_parting app =
 -- the command `run`: a file, which is required, the options of where it is written and those of who runs it, and the flag --progress
 abbrev pub run_app : App
 run_app = with_rule (with_parting (with_outputs (with_rule (new_app (codes "run")) file_rule))) (flag_rule (codes "progress"))
+
+-- the command `drive`: a file, which is required, and the options of where the run is written
+abbrev pub drive_app : App
+drive_app = with_written (with_rule (new_app (codes "drive")) file_rule)
 
 -- the command `check`: a file
 abbrev pub check_app : App
@@ -111,7 +120,8 @@ unfoldable pub swimsim_app : App
 swimsim_app =
     let checked = with_subcommand (with_subcommand bare_app run_app.top) check_app.top in
     let swept = with_subcommand (with_subcommand checked explain_app.top) sweep_app.top in
-    with_subcommand (with_subcommand (with_subcommand swept init_app.top) join_app.top) page_app.top
+    let joined = with_subcommand (with_subcommand swept init_app.top) join_app.top in
+    with_subcommand (with_subcommand joined page_app.top) drive_app.top
 
 -- the command that was met has this name
 abbrev pub Meets : Text → Option (Text × List Row) → Type 0
@@ -153,6 +163,16 @@ pub record IsRunIn (met : Option (Text × List Row)) (run : RunWords) : Type 0 w
   pub workers : first_of (codes "workers") rows ≡ option_map (λ word. word.now) run.workers
   pub divided : IsSplitIn rows run.split
   pub progress : is_given (first_of (codes "progress") rows) ≡ run.progress
+  pub written : names_files rows ≡ true
+
+-- the command that was met is `drive`, with these words
+pub record IsDriveIn (met : Option (Text × List Row)) (drive : DriveWords) : Type 0 where
+  pub rows : List Row
+  pub met_drive : met ≡ Some (codes "drive", rows)
+  pub file : first_of (codes "FILE") rows ≡ Some drive.file.now
+  pub trace : first_of (codes "trace") rows ≡ Some drive.trace.now
+  pub report : first_of (codes "report") rows ≡ option_map (λ word. word.now) drive.report
+  pub page : first_of (codes "page") rows ≡ option_map (λ word. word.now) drive.page
   pub written : names_files rows ≡ true
 
 -- the command that was met is `check`, with this file
@@ -295,6 +315,14 @@ AsksForJoin words join = (fault_of swimsim_app words ≡ []) × IsJoinIn (subcom
 abbrev pub AsksForPage : List Text → PageWords → Type 0
 AsksForPage words page = (fault_of swimsim_app words ≡ []) × IsPageIn (subcommand_of swimsim_app words) page
 
+-- the words have no fault, and ask for this drive
+abbrev pub AsksForDrive : List Text → DriveWords → Type 0
+AsksForDrive words drive = (fault_of swimsim_app words ≡ []) × IsDriveIn (subcommand_of swimsim_app words) drive
+
+-- the words ask for some drive
+abbrev pub AsksToDrive : List Text → Type 0
+AsksToDrive words = (drive : DriveWords) × AsksForDrive words drive
+
 -- the words ask for help
 abbrev pub AsksForHelp : List Text → Type 0
 AsksForHelp words = IsAmong DisplayHelp (fault_of swimsim_app words)
@@ -312,15 +340,17 @@ Answers words (Sweep sweep) = AsksForSweep words sweep
 Answers words (Init preset) = AsksForInit words preset
 Answers words (Join join) = AsksForJoin words join
 Answers words (Page page) = AsksForPage words page
+Answers words (Drive drive) = AsksForDrive words drive
 Answers words (Help help) = (kind_of help ≡ DisplayHelp) × AsksForHelp words
 Answers words Version = AsksForVersion words
 
--- the words have no fault, but ask for no run, no check, no explanation, no sweep, no preset's scenario, no joining and no page
+-- the words have no fault, but ask for no run, no check, no explanation, no sweep, no preset's scenario, no joining, no page and no drive
 abbrev pub AsksForNone : List Text → Type 0
 AsksForNone words = (fault_of swimsim_app words ≡ []) × ((run : RunWords) → ¬ (AsksForRun words run))
     × ((file : Text) → ¬ (AsksForCheck words file)) × ((explain : ExplainWords) → ¬ (AsksForExplain words explain))
     × ((sweep : SweepWords) → ¬ (AsksForSweep words sweep)) × ((preset : Preset) → ¬ (AsksForInit words preset))
     × ((join : JoinWords) → ¬ (AsksForJoin words join)) × ((page : PageWords) → ¬ (AsksForPage words page))
+    × ((drive : DriveWords) → ¬ (AsksForDrive words drive))
 
 -- the words have a fault that is no wish for help or for the version, or none but ask for nothing else that there is
 abbrev pub IsNoCommand : List Text → Type 0
@@ -330,10 +360,11 @@ IsNoCommand words = ((kind : ErrorKind) × (kind ≢ DisplayHelp) × (kind ≢ D
 abbrev pub AsksForNoPreset : List Text → Type 0
 AsksForNoPreset words = NamesNoPreset (subcommand_of swimsim_app words) × AsksForNone words
 
--- the words ask for a run, a check, an explanation, a sweep, a preset's scenario, a joining, a page, help or the version
+-- the words ask for a run, a check, an explanation, a sweep, a preset's scenario, a joining, a page, a drive, help or the version
 abbrev pub IsCommand : List Text → Type 0
 IsCommand words = ((run : RunWords) × AsksForRun words run) ⊎ (((file : Text) × AsksForCheck words file)
     ⊎ (((explain : ExplainWords) × AsksForExplain words explain)
     ⊎ (((sweep : SweepWords) × AsksForSweep words sweep)
     ⊎ (((preset : Preset) × AsksForInit words preset) ⊎ (((join : JoinWords) × AsksForJoin words join)
-    ⊎ (((page : PageWords) × AsksForPage words page) ⊎ (AsksForHelp words ⊎ AsksForVersion words)))))))
+    ⊎ (((page : PageWords) × AsksForPage words page) ⊎ (((drive : DriveWords) × AsksForDrive words drive)
+    ⊎ (AsksForHelp words ⊎ AsksForVersion words))))))))

@@ -5,6 +5,7 @@ ghost use Rattle.arguments.specs.Rules.{IsLocal};
 ghost use Rattle.command_line.specs.Words.{bare_app, check_app, swimsim_app};
 
 use crate::chained::and_command;
+use crate::driving::drive_command;
 use crate::explaining::explain_command;
 use crate::initial::init_command;
 use crate::joining::join_command;
@@ -25,7 +26,8 @@ pub(crate) fn program_command<'a>(alloc: Global) -> Result<Command<'a>, AllocErr
     let swept = and_command(explained, sweep_command(alloc));
     let begun = and_command(swept, init_command(alloc));
     let joined = and_command(begun, join_command(alloc));
-    and_command(joined, page_command(alloc))
+    let paged = and_command(joined, page_command(alloc));
+    and_command(paged, drive_command(alloc))
 }
 
 /// The program, with no command yet.

@@ -3,8 +3,9 @@ ghost use Rattle.std.specs.Prelude.{◌≡◌, ◌≤◌, ◌++◌, Some, OnOk, 
 ghost use Rattle.std.specs.Io.KnownBytes.{Appends};
 ghost use Rattle.std.specs.Fmt.{WritesOnOk};
 ghost use Rattle.shown_names.specs.Shown.{shown_name};
-ghost use Rattle.command_line.specs.Failures.{status_of, message_of, failure_line, fault_number, division_number, setting_swept_keys, shard_message};
+ghost use Rattle.command_line.specs.Failures.{status_of, message_of, failure_line, fault_number, is_silent, division_number, setting_swept_keys, shard_message};
 
+use crate::answers::{DriveStop, is_closed, stop_status, write_stop};
 use base::Fault;
 use scenario::DivisionFault;
 use shown_names::write_name;
@@ -56,6 +57,8 @@ pub enum Failure<'a> {
     Run(Fault),
     /// Memory was refused outside a run.
     Memory,
+    /// A drive was stopped.
+    Drive(DriveStop),
     /// Standard output took less than it was given.
     Output,
 }
@@ -74,6 +77,7 @@ impl Failure<'_> {
             | Failure::Shards(_) => 3,
             Failure::Workers | Failure::Division(_) => 4,
             Failure::Run(_) | Failure::Memory => 5,
+            Failure::Drive(stop) => stop_status(stop),
         }
     }
 }
@@ -102,7 +106,7 @@ fn division_number(fault: DivisionFault) -> u8
 }
 
 impl fmt::Display for Failure<'_> {
-    // `Output` has a message for programmers alone: no line tells it.
+    // Standard output that failed has a message for programmers alone: no line tells it.
     ghost output = { λ failure. Some (message_of failure) };
 
     fn fmt<W: fmt::Write>(&self, f: &mut fmt::Formatter<W>) -> fmt::Result {
@@ -130,6 +134,7 @@ impl fmt::Display for Failure<'_> {
                 write!(f, "run F{number}")
             }
             Failure::Memory => f.write_str("memory"),
+            Failure::Drive(stop) => write_stop(f, stop),
             Failure::Output => f.write_str("output"),
         }
     }
@@ -180,16 +185,38 @@ fn write_shard<W: fmt::Write>(f: &mut fmt::Formatter<W>, name: &str, what: &str)
 fn tell<E: Write>(failure: &Failure<'_>, err: &mut E) -> io::Result<()>
     ensures told { OnOk result (Appends (E.contents err.old) (E.contents err.new) (failure_line failure.now)) }
 {
+    if is_silent(failure) {
+        return Ok(());
+    }
+    writeln!(err, "swimsim: {failure}")
+}
+
+/// Whether no line reports a failure: standard output failed.
+fn is_silent(failure: &Failure<'_>) -> bool
+    ensures { result ≡ is_silent failure.now }
+{
     match failure {
-        Failure::Output => Ok(()),
-        _ => writeln!(err, "swimsim: {failure}"),
+        Failure::Output => true,
+        Failure::Drive(stop) => is_closed(stop),
+        Failure::File(_)
+        | Failure::Usage
+        | Failure::Preset
+        | Failure::NoItem { .. }
+        | Failure::Rule(_)
+        | Failure::Mistaken(_)
+        | Failure::Setting { .. }
+        | Failure::Shards(_)
+        | Failure::Workers
+        | Failure::Division(_)
+        | Failure::Run(_)
+        | Failure::Memory => false,
     }
 }
 
 /// Tells users of a failure on `err`, as far as it takes the line, and answers the exit status.
 pub fn refuse<E: Write>(failure: &Failure<'_>, err: &mut E) -> u8
     ensures status { result ≡ status_of failure.now }
-    ensures range { result ≤ 5 }
+    ensures range { result ≤ 6 }
 {
     let _ = tell(failure, err);
     failure.status()

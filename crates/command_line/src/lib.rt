@@ -1,9 +1,11 @@
 //! What the words of a command line ask for, and what a command prints.
 #![tactic(auto)]
 
+mod answers;
 mod chained;
 mod commands;
 mod division;
+mod driving;
 mod explaining;
 mod failure;
 mod initial;
@@ -19,7 +21,9 @@ mod telling;
 mod words;
 mod written;
 
+pub use answers::{AnswerFault, DriveStop};
 pub use division::{division_asked, workers_asked};
+pub use driving::DriveWords;
 pub use explaining::ExplainWords;
 pub use failure::{Failure, ShardFault, refuse};
 pub use joining::JoinWords;

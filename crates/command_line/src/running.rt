@@ -6,10 +6,10 @@ ghost use Rattle.command_line.specs.declared.words.Split.{Split as Wanted};
 ghost use Rattle.arguments.specs.Rules.{IsLocal};
 ghost use Rattle.command_line.specs.Words.{run_app, with_outputs, with_parting, IsRunIn, IsSplitIn};
 
-use crate::chained::{and_flag, and_option, and_required};
+use crate::chained::{and_flag, and_option};
 use crate::lasting::{tick_asked, with_tick};
 use crate::words::{RunWords, Split};
-use crate::written::names_files;
+use crate::written::{names_files, with_written};
 use arguments::{is_given, new_command, value_of, with_file};
 use clap::{ArgMatches, Command};
 use std::alloc::{AllocError, Global};
@@ -37,28 +37,8 @@ fn with_outputs<'a>(
 ) -> Result<Command<'a>, AllocError>
     ensures { (app : App) → IfOk so_far.entry (IsLocal app) → IfOk result (IsLocal (with_outputs app)) }
 {
-    let traced = and_required(
-        alloc,
-        so_far,
-        "trace",
-        "T",
-        "The file that takes the trace; one that is there is replaced",
-    );
-    let reported = and_option(
-        alloc,
-        traced,
-        "report",
-        "R",
-        "The file that takes the report; one that is there is replaced",
-    );
-    let paged = and_option(
-        alloc,
-        reported,
-        "page",
-        "P",
-        "The file that takes a page of the run, in HTML; one that is there is replaced",
-    );
-    with_tick(alloc, paged)
+    let written = with_written(alloc, so_far);
+    with_tick(alloc, written)
 }
 
 /// A command with the options more that say how many workers run a scenario, and which part each

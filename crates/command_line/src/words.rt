@@ -5,6 +5,7 @@ ghost use Rattle.command_line.specs.Asking.{AsksForNoScenario, AsksForNoTable, A
 ghost use Rattle.command_line.specs.Words.{swimsim_app, Answers, AsksForNoPreset, IsCheckIn, IsNoCommand, NamesNoPreset};
 
 use crate::commands::program_command;
+use crate::driving::{DriveWords, drive_asked};
 use crate::explaining::{ExplainWords, explain_asked};
 use crate::failure::Failure;
 use crate::initial::init_asked;
@@ -98,6 +99,9 @@ pub enum Asked<'a> {
     Join(JoinWords<'a>),
     /// To make a sweep's page of the shards of its table.
     Page(PageWords<'a>),
+    /// To run a scenario whose members another program plays, and write its trace, and its report and its page where they
+    /// are asked for.
+    Drive(DriveWords<'a>),
     /// To be given the scenario of a preset.
     Init(Preset),
     /// To be shown the help that is this answer's text.
@@ -145,7 +149,7 @@ fn asked_by<'a>(alloc: Global, matches: &ArgMatches<'a>) -> Result<Asked<'a>, Fa
     }
 }
 
-/// What is asked for of the scenario in a file: to run it, to check it or to explain it.
+/// What is asked for of the scenario in a file: to run it, to check it, to explain it or to drive it.
 fn scenario_asked<'a>(matches: &ArgMatches<'a>) -> Option<Asked<'a>>
     ensures some { IfSome result (AsksIn (subcommand_rows_of matches.now)) }
     ensures none { IsNone result → AsksForNoScenario (subcommand_rows_of matches.now) }
@@ -156,7 +160,10 @@ fn scenario_asked<'a>(matches: &ArgMatches<'a>) -> Option<Asked<'a>>
             Some(file) => Some(Asked::Check(file)),
             None => match explain_asked(matches) {
                 Some(explain) => Some(Asked::Explain(explain)),
-                None => None,
+                None => match drive_asked(matches) {
+                    Some(drive) => Some(Asked::Drive(drive)),
+                    None => None,
+                },
             },
         },
     }

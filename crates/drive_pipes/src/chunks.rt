@@ -7,7 +7,7 @@ use std::snapshot::Snapshot;
 /// Lists of bytes, one behind another. Contracts alone see them: however many they are, they take no memory.
 #[derive(Drop)]
 #[cycle(chunks)]
-pub(crate) struct Chunks {
+pub struct Chunks {
     link: Link,
 }
 
@@ -37,14 +37,14 @@ impl Model for Chunks {
 
 impl Chunks {
     /// None.
-    pub(crate) fn new() -> Chunks
+    pub fn new() -> Chunks
         ensures { result ≡ [] }
     {
         Chunks { link: Link::Start }
     }
 
     /// Adds the next one.
-    pub(crate) fn append(&mut self, bytes: &Vec<u8>)
+    pub fn append(&mut self, bytes: &Vec<u8>)
         ensures { self.new ≡ self.old ++ bytes.now.items ∷ [] }
     {
         let link = Link::After(Snapshot::of(self), Snapshot::of(bytes));

@@ -9,6 +9,7 @@ pub mod system;
 #[cfg(test)]
 mod tests;
 
+pub use chunks::Chunks;
 pub use ends::{Closed, Ends, Ready};
 pub use incoming::Found;
 pub use pipes::{Pipes, ReceiveError, SendError};

@@ -4,7 +4,7 @@ use Rattle.std.specs.Io.KnownBytes.{Appends}
 use Rattle.files.specs.Files.{KnownFile}
 use Rattle.command_line.specs.declared.explaining.ExplainWords.{ExplainWords}
 use Rattle.command_line.specs.declared.failure.Failure.{Failure}
-use Rattle.command_line.specs.declared.failure.Failure.TheVariants.{File, Usage, Preset, NoItem, Rule, Mistaken, Setting, Shards, Workers, Division, Run, Memory, Output}
+use Rattle.command_line.specs.declared.failure.Failure.TheVariants.{File, Usage, Preset, NoItem, Rule, Mistaken, Setting, Shards, Workers, Division, Run, Memory, Drive, Output}
 use Rattle.scenario_files.specs.Shelves.{IsUnread}
 use Rattle.explain_command.specs.Outcomes.{ExplainFails, IsExplained, PrintsMeaning, TellsOf}
 
@@ -23,6 +23,7 @@ unread known explain old new (Shards cause) h = h
 unread known explain old new Workers h = h
 unread known explain old new (Division cause) h = h
 unread known explain old new (Run cause) h = h
+unread known explain old new (Drive cause) h = h
 unread known explain old new Output h = absurd h
 
 -- standard output took less than what was told

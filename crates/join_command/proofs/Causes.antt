@@ -54,6 +54,7 @@ by_reading known file (failing.Setting rule swept_keys) h = absurd h
 by_reading known file failing.Workers h = absurd h
 by_reading known file (failing.Division cause) h = absurd h
 by_reading known file failing.Output h = absurd h
+by_reading known file (failing.Drive cause) h = absurd h
 
 by_gathering : (before : Shelf) (names : List (Bor Text)) (otherwise : Bor Text) (f : Failure) → FailsToGather before names otherwise f → EndsJoin f
 by_gathering before names otherwise f (inl read) = by_reading (before read.1.now) read.1.now f read.3
@@ -73,6 +74,7 @@ by_storing Refused before after making source name text (failing.Setting rule sw
 by_storing Refused before after making source name text failing.Workers h = absurd h
 by_storing Refused before after making source name text (failing.Division cause) h = absurd h
 by_storing Refused before after making source name text failing.Output h = absurd h
+by_storing Refused before after making source name text (failing.Drive cause) h = absurd h
 
 by_storing_both : (Refused : Type 0) (before after : Shelf) (making : Making) (source name page : Text) (table shown : List ℕ) (f : Failure)
     → FailsToStoreBoth Refused before after making source name page table shown f → EndsJoin f
@@ -89,6 +91,7 @@ by_storing_both Refused before after making source name page table shown (failin
 by_storing_both Refused before after making source name page table shown failing.Workers h = absurd h
 by_storing_both Refused before after making source name page table shown (failing.Division cause) h = absurd h
 by_storing_both Refused before after making source name page table shown failing.Output h = absurd h
+by_storing_both Refused before after making source name page table shown (failing.Drive cause) h = absurd h
 
 by_want : (before after : Shelf) (f : Failure) → IsWant before after f → EndsJoin f
 by_want before after f want = subst EndsJoin (sym want.0) tt

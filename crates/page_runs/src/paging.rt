@@ -1,9 +1,10 @@
 //! The page of a run, written once its rows were gathered.
-ghost use Rattle.std.specs.Prelude.{◌≡◌, ◌≢◌, ◌+◌, ◌<◌, ◌^◌, length, IfOk, IfErr, OnOk, OnErr, IsErrOf, string_bytes};
+ghost use Rattle.std.specs.Prelude.{◌≡◌, ◌≢◌, ◌+◌, ◌<◌, ◌^◌, length, All, IfOk, IfErr, OnOk, OnErr, IsErrOf, string_bytes};
 ghost use Rattle.std.specs.Io.KnownBytes.{Appends};
+ghost use Rattle.series.specs.Series.{AreSeriesOf};
 ghost use Rattle.trace.specs.Sinks.{AppendsBeginning, failure_if_stopped};
+ghost use Rattle.trace.specs.Text.{NamesMembers};
 ghost use Rattle.page_runs.specs.Pages.{IsPageOf, WritesPage, BeginsPage};
-ghost use Rattle.page_runs.specs.Told.{TellsRun};
 
 use crate::page_data::PageData;
 use base::{Fault, Memory};
@@ -35,7 +36,8 @@ pub fn write_page<C: Sink>(
     told: &PageData,
     out: &mut C,
 ) -> Result<Summary, Fault>
-    requires told { TellsRun scenario.now told.now }
+    requires named { All (NamesMembers scenario.now) told.now.tallies }
+    requires gathered { AreSeriesOf scenario.now told.now.gathered.series told.now.tallies }
     requires countable { C.failed out.old < 2 ^ 63 }
     ensures rows { IfOk result (λ summary. summary.rows ≡ length told.now.tallies) }
     ensures whole { OnOk result (WritesPage shown.now.tick shown.now.name.now shown.now.release.now scenario.now told.now.tallies (C.held out.old) (C.held out.new)) }
@@ -72,7 +74,8 @@ fn page_of(
     shown: &RunShown<'_>,
     told: &PageData,
 ) -> Result<String, Memory>
-    requires told { TellsRun scenario.now told.now }
+    requires named { All (NamesMembers scenario.now) told.now.tallies }
+    requires gathered { AreSeriesOf scenario.now told.now.gathered.series told.now.tallies }
     ensures { IfOk result (λ text. IsPageOf shown.now.tick shown.now.name.now scenario.now told.now.tallies shown.now.release.now (string_bytes text)) }
 {
     let run = Run {

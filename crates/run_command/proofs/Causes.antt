@@ -12,7 +12,8 @@ use Rattle.base.specs.declared.fault.Fault.{Fault}
 use Rattle.scenario.specs.Setup.{Setup}
 use Rattle.command_line.specs.declared.words.RunWords.{RunWords}
 use Rattle.command_line.specs.declared.failure.Failure.{Failure}
-use Rattle.command_line.specs.declared.failure.Failure.TheVariants.{Usage, Preset, NoItem, Mistaken, Memory, Output}
+use Rattle.command_line.specs.declared.failure.Failure.TheVariants.{Usage, Preset, NoItem, Mistaken, Memory, Drive, Output}
+use Rattle.command_line.specs.declared.answers.DriveStop.{DriveStop}
 
 -- what follows from either way in which what the words ask for isn't stored, without a page and with one
 either_way : {P : Type 0} (EndsBy : Fault → Type 0) (s : Setup) (release : List ℕ) (before after : Shelf) (making : Making) (run : RunWords) (failure : Failure)
@@ -22,7 +23,7 @@ either_way : {P : Type 0} (EndsBy : Fault → Type 0) (s : Setup) (release : Lis
 either_way EndsBy s release before after making run failure None plain paged fails = plain fails
 either_way EndsBy s release before after making run failure (Some page) plain paged fails = paged page.now fails
 
--- no check of a run fails by the words, by an item of a sweep, by standard output or by what is explained, and so no run does
+-- no check of a run fails by the words, by an item of a sweep, by standard output, by what is explained or by what stops a drive, and so no run does
 check_usage : (before : Shelf) (run : RunWords) → FailsCheck before run Usage → ⊥
 check_usage before run (inl count) = count
 check_usage before run (inr (inl file)) = file.2
@@ -62,6 +63,16 @@ pub run_output : {EndsBy : Setup → ℕ → Fault → Type 0} (release : List �
 run_output release before after making run (inl refused) = check_output before run refused.cause
 run_output {EndsBy} release before after making run (inr store) =
     either_way (EndsBy store.scenario store.workers) store.scenario release before after making run Output run.page (λ h. h) (λ page h. h) store.cause
+
+check_drive : (before : Shelf) (run : RunWords) (stop : DriveStop) → FailsCheck before run (Drive stop) → ⊥
+check_drive before run stop (inl count) = count
+check_drive before run stop (inr (inl file)) = file.2
+check_drive before run stop (inr (inr split)) = split.4
+
+pub run_drive : {EndsBy : Setup → ℕ → Fault → Type 0} (release : List ℕ) (before after : Shelf) (making : Making) (run : RunWords) (stop : DriveStop) → RunFails EndsBy release before after making run (Drive stop) → ⊥
+run_drive release before after making run stop (inl refused) = check_drive before run stop refused.cause
+run_drive {EndsBy} release before after making run stop (inr store) =
+    either_way (EndsBy store.scenario store.workers) store.scenario release before after making run (Drive stop) run.page (λ h. h) (λ page h. h) store.cause
 
 check_mistaken : (before : Shelf) (run : RunWords) (rule : ℕ) → FailsCheck before run (Mistaken rule) → ⊥
 check_mistaken before run rule (inl count) = count

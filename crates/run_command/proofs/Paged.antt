@@ -14,8 +14,8 @@ use Rattle.member_laws.specs.Runs.{CounterOverflows}
 use Rattle.run_output.specs.Promise.{ReportOverflows}
 use Rattle.page_runs.specs.Pages.{BeginsPage, BeginsRunAndPage, IsPageOf, WritesRunAndPage}
 use Rattle.scenario_files.specs.Shelves.{Shelf, HoldsBeginning}
-use Rattle.scenario_files.proofs.Held.{holds_text}
-use Rattle.scenario_files.proofs.Pairs.{apart_too, known_or}
+use Rattle.scenario_files.proofs.Closed.{always, closed_holds, if_both, if_known}
+use Rattle.scenario_files.proofs.Pairs.{apart_too}
 use Rattle.ticks.specs.declared.tick.Tick.{Tick}
 use Rattle.run_command.specs.Outcomes.{BeginsReport, BreaksOffPaged, HoldsReport, KeepsAllRest, StoresPaged}
 
@@ -95,30 +95,6 @@ module _ (s : Setup) (time : Option Tick) (name release : List ℕ) (start end :
       by (inr (inr part)) = in_page part.0 part.1 part.2
 
 -- ---- which names differ
-
--- A file that was made empty and then closed: from when it was made to its closing it is as it was, and from then on too, as other names are
--- no other names for it.
-pub closed_holds : (before made closing closed after : KnownFile) (old new : Option (List ℕ)) (text : List ℕ) → HoldsNow before made []
-    → IfSome before (λ _. old ≡ Some []) → IfSome before (λ _. closing ≡ made) → IfSome before (λ _. after ≡ closed)
-    → ClosesAs closing closed new → Appends old new text → HoldsNow before after text
-closed_holds before made closing closed after old new text empty fresh kept kept_too closes written =
-    known_or before (λ _. after ≡ Some (Some text)) kept (λ first.
-    known_or before (λ _. after ≡ Some (Some text)) kept_too (λ second.
-    holds_text before made after old new text empty fresh written
-    (subst (λ k. ClosesAs made k new) (sym second) (subst (λ k. ClosesAs k closed new) first closes))))
-
--- what follows of a file of which something is known
-if_known : {P Q : Type 0} (known : KnownFile) → IfSome known (λ _. P) → (P → Q) → IfSome known (λ _. Q)
-if_known None p then = tt
-if_known (Some held) p then = then p
-
-if_both : {P Q R : Type 0} (known : KnownFile) → IfSome known (λ _. P) → IfSome known (λ _. Q) → (P → Q → R) → IfSome known (λ _. R)
-if_both None p q then = tt
-if_both (Some held) p q then = then p q
-
-always : {P : Type 0} (known : KnownFile) → P → IfSome known (λ _. P)
-always None p = tt
-always (Some held) p = p
 
 -- ---- two files that were made at once, and closed one after the other
 

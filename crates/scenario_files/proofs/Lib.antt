@@ -1,3 +1,4 @@
 mod Divided
+pub mod Closed
 pub mod Held
 pub mod Pairs

@@ -9,9 +9,10 @@ use Rattle.files.specs.Files.{Making}
 use Rattle.clap.specs.Words.{Text}
 use Rattle.command_line.specs.Words.{AsksForSweep}
 use Rattle.command_line.specs.declared.words.SweepWords.{SweepWords}
-use Rattle.command_line.specs.declared.failure.Failure.TheVariants.{Usage, Preset, NoItem, Mistaken, Memory, Output}
+use Rattle.command_line.specs.declared.failure.Failure.TheVariants.{Usage, Preset, NoItem, Mistaken, Memory, Drive, Output}
+use Rattle.command_line.specs.declared.answers.DriveStop.{DriveStop}
 
--- no check of a sweep fails by the words, by standard output or by what is explained, and so no sweep does
+-- no check of a sweep fails by the words, by standard output, by what is explained or by what stops a drive, and so no sweep does
 sweep_check_usage : (before : Shelf) (sweep : SweepWords) → FailsSweepCheck before sweep Usage → ⊥
 sweep_check_usage before sweep (inl count) = count
 sweep_check_usage before sweep (inr (inl file)) = file.2
@@ -83,6 +84,24 @@ sweep_mistaken Refused before after making sweep rule (inr table) = by table.cau
     by : (CannotGoOn table.tree table.mark sweep (before sweep.table.now) (Mistaken rule) × (after ≡ before)) ⊎ StoreFails sweep.page Refused table.tree table.mark before after making sweep (Mistaken rule) → ⊥
     by (inl stood) = stood.0.2
     by (inr stored) = store_mistaken sweep.page Refused table.tree table.mark before after making sweep rule stored
+
+sweep_check_drive : (before : Shelf) (sweep : SweepWords) (stop : DriveStop) → FailsSweepCheck before sweep (Drive stop) → ⊥
+sweep_check_drive before sweep stop (inl count) = count
+sweep_check_drive before sweep stop (inr (inl file)) = file.2
+sweep_check_drive before sweep stop (inr (inr (inl item))) = item.4
+sweep_check_drive before sweep stop (inr (inr (inr setting))) = setting.5
+
+store_drive : (page : Option (Bor Text)) (Refused : Type 0) (tree : Data) (mark : List ℕ) (before after : Shelf) (making : Making) (sweep : SweepWords) (stop : DriveStop) → StoreFails page Refused tree mark before after making sweep (Drive stop) → ⊥
+store_drive None Refused tree mark before after making sweep stop fails = fails
+store_drive (Some page) Refused tree mark before after making sweep stop fails = fails
+
+pub sweep_drive : (Refused : Type 0) (before after : Shelf) (making : Making) (sweep : SweepWords) (stop : DriveStop) → SweepFails Refused before after making sweep (Drive stop) → ⊥
+sweep_drive Refused before after making sweep stop (inl refused) = sweep_check_drive before sweep stop refused.cause
+sweep_drive Refused before after making sweep stop (inr table) = by table.cause
+  where
+    by : (CannotGoOn table.tree table.mark sweep (before sweep.table.now) (Drive stop) × (after ≡ before)) ⊎ StoreFails sweep.page Refused table.tree table.mark before after making sweep (Drive stop) → ⊥
+    by (inl stood) = stood.0.2
+    by (inr stored) = store_drive sweep.page Refused table.tree table.mark before after making sweep stop stored
 
 -- where memory was refused, no file has changed
 store_memory : (page : Option (Bor Text)) (Refused : Type 0) (tree : Data) (mark : List ℕ) (before after : Shelf) (making : Making) (sweep : SweepWords) → StoreFails page Refused tree mark before after making sweep Memory → after ≡ before

@@ -5,6 +5,7 @@ ghost use Rattle.command_line.specs.Words.{swimsim_app};
 ghost use Rattle.word_reasons.specs.Found.{IsReasonMet, IsReasonOf};
 ghost use Rattle.word_reasons.specs.Faults.{IsFaultOf};
 
+use crate::dashes::dash_word;
 use crate::options::{dash_or_tick, join_clash, list_word, parts_word, run_clash, workers_word};
 use crate::sweeping::sweep_reason;
 use crate::wants::wants_reason;
@@ -60,6 +61,9 @@ fn taken_reason<'a>(
     if let Some(join) = matches.subcommand_matches("join") {
         return join_reason(alloc, join, failure);
     }
+    if let Some(drive) = matches.subcommand_matches("drive") {
+        return Ok(drive_reason(drive, failure));
+    }
     match matches.subcommand_matches("sweep") {
         Some(sweep) => sweep_failed(alloc, sweep, failure),
         None => Ok(page_reason(matches, failure)),
@@ -77,6 +81,16 @@ fn run_reason<'a>(run: &ArgMatches<'a>, failure: &Failure<'_>) -> Option<WordRea
         },
         Failure::Workers => workers_word(run),
         Failure::Division(fault) => division_reason(run, *fault),
+        _ => None,
+    }
+}
+
+/// What is wrong with the words of a drive.
+fn drive_reason<'a>(drive: &ArgMatches<'a>, failure: &Failure<'_>) -> Option<WordReason<'a>>
+    ensures { IfSome result (IsReasonOf (rows_of (found_of drive.now))) }
+{
+    match failure {
+        Failure::Usage => dash_word(drive),
         _ => None,
     }
 }

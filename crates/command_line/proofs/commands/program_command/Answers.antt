@@ -10,4 +10,5 @@ returns c =
     let swept = c.and_command-swept.ensures _ _ explained c.sweep_command.ensures in
     let begun = c.and_command-begun.ensures _ _ swept c.init_command.ensures in
     let joined = c.and_command-joined.ensures _ _ begun c.join_command.ensures in
-    c.and_command.ensures _ _ joined c.page_command.ensures
+    let paged = c.and_command-paged.ensures _ _ joined c.page_command.ensures in
+    c.and_command.ensures _ _ paged c.drive_command.ensures

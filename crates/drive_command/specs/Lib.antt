@@ -1,0 +1,5 @@
+pub mod Ends
+pub mod Harnesses
+pub mod Making
+pub mod Outcomes
+pub mod Playing

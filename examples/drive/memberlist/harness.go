@@ -1,0 +1,314 @@
+// Drives HashiCorp's memberlist in the world of a scenario: each member of the scenario is a memberlist of this process.
+//
+//	memberlist-driven swimsim drive FILE --trace T
+//
+// starts the words behind its name as a child and answers its events. memberlist decides as ever; its clock and its
+// transport are the world's. A tick is a millisecond.
+package main
+
+import (
+	"bufio"
+	"encoding/base64"
+	"encoding/json"
+	"fmt"
+	"io"
+	"log"
+	"math/rand"
+	"net"
+	"os"
+	"os/exec"
+	"runtime"
+	"strings"
+	"sync"
+
+	time "driven/vtime"
+
+	"github.com/hashicorp/memberlist"
+)
+
+const port = 7946
+
+type payload struct {
+	Data   string
+	Stream int
+	Opened bool
+}
+
+type event struct {
+	Moment                    int64
+	Member, From, Event, What string
+	ID                        int
+	Seed                      int64
+	Contact                   string
+	Members, Founders         []string
+	Payload                   payload
+}
+
+type action = map[string]interface{}
+
+// One member: a memberlist, and its side of the world.
+type node struct {
+	index   int
+	list    *memberlist.Memberlist
+	lock    sync.Mutex
+	actions []action
+	timers  []func()
+	packets chan *memberlist.Packet
+	accepts chan net.Conn
+	streams map[int]*stream
+	opened  int
+	states  map[string]memberlist.NodeStateType
+	health  int
+}
+
+var (
+	names    []string
+	founders []string
+	numbers  = map[string]int{}
+	nodes    []*node
+	current  *node
+)
+
+func address(index int) *net.TCPAddr {
+	return &net.TCPAddr{IP: net.IPv4(10, 0, byte(index/250), byte(index%250+1)), Port: port}
+}
+
+func number(addr string) int {
+	var a, b, c, d, p int
+	fmt.Sscanf(addr, "%d.%d.%d.%d:%d", &a, &b, &c, &d, &p)
+	return c*250 + d - 1
+}
+
+func (n *node) act(a action) {
+	n.lock.Lock()
+	n.actions = append(n.actions, a)
+	n.lock.Unlock()
+}
+
+func (n *node) row(what, about string) { n.act(action{"row": what, "about": about}) }
+
+func (n *node) send(word string, to int, held map[string]interface{}, isStream bool) {
+	n.act(action{"send": word, "to": names[to], "payload": held, "stream": isStream})
+}
+
+// ---- memberlist's transport
+
+// What a packet is called in the trace: by its first message, behind a checksum and the head of a compound message.
+func word(b []byte) string {
+	if len(b) > 5 && b[0] == 12 {
+		return word(b[5:])
+	}
+	if len(b) > 2 && b[0] == 7 && len(b) > 2+2*int(b[1]) {
+		return word(b[2+2*int(b[1]):])
+	}
+	switch b[0] {
+	case 0:
+		return "ping"
+	case 1:
+		return "ping-req"
+	case 2:
+		return "ack"
+	case 11:
+		return "nack"
+	}
+	return "gossip"
+}
+
+func (n *node) WriteTo(b []byte, addr string) (time.Time, error) {
+	n.send(word(b), number(addr), map[string]interface{}{"data": base64.StdEncoding.EncodeToString(b)}, false)
+	return time.Now(), nil
+}
+
+func (n *node) DialTimeout(addr string, limit time.Duration) (net.Conn, error) {
+	n.opened++
+	s := newStream(n, number(addr), n.opened, true)
+	n.streams[n.opened] = s
+	return s, nil
+}
+
+func (n *node) PacketCh() <-chan *memberlist.Packet { return n.packets }
+func (n *node) StreamCh() <-chan net.Conn           { return n.accepts }
+func (n *node) Shutdown() error                     { return nil }
+func (n *node) FinalAdvertiseAddr(string, int) (net.IP, int, error) {
+	return address(n.index).IP, port, nil
+}
+
+// ---- what it says of its decisions: its log and its table
+
+func (n *node) Write(line []byte) (int, error) {
+	text := string(line)
+	var name string
+	switch {
+	case strings.Contains(text, "has failed, no acks received"):
+		fmt.Sscanf(text[strings.Index(text, "Suspect "):], "Suspect %s", &name)
+		n.row("fail", name)
+	case strings.Contains(text, "suspect timeout reached"):
+		fmt.Sscanf(text[strings.Index(text, "Marking "):], "Marking %s", &name)
+		n.row("accuse", name)
+	case strings.Contains(text, "Refuting a"):
+		n.row("refute", names[n.index])
+	}
+	return len(line), nil
+}
+
+func (n *node) compare() {
+	rows := map[memberlist.NodeStateType]string{memberlist.StateAlive: "alive", memberlist.StateSuspect: "suspect",
+		memberlist.StateDead: "confirm", memberlist.StateLeft: "confirm"}
+	states := n.list.States()
+	for _, name := range names {
+		state, known := states[name]
+		was, before := n.states[name]
+		switch {
+		case !known || name == names[n.index] || (before && was == state):
+		case !before && state == memberlist.StateAlive:
+			n.row("joined", name)
+		default:
+			n.row(rows[state], name)
+		}
+	}
+	n.states = states
+	if health := n.list.GetHealthScore(); health != n.health {
+		n.health = health
+		n.act(action{"row": "health", "value": health})
+	}
+}
+
+// ---- events
+
+func (n *node) start(e *event) {
+	config := memberlist.DefaultLANConfig()
+	config.Name = names[n.index]
+	config.BindAddr, config.AdvertiseAddr, config.AdvertisePort = address(n.index).IP.String(), address(n.index).IP.String(), port
+	config.Transport, config.EnableCompression = n, false
+	config.Logger = log.New(n, "", 0)
+	list, err := memberlist.Create(config)
+	if err != nil {
+		log.Fatal(err)
+	}
+	n.list = list
+	contact := e.Contact
+	if contact == "" && len(founders) > 0 && founders[0] != names[n.index] {
+		contact = founders[0]
+	}
+	if contact != "" {
+		go list.Join([]string{address(numbers[contact]).String()})
+	}
+}
+
+func (n *node) message(e *event) {
+	from := numbers[e.From]
+	data, _ := base64.StdEncoding.DecodeString(e.Payload.Data)
+	switch {
+	case e.Payload.Stream == 0:
+		n.packets <- &memberlist.Packet{Buf: data, From: address(from), Timestamp: time.Now()}
+	case e.Payload.Opened:
+		s := newStream(n, from, e.Payload.Stream, false)
+		s.take(data)
+		n.accepts <- s
+	default:
+		if s := n.streams[e.Payload.Stream]; s != nil {
+			s.take(data)
+		}
+	}
+}
+
+func (n *node) handle(e *event) {
+	switch e.Event {
+	case "start":
+		n.start(e)
+	case "timer":
+		n.timers[e.ID]()
+		n.timers[e.ID] = nil
+	case "message":
+		n.message(e)
+	case "leave":
+		go n.list.Leave(5 * time.Second)
+	}
+}
+
+// Waits until all goroutines but this one wait for something.
+func settle() {
+	room := make([]byte, 1<<20)
+	for {
+		runtime.Gosched()
+		used := runtime.Stack(room, true)
+		for used == len(room) {
+			room = make([]byte, 2*len(room))
+			used = runtime.Stack(room, true)
+		}
+		text := string(room[:used])
+		if strings.Count(text, " [runnable") == 0 && strings.Count(text, " [running") == 1 {
+			return
+		}
+	}
+}
+
+func answer(e *event, out *bufio.Writer) {
+	time.Clock = epoch.Add(time.Duration(e.Moment) * time.Millisecond)
+	current = nodes[numbers[e.Member]]
+	current.actions = []action{}
+	current.handle(e)
+	settle()
+	if current.list != nil {
+		current.compare()
+	}
+	line, _ := json.Marshal(current.actions)
+	out.Write(append(line, '\n'))
+}
+
+var epoch = time.Unix(0, 0)
+
+func begin(e *event) {
+	rand.Seed(e.Seed)
+	names, founders = e.Members, e.Founders
+	for index, name := range names {
+		numbers[name] = index
+		nodes = append(nodes, &node{index: index, packets: make(chan *memberlist.Packet, 4096), accepts: make(chan net.Conn, 64),
+			streams: map[int]*stream{}, states: map[string]memberlist.NodeStateType{}})
+	}
+	time.Schedule = func(after time.Duration, call func()) {
+		n := current
+		n.lock.Lock()
+		defer n.lock.Unlock()
+		ticks := int64((after + time.Millisecond - 1) / time.Millisecond)
+		if ticks < 1 {
+			ticks = 1
+		}
+		n.actions = append(n.actions, action{"timer": len(n.timers), "after": ticks})
+		n.timers = append(n.timers, call)
+	}
+}
+
+func main() {
+	runtime.GOMAXPROCS(1)
+	world := exec.Command(os.Args[1], os.Args[2:]...)
+	world.Stderr = os.Stderr
+	events, _ := world.StdoutPipe()
+	answers, _ := world.StdinPipe()
+	if err := world.Start(); err != nil {
+		log.Fatal(err)
+	}
+	in, out := bufio.NewReaderSize(events, 1<<20), bufio.NewWriter(answers)
+	for {
+		line, err := in.ReadBytes('\n')
+		if err == io.EOF {
+			break
+		}
+		var e event
+		if err := json.Unmarshal(line, &e); err != nil {
+			log.Fatal(err)
+		}
+		if len(e.Members) > 0 {
+			begin(&e)
+		}
+		if e.Event != "crash" && e.Event != "end" {
+			answer(&e, out)
+		}
+		if in.Buffered() == 0 {
+			out.Flush()
+		}
+	}
+	if err := world.Wait(); err != nil {
+		os.Exit(world.ProcessState.ExitCode())
+	}
+}
