@@ -1,5 +1,5 @@
 -- The table of all settings.
-use Rattle.std.specs.Prelude.{ℕ, Bool, if◌then◌else◌, List, [], ◌++◌, codes, length, slice_get, Option}
+use Rattle.std.specs.Prelude.{ℕ, Bool, if◌then◌else◌, List, [], ◌++◌, codes, length, slice_get, Option, None, Some}
 use Rattle.std.specs.List.{flat_map, range_with_len}
 use Rattle.std.specs.Option.{option_map_or}
 use Rattle.sweep_plan.specs.Settings.{settings_of}
@@ -56,9 +56,14 @@ row_at time swept_keys settings front place = option_map_or (λ setting. row tim
 unfoldable pub key_head : KeyValues → List ℕ
 key_head swept = markup (codes "<th scope=\"col\">") ++ escaped (key_name swept.key) ++ markup (codes "</th>")
 
+-- what its times are
+abbrev pub since_words : Option Tick → List ℕ
+since_words None = codes "in ticks since the crash"
+since_words (Some tick) = codes "counted from the crash on"
+
 -- what the table is
-unfoldable pub table_words : List ℕ
-table_words = codes "<p class=\"soft\">Times are in ticks since the crash, over all crashes of all runs; a dash stands where too few crashes were detected. Starred settings are on the front.</p><div class=\"wide\"><table><caption>All settings</caption><thead><tr><th scope=\"col\">number</th>"
+unfoldable pub table_words : Option Tick → List ℕ
+table_words time = markup (codes "<p class=\"soft\">Times are ") ++ markup (since_words time) ++ markup (codes ", over all crashes of all runs; a dash stands where too few crashes were detected. Starred settings are on the front.</p><div class=\"wide\"><table><caption>All settings</caption><thead><tr><th scope=\"col\">number</th>")
 
 -- the words over the figures
 unfoldable pub figure_heads : List ℕ
@@ -67,5 +72,5 @@ figure_heads = codes "<th scope=\"col\">confirmed, median</th><th scope=\"col\">
 -- the table: a column for each key and each figure, a row for each setting
 unfoldable pub table : Option Tick → List KeyValues → List SettingSummary → List Bool → List ℕ
 table time swept_keys settings front =
-    figure_opening (codes "cases") (codes "All settings") ++ table_words ++ flat_map key_head swept_keys ++ figure_heads ++ markup (codes "</tr></thead><tbody>\n")
+    figure_opening (codes "cases") (codes "All settings") ++ table_words time ++ flat_map key_head swept_keys ++ figure_heads ++ markup (codes "</tr></thead><tbody>\n")
     ++ flat_map (row_at time swept_keys settings front) (range_with_len 0 (length settings)) ++ markup (codes "</tbody></table></div>") ++ figure_end

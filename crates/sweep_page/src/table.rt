@@ -3,7 +3,7 @@ ghost use Rattle.std.specs.Prelude.{◌≡◌, ◌<◌, ◌++◌, OnOk, length};
 ghost use Rattle.std.specs.List.{flat_map, range_with_len};
 ghost use Rattle.std.specs.String.{string_bytes};
 ghost use Rattle.sweep_plan.specs.Sweep.{setting_count};
-ghost use Rattle.sweep_page.specs.Table.{share_cells, cost_cells, figure_cells, value_cell, value_cells, row_opening, row, row_at, key_head, table_words, figure_heads, table};
+ghost use Rattle.sweep_page.specs.Table.{share_cells, cost_cells, figure_cells, value_cell, value_cells, row_opening, row, row_at, key_head, since_words, table_words, figure_heads, table};
 
 use crate::front_points::is_marked;
 use base::Memory;
@@ -31,7 +31,7 @@ pub(crate) fn push_table(
     ensures { OnOk result (string_bytes text.new ≡ string_bytes text.old ++ table time plan.now.swept_keys settings.now front.now) }
 {
     open_figure(text, "cases", "All settings")?;
-    push_table_words(text)?;
+    push_table_words(text, time)?;
     let swept_keys = plan.swept_keys();
     push_names(alloc, text, swept_keys)?;
     push_figure_words(text)?;
@@ -44,15 +44,28 @@ pub(crate) fn push_table(
 
 /// Appends what the table is, and begins it.
 #[tactic(auto, unfolding(crate::specs::Table::table_words))]
-fn push_table_words(text: &mut String) -> Result<(), AllocError>
-    ensures { OnOk result (string_bytes text.new ≡ string_bytes text.old ++ table_words) }
+fn push_table_words(text: &mut String, time: Option<Tick>) -> Result<(), AllocError>
+    ensures { OnOk result (string_bytes text.new ≡ string_bytes text.old ++ table_words time) }
 {
-    text.push_str(
-        "<p class=\"soft\">Times are in ticks since the crash, over all crashes of all runs; a dash \
-         stands where too few crashes were detected. Starred settings are on the front.</p>\
-         <div class=\"wide\"><table><caption>All settings</caption><thead><tr>\
-         <th scope=\"col\">number</th>",
+    let since = since_words(time);
+    push_markup(text, "<p class=\"soft\">Times are ")?;
+    push_markup(text, since)?;
+    push_markup(
+        text,
+        ", over all crashes of all runs; a dash stands where too few crashes were detected. Starred \
+         settings are on the front.</p><div class=\"wide\"><table><caption>All settings</caption>\
+         <thead><tr><th scope=\"col\">number</th>",
     )
+}
+
+/// What its times are.
+fn since_words(time: Option<Tick>) -> &'static str
+    ensures { result.now ≡ since_words time }
+{
+    match time {
+        Some(_) => "counted from the crash on",
+        None => "in ticks since the crash",
+    }
 }
 
 /// Appends the names of the keys as heads of columns.
