@@ -36,7 +36,7 @@ page_style =
     ++ codes "details{margin:.5em 0}summary{cursor:pointer;color:var(--soft);font-size:.9rem}"
     ++ codes ".wide{overflow-x:auto}table{border-collapse:collapse;font-size:.82rem;margin:.4em 0}caption{text-align:left;color:var(--soft)}"
     ++ codes "th,td{text-align:right;padding:.2em .5em .2em 0;border-bottom:1px solid var(--line);font-variant-numeric:tabular-nums}"
-    ++ codes "thead th{color:var(--soft);font-weight:600;vertical-align:bottom;line-height:1.2;min-width:3.4em}th{font-weight:400}"
+    ++ codes "thead th{color:var(--soft);font-weight:600;font-size:.75rem;vertical-align:bottom;line-height:1.2;min-width:3.4em}th{font-weight:400}"
     ++ codes ".best td,.best th{font-weight:600}tr.best{background:var(--field)}"
     ++ codes "@media(max-width:760px){.chart{grid-template-columns:3.4rem 1fr}.plane{height:14rem}}"
     ++ codes "@media print{details{display:none}.answers li,.chart{break-inside:avoid}.number{print-color-adjust:exact}}"
