@@ -14,7 +14,7 @@ use Rattle.member_timelines.specs.Heights.{heights, flat, axis_height}
 use Rattle.member_timelines.specs.Lanes.{moments}
 use Rattle.member_timelines.specs.LaneTable.{time_axis, is_unchanged}
 use Rattle.run_page.specs.Stacks.{Layer, layers, tops, greatest}
-use Rattle.drawing.specs.Lengths.{lasting}
+use Rattle.drawing.specs.Lengths.{moment_alone}
 use Rattle.ticks.specs.declared.tick.Tick.{Tick}
 
 -- the values that are drawn: a counter never passes 16
@@ -57,7 +57,7 @@ health_plot time s rows most =
 
 -- a row of the table: how many members stand at a value from a moment on
 abbrev pub health_row : Option Tick → ℕ → ℕ → ℕ → List ℕ
-health_row time value from count = codes "<tr><td>" ++ decimal value ++ codes "<td>" ++ decimal from ++ lasting time from ++ codes "<td>" ++ decimal count
+health_row time value from count = codes "<tr><td>" ++ decimal value ++ codes "<td>" ++ moment_alone time from ++ codes "<td>" ++ decimal count
 
 -- the row of a span, where the number changes in it
 abbrev pub health_span : Option Tick → ℕ → ℕ → List ℕ → ℕ → List ℕ

@@ -19,7 +19,7 @@ use Rattle.member_timelines.specs.Heights.{flat, axis_height}
 use Rattle.member_timelines.specs.Lanes.{moments}
 use Rattle.member_timelines.specs.LaneTable.{time_axis}
 use Rattle.run_page.specs.Stacks.{Layer, layers, tops, greatest}
-use Rattle.drawing.specs.Lengths.{lasting}
+use Rattle.drawing.specs.Lengths.{lasting, moment_alone}
 use Rattle.ticks.specs.declared.tick.Tick.{Tick}
 
 -- the class of a kind of message
@@ -141,7 +141,7 @@ columns kinds = codes "<table><tr><th>from moment" ++ flat_map column kinds ++ c
 
 -- the first cell of the row of a span
 abbrev pub from_cell : Option Tick → Setup → ℕ → List ℕ
-from_cell time s span = codes "<tr><td>" ++ decimal (span * span_width s) ++ lasting time (span * span_width s)
+from_cell time s span = codes "<tr><td>" ++ moment_alone time (span * span_width s)
 
 -- the cells of a kind in a span
 abbrev pub cells : Setup → List Row → ℕ → What → List ℕ

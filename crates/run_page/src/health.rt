@@ -9,7 +9,7 @@ ghost use Rattle.run_page.specs.Health.{values, class_of_value, at_value, unwell
 
 use crate::kinds::{open_time_plot, push_layer, reach};
 use base::Memory;
-use drawing::{close_figure, close_plot, open_figure, push_entry, push_lasting, push_up};
+use drawing::{close_figure, close_plot, open_figure, push_entry, push_moment_alone, push_up};
 use member_timelines::{Run, axis_height, before, flat, greatest, heights, push_time_axis};
 use std::alloc::{AllocError, Global};
 use ticks::Tick;
@@ -250,8 +250,8 @@ fn push_row(
 ) -> Result<(), AllocError>
     ensures { OnOk result (string_bytes text.new ≡ string_bytes text.old ++ health_row time value from count) }
 {
-    write!(text, "<tr><td>{value}<td>{from}")?;
-    push_lasting(text, time, from)?;
+    write!(text, "<tr><td>{value}<td>")?;
+    push_moment_alone(text, time, from)?;
     write!(text, "<td>{count}")?;
     Ok(())
 }

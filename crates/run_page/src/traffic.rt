@@ -14,7 +14,7 @@ use crate::kinds::{
 use base::Memory;
 use drawing::{
     close_figure, close_plot, open_figure, push_counted, push_entry, push_grouped, push_lasting,
-    push_up,
+    push_moment_alone, push_up,
 };
 use member_timelines::{Run, axis_height, flat, greatest, push_time_axis};
 use std::alloc::{AllocError, Global};
@@ -365,8 +365,8 @@ fn push_from(text: &mut String, run: &Run, span: usize) -> Result<(), AllocError
     ensures { OnOk result (string_bytes text.new ≡ string_bytes text.old ++ from_cell run.now.tick run.now.scenario.now span) }
 {
     let from = span as u64 * run.width();
-    push_number(text, "<tr><td>", from)?;
-    push_lasting(text, run.tick, from)
+    text.push_str("<tr><td>")?;
+    push_moment_alone(text, run.tick, from)
 }
 
 /// Appends the cells of all kinds in a span.
