@@ -8,11 +8,11 @@ use crate::surroundings::{SystemSurroundings, is_terminal};
 pub use command_line::system::words;
 use command_line::{Release, refuse};
 use drive_command::PipeHarness;
-use drive_pipes::Ends;
-pub use drive_pipes::system::StandardEnds;
+use drive_pipes::SendError;
+use drive_pipes::system::{StandardEnds, Writer, start_writer};
 pub use files::system::SystemFiles;
 use std::fs;
-use std::io::Write;
+use std::io::{Print, Read, Write};
 use std::process::ExitCode;
 use std::rt::{Env, Files};
 use std::sync::Wait;
@@ -21,16 +21,28 @@ use std::thread::Threads;
 /// The name of a file that holds nothing and keeps nothing.
 const NOTHING: &str = "/dev/null";
 
+/// The command that plays a scenario for a harness.
+const DRIVE: &str = "drive";
+
 /// Does what the words of the program's command line ask for, and answers the status that the program ends with.
 /// `release` is what it tells of itself; `out` and `err` are its streams; how far a run or a sweep has come
-/// goes to `progress`, where that is asked for. `ends` are those of the two pipes of a drive's harness.
+/// goes to `progress`, where that is asked for. A drive's harness is behind `input` and `output`.
 pub fn run_program<
-    R: Threads + Wait + Sync + Env + Files + AllocGlobal,
+    R: Threads + Wait + Sync + Env + Files + AllocGlobal + Copy + Send + Drop + 'static,
     O: Write,
     E: Write,
     P: Write,
-    D: Ends + Drop,
->(rt: &R, release: &Release<'_>, out: &mut O, err: &mut E, progress: &mut P, ends: D) -> ExitCode
+    I: Read + Drop,
+    D: Print + Send + Drop + 'static,
+>(
+    rt: &R,
+    release: &Release<'_>,
+    out: &mut O,
+    err: &mut E,
+    progress: &mut P,
+    input: I,
+    output: D,
+) -> ExitCode
     ensures range { exit_status result ≤ 6 }
     ensures silent { 2 ≤ exit_status result → exit_status result ≢ 3 → out.new ≡ out.old }
     ensures quiet { exit_status result ≡ 0 → err.new ≡ err.old }
@@ -43,6 +55,8 @@ pub fn run_program<
     let status = match words(rt) {
         Ok(words) => {
             let mut files = SystemFiles::new(rt);
+            let writer = writer_of(*rt, words.as_slice(), output);
+            let ends = StandardEnds::new(*rt, rt.alloc(), input, writer);
             let mut harness = PipeHarness::new(rt.alloc(), ends);
             command(
                 rt,
@@ -62,4 +76,15 @@ pub fn run_program<
         Err(failure) => refuse(&failure, err),
     };
     ExitCode::from(status)
+}
+
+/// The thread that writes a drive's events; for other commands none is started.
+fn writer_of<
+    R: Threads + Wait + AllocGlobal + Copy + Send + Drop + 'static,
+    D: Print + Send + Drop + 'static,
+>(rt: R, words: &[String], output: D) -> Result<Writer, SendError> {
+    match words.first() {
+        Some(word) if word.as_str() == DRIVE => start_writer(rt, rt.alloc(), output),
+        _ => Err(SendError::Closed),
+    }
 }

@@ -1,18 +1,26 @@
 //! The ends of two pipes: one that bytes come in by, and one that they go out by.
-ghost use Rattle.std.specs.Prelude.{◌≡◌, ◌≤◌, ◌++◌, Some, length, take, IfOk, IfSome, OnErr};
+ghost use Rattle.std.specs.Prelude.{◌≡◌, ◌≤◌, ◌++◌, Some, length, take, IfOk, IfSome, OnOk, OnErr};
 
-/// What can be done without waiting.
-#[derive(Clone, Copy, Debug, PartialEq, Eq)]
-pub struct Ready {
-    /// Bytes can be read, or the input has ended.
-    pub read: bool,
-    /// Bytes can be written, or the output is closed.
-    pub write: bool,
-}
+use base::Memory;
 
-/// No more bytes come in, or none goes out any more.
+/// No more bytes come in.
 #[derive(Clone, Copy, Debug, PartialEq, Eq)]
 pub struct Closed;
+
+/// Why lines can't be sent.
+#[derive(Clone, Copy, Debug, PartialEq, Eq)]
+pub enum SendError {
+    /// The output is closed.
+    Closed,
+    /// Memory was refused, or a thread.
+    Memory,
+}
+
+impl From<Memory> for SendError {
+    fn from(_memory: Memory) -> Self {
+        SendError::Memory
+    }
+}
 
 /// The ends of two pipes.
 pub trait Ends {
@@ -24,11 +32,6 @@ pub trait Ends {
     // the bytes that went out, where that is known
     ghost went: { Self → Option (List ℕ) };
 
-    /// Waits, without limit, until one of those that are asked for can be done. A signal may end the wait before.
-    fn wait(&mut self, asked: Ready) -> Ready
-        ensures came { came self.new ≡ came self.old }
-        ensures went { went self.new ≡ went self.old };
-
     /// Puts bytes that came in at the start of the room, and gives how many. It waits for some; a signal may end the wait before
     /// there is any. `Closed` where the input has ended or can't be read.
     fn read(&mut self, room: &mut [u8]) -> Result<usize, Closed>
@@ -36,10 +39,14 @@ pub trait Ends {
         ensures none { OnErr result (came self.new ≡ came self.old) }
         ensures went { went self.new ≡ went self.old };
 
-    /// Writes some of the first bytes, as many as go without waiting where any does, and gives how many those are. `Closed` where
-    /// nobody reads them.
-    fn write(&mut self, bytes: &[u8]) -> Result<usize, Closed>
-        ensures some { IfOk result (λ n. (n ≤ length bytes.now) × IfSome (went self.old) (λ gone. went self.new ≡ Some (gone ++ take n bytes.now))) }
+    /// Has bytes written behind those before, and doesn't wait for it.
+    fn write(&mut self, bytes: &[u8]) -> Result<(), SendError>
+        ensures all { OnOk result (IfSome (went self.old) (λ gone. went self.new ≡ Some (gone ++ bytes.now))) }
         ensures none { OnErr result (went self.new ≡ went self.old) }
         ensures came { came self.new ≡ came self.old };
+
+    /// Waits until all is written.
+    fn flush(&mut self) -> Result<(), SendError>
+        ensures came { came self.new ≡ came self.old }
+        ensures went { went self.new ≡ went self.old };
 }

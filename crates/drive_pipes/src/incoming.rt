@@ -1,5 +1,5 @@
 //! The bytes that came in and aren't taken yet, and the lines in them.
-ghost use Rattle.std.specs.Prelude.{◌≡◌, ◌≢◌, ◌≤◌, ◌<◌, ◌++◌, [], ℕ, length, slice_index, nat_lt, IfOk, OnOk, OnErr, IfSome, IsNone};
+ghost use Rattle.std.specs.Prelude.{◌≡◌, ◌≢◌, ◌≤◌, ◌<◌, ◌++◌, [], ℕ, length, slice_index, IfOk, OnOk, OnErr, IfSome, IsNone};
 ghost use Rattle.drive_pipes.specs.Lines.{Takes, unended_of};
 
 use base::Memory;
@@ -8,9 +8,6 @@ use std::marker::Model;
 
 /// How many bytes a line may have, without its line feed.
 pub const LONGEST: usize = 1_048_576;
-
-/// How many bytes may wait: beyond them no more are taken in, but for those of one line.
-pub const ROOM: usize = 16_777_216;
 
 /// What stands first among the bytes that came in.
 #[derive(Debug, Drop)]
@@ -60,13 +57,6 @@ impl Incoming {
     {
         self.bytes.extend_from_slice(more)?;
         Ok(())
-    }
-
-    /// Whether more bytes may be taken in.
-    pub(crate) fn has_room(&self) -> bool
-        ensures { result ≡ nat_lt (length self.now) ROOM }
-    {
-        self.bytes.len() - self.from < ROOM
     }
 
     /// The first line, which is taken out, or what stands there where there is none.

@@ -10,6 +10,6 @@ pub mod system;
 mod tests;
 
 pub use chunks::Chunks;
-pub use ends::{Closed, Ends, Ready};
+pub use ends::{Closed, Ends, SendError};
 pub use incoming::Found;
-pub use pipes::{Pipes, ReceiveError, SendError};
+pub use pipes::{Pipes, ReceiveError};

@@ -1,8 +1,8 @@
 //! A harness behind two pipes.
-ghost use Rattle.std.specs.Prelude.{◌≡◌, ◌++◌, ◌∷◌, drop, IfOk, OnOk};
+ghost use Rattle.std.specs.Prelude.{◌++◌, ◌∷◌, IfOk, OnOk};
 ghost use Rattle.drive_pipes.specs.Flows.{FlowsTo};
 
-use crate::ends::{Ends, Ready};
+use crate::ends::{Ends, SendError};
 use crate::incoming::{Found, Incoming};
 use base::Memory;
 use std::alloc::Global;
@@ -12,15 +12,6 @@ const GATHERED: usize = 65_536;
 
 /// How many bytes are read at once.
 const READ: usize = 8_192;
-
-/// Why lines can't be sent.
-#[derive(Clone, Copy, Debug, PartialEq, Eq)]
-pub enum SendError {
-    /// The output is closed.
-    Closed,
-    /// Memory was refused.
-    Memory,
-}
 
 /// Why no line is received.
 #[derive(Clone, Copy, Debug, PartialEq, Eq)]
@@ -33,12 +24,6 @@ pub enum ReceiveError {
     Closed,
     /// Memory was refused.
     Memory,
-}
-
-impl From<Memory> for SendError {
-    fn from(_memory: Memory) -> Self {
-        SendError::Memory
-    }
 }
 
 impl From<Memory> for ReceiveError {
@@ -63,8 +48,6 @@ pub struct Pipes<E: Drop> {
     ends: E,
     incoming: Incoming,
     outgoing: Vec<u8>,
-    written: usize,
-    ended: bool,
 }
 
 impl<E: Ends + Drop> Pipes<E> {
@@ -75,107 +58,71 @@ impl<E: Ends + Drop> Pipes<E> {
             ends,
             incoming: Incoming::new(alloc),
             outgoing: Vec::new(alloc),
-            written: 0,
-            ended: false,
         }
     }
 
-    /// Sends lines: they are gathered, and written once they are many.
+    /// Sends lines: they are gathered, and handed on once they are many.
     pub fn send(&mut self, lines: &[u8]) -> Result<(), SendError> {
         match self.outgoing.extend_from_slice(lines) {
             Ok(()) => {}
             Err(_) => return Err(SendError::Memory),
         }
         if self.outgoing.len() >= GATHERED {
-            self.flush()?;
+            self.hand_on()?;
         }
         Ok(())
     }
 
-    /// Writes all that was sent. Meanwhile answers are taken in.
+    /// Has all written that was sent, and waits until it is.
     pub fn flush(&mut self) -> Result<(), SendError>
         ensures { OnOk result (FlowsTo (E.came self.old.ends) (E.came self.new.ends) self.old.incoming self.new.incoming) }
     {
-        for _ in 0..u64::MAX {
-            if self.written >= self.outgoing.len() {
-                self.outgoing.clear();
-                self.written = 0;
-                return Ok(());
-            }
-            self.step()?;
-        }
-        Err(SendError::Closed)
+        self.hand_on()?;
+        self.ends.flush()
     }
 
-    /// Reads and writes what can be without waiting, once one of both can be.
-    fn step(&mut self) -> Result<(), SendError>
+    /// Has all written that was sent, and doesn't wait for it.
+    fn hand_on(&mut self) -> Result<(), SendError>
         ensures { OnOk result (FlowsTo (E.came self.old.ends) (E.came self.new.ends) self.old.incoming self.new.incoming) }
     {
-        let ready = self.ends.wait(Ready {
-            read: !self.ended && self.incoming.has_room(),
-            write: true,
-        });
-        if ready.read {
-            self.take_in()?;
-        }
-        if ready.write {
-            match self
-                .ends
-                .write(rest_of(self.outgoing.as_slice(), self.written))
-            {
-                Ok(count) => self.written = self.written.saturating_add(count),
-                Err(_) => return Err(SendError::Closed),
-            }
+        if !self.outgoing.is_empty() {
+            self.ends.write(self.outgoing.as_slice())?;
+            self.outgoing.clear();
         }
         Ok(())
     }
 
-    /// Takes in some bytes, or notes that no more come.
-    fn take_in(&mut self) -> Result<(), Memory>
+    /// Its next line, without the line feed; what was sent goes out before. It waits for it without limit.
+    pub fn receive(&mut self) -> Result<Vec<u8>, ReceiveError>
+        ensures { IfOk result
+            (λ line. FlowsTo (E.came self.old.ends) (E.came self.new.ends) self.old.incoming (line.items ++ 10 ∷ self.new.incoming)) }
+    {
+        self.hand_on()?;
+        for _ in 0..u64::MAX {
+            match self.incoming.take_line(self.alloc)? {
+                Found::Line(line) => return Ok(line),
+                Found::Long => return Err(ReceiveError::Long),
+                Found::Part => {
+                    if !self.take_in()? {
+                        return Err(ReceiveError::Ended);
+                    }
+                }
+            }
+        }
+        Err(ReceiveError::Ended)
+    }
+
+    /// Takes in some bytes; false if no more come.
+    fn take_in(&mut self) -> Result<bool, Memory>
         ensures { OnOk result (FlowsTo (E.came self.old.ends) (E.came self.new.ends) self.old.incoming self.new.incoming) }
     {
         let mut room = [0u8; READ];
         match self.ends.read(&mut room) {
             Ok(count) => {
                 self.incoming.add(&room[..count])?;
-                Ok(())
+                Ok(true)
             }
-            Err(_) => {
-                self.ended = true;
-                Ok(())
-            }
+            Err(_) => Ok(false),
         }
-    }
-
-    /// Its next line, without the line feed, once all that was sent is written. It waits for it without limit.
-    pub fn receive(&mut self) -> Result<Vec<u8>, ReceiveError>
-        ensures { IfOk result
-            (λ line. FlowsTo (E.came self.old.ends) (E.came self.new.ends) self.old.incoming (line.items ++ 10 ∷ self.new.incoming)) }
-    {
-        self.flush()?;
-        for _ in 0..u64::MAX {
-            match self.incoming.take_line(self.alloc)? {
-                Found::Line(line) => return Ok(line),
-                Found::Long => return Err(ReceiveError::Long),
-                Found::Part => {
-                    if self.ended {
-                        return Err(ReceiveError::Ended);
-                    }
-                    self.take_in()?;
-                }
-            }
-        }
-        Err(ReceiveError::Ended)
-    }
-}
-
-/// The bytes from a place on.
-fn rest_of(bytes: &[u8], from: usize) -> &[u8]
-    ensures { result.now ≡ drop from bytes.now }
-{
-    if from < bytes.len() {
-        &bytes[from..]
-    } else {
-        &[]
     }
 }

@@ -1,7 +1,7 @@
-//! Lines over pipes that take and give a few bytes at a time.
-use crate::{Closed, Ends, Pipes, Ready, ReceiveError};
+//! Lines over pipes that give a few bytes at a time.
+use crate::{Closed, Ends, Pipes, ReceiveError, SendError};
 
-/// Ends that give so many bytes, all of them this one, then a text, three bytes at a time, and take five at a time.
+/// Ends that give so many bytes, all of them this one, then a text, three bytes at a time, and take all at once.
 #[derive(Drop)]
 struct Slow {
     many: usize,
@@ -16,10 +16,6 @@ impl Ends for Slow {
     ghost came = { λ _. None };
 
     ghost went = { λ _. None };
-
-    fn wait(&mut self, asked: Ready) -> Ready {
-        asked
-    }
 
     fn read(&mut self, room: &mut [u8]) -> Result<usize, Closed> {
         if self.many > 0 {
@@ -39,10 +35,13 @@ impl Ends for Slow {
         Ok(count)
     }
 
-    fn write(&mut self, bytes: &[u8]) -> Result<usize, Closed> {
-        let count = bytes.len().min(5);
-        self.taken = self.taken.saturating_add(count);
-        Ok(count)
+    fn write(&mut self, bytes: &[u8]) -> Result<(), SendError> {
+        self.taken = self.taken.saturating_add(bytes.len());
+        Ok(())
+    }
+
+    fn flush(&mut self) -> Result<(), SendError> {
+        Ok(())
     }
 }
 

@@ -4,7 +4,7 @@
 mod release;
 
 use cli::Release;
-use cli::system::{StandardEnds, run_program};
+use cli::system::run_program;
 use std::process::ExitCode;
 
 fn main(rt: HostRuntime) -> ExitCode {
@@ -19,6 +19,7 @@ fn main(rt: HostRuntime) -> ExitCode {
         &mut rt.stdout(),
         &mut rt.stderr(),
         &mut rt.stderr(),
-        StandardEnds::new(rt.stdin(), rt.stdout()),
+        rt.stdin(),
+        rt.stdout(),
     )
 }
