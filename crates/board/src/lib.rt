@@ -14,14 +14,18 @@
 //! Neither that a thread gets on, nor which of them gets an item, is said by any clause.
 #![tactic(auto)]
 
+mod past;
 mod post;
 mod posts;
+mod record;
 mod rule;
 mod seats;
 mod site;
 
+pub use past::Past;
 pub use post::Post;
 pub use posts::{posts_at, seats_of};
+pub use record::{BoardRecord, SeatRecord};
 pub use rule::{Hand, ItemRule};
 pub use seats::{Board, Seat, settle};
 pub use site::Site;

@@ -7,11 +7,17 @@ use std::marker::PhantomData;
 /// What the items `T` of a board are: what each stands for, and which belong to the board. A type stands for it
 /// of which no value is made.
 pub trait ItemRule<T, V> {
+    ghost use Rattle.std.specs.Prelude.{◌≡◌};
+
     /// What an item stands for in the accounts of the seats.
     ghost stands_for: { T → V };
 
     /// Whether an item belongs to the board: asked of whoever deals one, and known to whoever takes one.
     ghost belongs: { T → Type 0 };
+
+    /// What the item stands for.
+    fn entry_of(item: &T) -> V
+        ensures { result ≡ stands_for item.now };
 }
 
 /// What a seat knows: its share of the right to see the whole board, what was dealt from it and what it has

@@ -19,3 +19,5 @@ mod WritingTurns
 mod ClosingEndings
 mod GateBounds
 mod Relaying
+mod Dealing
+mod Worked

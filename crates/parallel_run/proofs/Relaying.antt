@@ -17,7 +17,7 @@ use Rattle.parallel_run.specs.declared.row_batch.Delivery.{Delivery}
 use Rattle.parallel_run.specs.declared.row_relay.RunBasis.{RunBasis}
 use Rattle.parallel_run.specs.declared.row_relay.RelaySeats.{RelaySeats}
 use Rattle.parallel_run.specs.declared.closed_relay.ClosedRelay.{ClosedRelay}
-use Rattle.parallel_run.specs.declared.closed_relay.RunRelays.{RunRelays}
+use Rattle.parallel_run.specs.declared.closed_relay.RunAccount.{RunAccount}
 use Rattle.parallel_run.specs.Relaying.{RowRelay, basis_by, basis_in, is_end, is_last_batch, has_last_batch}
 use Rattle.parallel_run.specs.Relays.{AreClosed, AreNewSeats, AreRelayed, IsClosed, IsMadeFor, IsOfRun}
 
@@ -104,7 +104,7 @@ pub of_one_run : (s : Setup) (deal : Deal) (ways : List ℕ) (basis : Basis) →
 of_one_run s deal ways basis same relays made = all_weaker (IsMadeFor basis) (IsOfRun s deal) (λ relay is. (ways, is ∙ same)) relays made
 
 -- the relays of a run were closed, of which nothing else is kept
-pub are_closed : (s : Setup) (deal : Deal) (ways : List ℕ) (basis : Basis) (account : RunRelays) (relays : Vec RowRelay Global) (slice : List RowRelay) → account.relays.value ≡ relays → basis ≡ basis_by s deal ways
+pub are_closed : (s : Setup) (deal : Deal) (ways : List ℕ) (basis : Basis) (account : RunAccount) (relays : Vec RowRelay Global) (slice : List RowRelay) → account.relays.value ≡ relays → basis ≡ basis_by s deal ways
     → length relays.items ≡ deal.parts → AllByRecursion (IsMadeFor basis) relays.items → slice ≡ relays.items → AreRelayed slice account.closed.items → AreClosed s deal account
 are_closed s deal ways basis account relays slice kept same count made whole relayed = record {
   count = ap (λ (v : Vec RowRelay Global). length v.items) kept ∙ count;

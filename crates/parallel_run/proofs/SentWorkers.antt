@@ -10,6 +10,7 @@ use Rattle.std.proofs.alloc.Global.TheSendSync as heap
 use Rattle.atomic_table.proofs.shared.Seat.TheSendSync as pass
 use Rattle.atomic_table.proofs.shared.Shared.TheSendSync as shared
 use Rattle.atomic_table.proofs.send_lease.SendLease.TheSendSync as lease
+use Rattle.board.proofs.Sent.{seat_record_send}
 use Rattle.board.specs.contracts.seats.Board as board
 use Rattle.board.specs.contracts.seats.Seat as seat
 use Rattle.board.specs.contracts.post.Post as post
@@ -93,7 +94,7 @@ seat_send T V s = search (pass.the_send, crosses, sendable) depth 60 fits 20000
 -- a post may go where its items may
 pub post_send : (β : NamedLft) (T V S P : RattleType) (p : site.Ghosts P.Denot) (g : item_rule.Ghosts S.Denot T.Denot V.Denot) → IsSend T → IsSend (post.the_row β T V S P p g)
 post_send β T V S P p g s =
-    let all : AllSend (shape (post.the_type β T V S P p g)).fields = (search (board_sync, sendable), (seat_send T V s, (search sendable, tt))) in
+    let all : AllSend (shape (post.the_type β T V S P p g)).fields = (search (board_sync, sendable), (seat_send T V s, (seat_record_send V, (search sendable, tt)))) in
     declared_send (post.the_type β T V S P p g) all
 
 pub crew_sync : IsSync crew.the_row

@@ -9,3 +9,6 @@ pub mod Processes
 pub mod Shares
 pub mod Holding
 pub mod Closing
+pub mod Dealt
+pub mod Returned
+pub mod Settled

@@ -10,6 +10,8 @@ use Rattle.parallel_run.specs.declared.of_run.OfRun.{Ghosts}
 use Rattle.parallel_run.specs.declared.process.Process.{Process}
 use Rattle.parallel_run.specs.declared.process.Waiting.{Waiting}
 use Rattle.parallel_run.specs.declared.board_item.BoardItem.{BoardItem}
+use Rattle.parallel_run.specs.declared.board_item.BoardEntry.{BoardEntry}
+use Rattle.parallel_run.specs.Returned.{ended_entry}
 use Rattle.parallel_run.specs.Peers.{AreLines}
 use Rattle.parallel_run.specs.Windows.{AfterWindow, Begins, GathersUpTo, GathersSoFar}
 
@@ -32,10 +34,14 @@ module _ {K Q : Type 0} {G : Ghosts K} (set : Q → FinMap key_cmp Event) (basis
     pub gathered : GathersUpTo basis process.lines.number to process.gathered
     pub lines : AreLines basis process.lines
 
--- an item stands for the number of its part
-abbrev pub number_of : {K Q : Type 0} {G : Ghosts K} → BoardItem K Q G → ℕ
-number_of (BoardItem.Process process) = process.lines.number
-number_of (BoardItem.Ended lines) = lines.number
+-- what a process stands for in the accounts of the board's seats
+abbrev pub begun_entry : {K Q : Type 0} {G : Ghosts K} → Process K Q G → BoardEntry
+begun_entry process = BoardEntry.Process process.lines.number
+
+-- what an item stands for there: the process of a part, or the end of the relay of one that has come to the end
+abbrev pub account_entry : {K Q : Type 0} {G : Ghosts K} → BoardItem K Q G → BoardEntry
+account_entry (BoardItem.Process process) = begun_entry process
+account_entry (BoardItem.Ended lines) = ended_entry lines.lots
 
 -- a process belongs to the board of a run where it is the run's as its round begins
 abbrev pub Belongs : {K Q : Type 0} {G : Ghosts K} (set : Q → FinMap key_cmp Event) (given : Option Basis) → BoardItem K Q G → Type 0

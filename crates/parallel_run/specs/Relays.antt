@@ -7,7 +7,7 @@ use Rattle.relay.specs.Seats.{given_of, sent_by, taken_by, IsSender, IsTaker}
 use Rattle.lookahead_windows.specs.Basis.{Basis}
 use Rattle.parallel_run.specs.declared.row_relay.RelaySeats.{RelaySeats}
 use Rattle.parallel_run.specs.declared.closed_relay.ClosedRelay.{ClosedRelay}
-use Rattle.parallel_run.specs.declared.closed_relay.RunRelays.{RunRelays}
+use Rattle.parallel_run.specs.declared.closed_relay.RunAccount.{RunAccount}
 use Rattle.parallel_run.specs.Relaying.{RowRelay, basis_by, basis_in, has_last_batch}
 
 -- the relay was made for a run that goes by that
@@ -44,7 +44,7 @@ IsOfRun s deal relay = (ways : List ℕ) × IsMadeFor (basis_by s deal ways) rel
 
 -- The relays of a run of that scenario by these parts, as they were closed: each part had one, made for the run. What was sent over it is
 -- what was received, and the last batch of the part was.
-pub record AreClosed (s : Setup) (deal : Deal) (account : RunRelays) : Type 0 where
+pub record AreClosed (s : Setup) (deal : Deal) (account : RunAccount) : Type 0 where
   pub count : length account.relays.value.items ≡ deal.parts
   pub made : AllByRecursion (IsOfRun s deal) account.relays.value.items
   pub relayed : AreRelayed account.relays.value.items account.closed.items

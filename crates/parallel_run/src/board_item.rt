@@ -2,7 +2,7 @@
 use crate::connections::Connections;
 use crate::of_run::OfRun;
 use crate::process::Process;
-use board::{Board, ItemRule, Post, Seat};
+use board::{Board, BoardRecord, ItemRule, Post, Seat};
 use member::Event;
 use std::marker::PhantomData;
 use worker_queue::EventQueue;
@@ -16,23 +16,48 @@ pub enum BoardItem<'b, K: OfRun, Q: EventQueue<Event>> {
     Ended(Connections<'b, K>),
 }
 
-/// An item stands for the number of its part. A process belongs to the board where it is the run's, as
-/// the round begins.
+/// What an item stands for in the accounts of the board's seats.
+#[derive(Drop)]
+pub enum BoardEntry {
+    /// The process of the part of that number.
+    Process(usize),
+    /// The end of that part's relay, once the part has come to the end.
+    Ended(usize),
+}
+
+/// An item stands for its part, as it begins a round or once it has come to the end. A process belongs to the
+/// board where it is the run's, as the round begins.
 pub struct RunItems<K>(PhantomData<K>);
 
-impl<'b, K: OfRun, Q: EventQueue<Event>> ItemRule<BoardItem<'b, K, Q>, usize> for RunItems<K> {
-    ghost use Rattle.parallel_run.specs.Processes.{number_of, Belongs};
+impl<'b, K: OfRun, Q: EventQueue<Event>> ItemRule<BoardItem<'b, K, Q>, BoardEntry> for RunItems<K> {
+    ghost use Rattle.parallel_run.specs.Processes.{account_entry, Belongs};
 
-    ghost stands_for = { number_of };
+    ghost stands_for = { account_entry };
 
     ghost belongs = { Belongs Q.set K.basis };
+
+    fn entry_of(item: &BoardItem<'b, K, Q>) -> BoardEntry {
+        match item {
+            BoardItem::Process(process) => BoardEntry::Process(process.lines.number),
+            BoardItem::Ended(lines) => BoardEntry::Ended(lines.lots.number),
+        }
+    }
 }
 
 /// The board over which the processes of a run go to its workers and back.
-pub(crate) type RunBoard<'b, K, Q> = Board<BoardItem<'b, K, Q>, usize, RunItems<K>>;
+pub(crate) type RunBoard<'b, K, Q> = Board<BoardItem<'b, K, Q>, BoardEntry, RunItems<K>>;
 
 /// A seat at such a board.
-pub(crate) type RunSeat<'b, K, Q> = Seat<BoardItem<'b, K, Q>, usize>;
+pub(crate) type RunSeat<'b, K, Q> = Seat<BoardItem<'b, K, Q>, BoardEntry>;
 
 /// A post at such a board: a seat that goes to a thread and comes back.
-pub(crate) type RunPost<'p, 'b, K, Q, J> = Post<'p, BoardItem<'b, K, Q>, usize, RunItems<K>, J>;
+pub(crate) type RunPost<'p, 'b, K, Q, J> = Post<
+    'p,
+    BoardItem<'b, K, Q>,
+    BoardEntry,
+    RunItems<K>,
+    J,
+>;
+
+/// What was dealt and taken at the seats of such a board, once they have come together.
+pub(crate) type RunBoardRecord = BoardRecord<BoardEntry>;

@@ -1,4 +1,5 @@
-//! What is left of the relays of a run once they are closed, for proofs alone.
+//! What is left of the relays and the board of a run once they are closed, for proofs alone.
+use crate::board_item::RunBoardRecord;
 use crate::row_relay::{RowRelay, RowSendSeat, RowTakeSeat};
 use std::alloc::Global;
 use std::snapshot::Snapshot;
@@ -11,20 +12,23 @@ pub struct ClosedRelay {
     pub(crate) taken: Snapshot<RowTakeSeat>,
 }
 
-/// The relays of a run by threads, and their seats as they were closed, for proofs alone. It has no bytes to speak of.
+/// The account of a run by threads, for proofs alone: its relays and their seats as they were closed, and what was
+/// dealt and taken at the seats of its board. It has no bytes to speak of.
 #[derive(Drop)]
-pub struct RunRelays {
+pub struct RunAccount {
     pub(crate) relays: Snapshot<Vec<RowRelay>>,
     pub(crate) closed: Vec<ClosedRelay>,
+    pub(crate) board: RunBoardRecord,
 }
 
-impl RunRelays {
-    /// Those of no run.
+impl RunAccount {
+    /// That of no run.
     pub fn none(alloc: Global) -> Self {
         let relays = Vec::new(alloc);
-        RunRelays {
+        RunAccount {
             relays: Snapshot::of(&relays),
             closed: Vec::new(alloc),
+            board: RunBoardRecord::none(alloc),
         }
     }
 }

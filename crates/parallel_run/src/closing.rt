@@ -4,15 +4,18 @@ ghost use Rattle.std.specs.List.{flat_map};
 ghost use Rattle.board.specs.Deal.{SameBag};
 ghost use Rattle.board.specs.Seats.{AreAllSeats, dealt, taken};
 ghost use Rattle.board.specs.Sites.{AreSingleSeats};
+ghost use Rattle.board.specs.Posts.{record_at};
 ghost use Rattle.parallel_run.specs.Closing.{IsUnsettled, TakesAll, StillKeeps};
+ghost use Rattle.parallel_run.specs.Returned.{TakesBack};
+ghost use Rattle.parallel_run.specs.Settled.{IsRecordOf, IsSettledFrom};
 
 use crate::batch_sender::BatchSender;
-use crate::board_item::{BoardItem, RunBoard, RunPost, RunSeat};
+use crate::board_item::{BoardItem, RunBoard, RunBoardRecord, RunPost, RunSeat};
 use crate::connections::Connections;
 use crate::of_run::OfRun;
 use base::limits::MOST_WORKERS;
 use base::{Fault, Memory};
-use board::{Site, settle};
+use board::{BoardRecord, Site, settle};
 use member::Event;
 use reports::Tallies;
 use std::alloc::Global;
@@ -24,12 +27,14 @@ use worker_queue::EventQueue;
 pub(crate) const SEATS: usize = MOST_WORKERS + 1;
 
 /// Takes from the board of a run what its workers have dealt back: the ends by which parts have sent
-/// their rows.
+/// their rows. `None` where a process still lay there.
 pub(crate) fn take_back<'p, 'b, K: OfRun, Q: EventQueue<Event> + Drop, J: Site>(
     rt: &impl Wait,
     alloc: Global,
     post: &mut RunPost<'p, 'b, K, Q, J>,
-) -> Result<Vec<BatchSender<'b, K>>, Memory> {
+) -> Result<Option<Vec<BatchSender<'b, K>>>, Memory>
+    ensures { TakesBack (record_at post.old) (record_at post.new) result }
+{
     let mut senders = Vec::new(alloc);
     for _ in rt.forever() {
         match post.take(rt) {
@@ -37,8 +42,8 @@ pub(crate) fn take_back<'p, 'b, K: OfRun, Q: EventQueue<Event> + Drop, J: Site>(
                 let Connections { lots, .. } = lines;
                 senders.push(lots)?;
             }
-            Some(BoardItem::Process(_process)) => {}
-            None => return Ok(senders),
+            Some(BoardItem::Process(_process)) => return Ok(None),
+            None => return Ok(Some(senders)),
         }
     }
     unreachable!()
@@ -50,32 +55,43 @@ pub(crate) fn no_seats<T: Drop>(alloc: Global) -> Snapshot<Vec<T>> {
     Snapshot::of(&none)
 }
 
-/// Closes the board, where all came to its end and the seats are back: what came, and the seats as they were then.
-/// Where that is no fault, every process that was dealt was taken, as often, and no other.
+/// Closes the board, where all came to its end and the seats are back: what came, the seats as they were then,
+/// and what was dealt and taken there. Where that is no fault, every process that was dealt was taken, as often,
+/// and no other.
 pub(crate) fn closed<'b, K: OfRun, Q: EventQueue<Event> + Drop>(
     rt: &impl Wait,
     alloc: Global,
     board: RunBoard<'b, K, Q>,
-    seats: Result<Vec<RunSeat<'b, K, Q>>, Memory>,
+    back: Result<(Vec<RunSeat<'b, K, Q>>, RunBoardRecord), Memory>,
     so_far: Result<Tallies, Fault>,
-) -> (Result<Tallies, Fault>, Snapshot<Vec<RunSeat<'b, K, Q>>>)
-    requires { IfOk seats (λ seats. AreSingleSeats board seats.items) }
+) -> (
+    Result<Tallies, Fault>,
+    Snapshot<Vec<RunSeat<'b, K, Q>>>,
+    RunBoardRecord,
+)
+    requires single { IfOk back (λ b. AreSingleSeats board b.0.items) }
+    requires kept { IfOk back (λ b. IsRecordOf b.0.items b.1) }
     ensures keeps { StillKeeps so_far result.0 }
     ensures same { OnOk result.0 (result.0 ≡ so_far) }
     ensures settled { OnOk result.0 (TakesAll board.entry result.1.value.items) }
+    ensures balance { OnOk result.0 (IsSettledFrom back.entry result.2) }
 {
-    let Ok(seats) = seats else {
-        return (Err(Fault::Memory), no_seats(alloc));
+    let Ok((seats, record)) = back else {
+        return (
+            Err(Fault::Memory),
+            no_seats(alloc),
+            BoardRecord::none(alloc),
+        );
     };
     let ended = Snapshot::of(&seats);
-    // a pair is answered, so no `?`
+    // three are answered, so no `?`
     let tallies = match so_far {
         Ok(tallies) => tallies,
-        Err(fault) => return (Err(fault), ended),
+        Err(fault) => return (Err(fault), ended, record),
     };
     match close_board(rt, board, seats) {
-        Ok(()) => (Ok(tallies), ended),
-        Err(_) => (Err(Fault::ThreadLost), ended),
+        Ok(()) => (Ok(tallies), ended, record),
+        Err(_) => (Err(Fault::ThreadLost), ended, record),
     }
 }
 

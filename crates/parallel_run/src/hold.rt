@@ -2,7 +2,8 @@
 ghost use Rattle.std.specs.Prelude.{◌≡◌, ◌∷◌, [], ◌++◌, Some, IfOk, IfErr, IfSome, OnOk, OnErr};
 ghost use Rattle.lookahead_windows.specs.Basis.{Basis, basis_of, GoBy};
 ghost use Rattle.lookahead_windows.specs.Bounds.{AwaitsRounds};
-ghost use Rattle.parallel_run.specs.Processes.{Belongs, IsReady, IsWaiting};
+ghost use Rattle.board.specs.Posts.{dealt_at, taken_at};
+ghost use Rattle.parallel_run.specs.Processes.{Belongs, IsReady, IsWaiting, account_entry};
 ghost use Rattle.parallel_run.specs.Holding.{Holds};
 ghost use Rattle.parallel_run.specs.Messages.{MayEndBy};
 
@@ -224,6 +225,8 @@ pub(crate) fn deal<'p, 'b, K: OfRun, Q: EventQueue<Event> + Drop, J: Site>(
     item: BoardItem<'b, K, Q>,
 ) -> Result<(), Fault>
     requires belongs { Belongs Q.set K.basis item }
+    ensures dealt { OnOk result (dealt_at post.new ≡ dealt_at post.old ++ account_entry item.entry ∷ []) }
+    ensures taken { OnOk result (taken_at post.new ≡ taken_at post.old) }
     ensures fault { IfErr result (λ fault. fault ≡ Fault.ThreadLost) }
 {
     match post.deal(rt, item) {

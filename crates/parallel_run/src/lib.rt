@@ -34,5 +34,5 @@ mod window_message;
 mod worker;
 mod writer;
 
-pub use closed_relay::RunRelays;
+pub use closed_relay::RunAccount;
 pub use run::run_by_rings;

@@ -1,11 +1,12 @@
 //! The processes of a run, with their rings and relays, as it begins.
-ghost use Rattle.std.specs.Prelude.{◌≡◌, length, Some, IfOk};
+ghost use Rattle.std.specs.Prelude.{◌≡◌, length, map, Some, IfOk};
 ghost use Rattle.std.specs.List.{AllByRecursion};
 ghost use Rattle.member.specs.Opening.{opening};
 ghost use Rattle.turns.specs.Parts.{StandFor};
 ghost use Rattle.lookahead_windows.specs.Starts.{IsFirstMoment};
 ghost use Rattle.lookahead_windows.specs.Basis.{Basis, IsBasis};
-ghost use Rattle.parallel_run.specs.Processes.{IsReady};
+ghost use Rattle.parallel_run.specs.Dealt.{all_begun};
+ghost use Rattle.parallel_run.specs.Processes.{IsReady, begun_entry};
 
 use crate::batch_receiver::BatchReceiver;
 use crate::connections::Connections;
@@ -56,6 +57,8 @@ pub(crate) fn processes_of<'b, K: OfRun, Q: EventQueue<Event> + Drop>(
     requires event_counts { length event_counts.now ≡ length parts.items }
     requires ends { length ends.items ≡ length parts.items }
     ensures processes { IfOk result (λ r. (basis : Basis) → K.basis ≡ Some basis → AllByRecursion (IsReady Q.set basis) r.0.items) }
+    ensures numbers { IfOk result (λ r. map begun_entry r.0.items ≡ all_begun (length r.0.items)) }
+    ensures count { IfOk result (λ r. length r.0.items ≡ length parts.items) }
     ensures takers { IfOk result (λ r. length r.1.items ≡ length parts.items) }
 {
     let mut peers = peers_of(alloc, event_counts)?;

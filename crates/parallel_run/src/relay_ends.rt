@@ -1,9 +1,12 @@
 //! The relays of a run, from the ends of each, as it begins, to their end.
-ghost use Rattle.std.specs.Prelude.{◌≡◌, length, Some, IfOk, IfErr, OnOk};
+ghost use Rattle.std.specs.Prelude.{◌≡◌, length, map, Some, IfOk, IfErr, IfSome, OnOk};
 ghost use Rattle.std.specs.List.{AllByRecursion, slice_get};
 ghost use Rattle.run_output.specs.Traced.{IsEarly};
 ghost use Rattle.lookahead_windows.specs.Basis.{Basis};
+ghost use Rattle.board.specs.Deal.{SameBag};
 ghost use Rattle.parallel_run.specs.Closing.{StillKeeps};
+ghost use Rattle.parallel_run.specs.Dealt.{all_ended};
+ghost use Rattle.parallel_run.specs.Returned.{AreAllBack, TakesOut, ended_entry};
 ghost use Rattle.parallel_run.specs.Relays.{AreNewSeats, IsClosed, AreRelayed};
 
 use crate::batch_receiver::BatchReceiver;
@@ -29,8 +32,8 @@ pub(crate) struct RelayEnds<'b, K: OfRun> {
 pub(crate) struct ReturnedEnds<'t, 's, K: OfRun> {
     /// Those of who writes, for each part.
     pub(crate) takers: Vec<BatchReceiver<'t, K>>,
-    /// Those of the parts that came to the end.
-    pub(crate) senders: Result<Vec<BatchSender<'s, K>>, Memory>,
+    /// Those of the parts that came to the end. `None` where one of the parts has not.
+    pub(crate) senders: Result<Option<Vec<BatchSender<'s, K>>>, Memory>,
 }
 
 /// The ends of the run's relays: those of the last part first.
@@ -79,6 +82,7 @@ pub(crate) fn relays_closed<'t, 's, K: OfRun>(
     requires { K.relays ≡ relays.now }
     ensures keeps { StillKeeps so_far result.0 }
     ensures relayed { OnOk result.0 (AreRelayed relays.now result.1.items) }
+    ensures back { OnOk result.0 (AreAllBack (length relays.now) ends.entry.senders) }
     ensures same { OnOk result.0 (result.0 ≡ so_far) }
 {
     // a pair is answered, so no `?`
@@ -92,8 +96,8 @@ pub(crate) fn relays_closed<'t, 's, K: OfRun>(
     }
 }
 
-/// Closes each of these relays, given the ends that came back. `ThreadLost` where one is missing, or the
-/// last batch was not received.
+/// Closes each of these relays, given the ends that came back. `ThreadLost` where one is missing or left over,
+/// or the last batch was not received.
 fn close_all<'t, 's, K: OfRun>(
     alloc: Global,
     relays: &[RowRelay],
@@ -101,13 +105,29 @@ fn close_all<'t, 's, K: OfRun>(
 ) -> Result<Vec<ClosedRelay>, Fault>
     requires { K.relays ≡ relays.now }
     ensures relayed { IfOk result (λ closed. AreRelayed relays.now closed.items) }
+    ensures back { OnOk result (AreAllBack (length relays.now) ends.entry.senders) }
     ensures fault { IfErr result IsEarly }
 {
-    let ReturnedEnds {
-        mut takers,
-        senders,
-    } = ends;
-    let mut senders = senders?;
+    let ReturnedEnds { takers, senders } = ends;
+    let Some(senders) = senders? else {
+        return Err(Fault::ThreadLost);
+    };
+    close_each(alloc, relays, takers, senders)
+}
+
+/// Closes each of these relays, given an end of each in order and the other ends in any order.
+/// `ThreadLost` where one is missing or left over, or the last batch was not received.
+fn close_each<'t, 's, K: OfRun>(
+    alloc: Global,
+    relays: &[RowRelay],
+    mut takers: Vec<BatchReceiver<'t, K>>,
+    mut senders: Vec<BatchSender<'s, K>>,
+) -> Result<Vec<ClosedRelay>, Fault>
+    requires { K.relays ≡ relays.now }
+    ensures relayed { IfOk result (λ closed. AreRelayed relays.now closed.items) }
+    ensures back { OnOk result (SameBag (map ended_entry senders.entry.items) (all_ended (length relays.now))) }
+    ensures fault { IfErr result IsEarly }
+{
     let mut closed = Vec::new(alloc);
     takers.reverse();
     for number in 0..relays.len() {
@@ -123,6 +143,9 @@ fn close_all<'t, 's, K: OfRun>(
             Err(_) => return Err(Fault::Memory),
         }
     }
+    if senders.len() != 0 {
+        return Err(Fault::ThreadLost);
+    }
     Ok(closed)
 }
 
@@ -130,7 +153,9 @@ fn close_all<'t, 's, K: OfRun>(
 fn sender_of<'b, K: OfRun>(
     senders: &mut Vec<BatchSender<'b, K>>,
     number: usize,
-) -> Option<BatchSender<'b, K>> {
+) -> Option<BatchSender<'b, K>>
+    ensures { IfSome result (λ one. (one.number ≡ number) × TakesOut senders.old.items senders.new.items one) }
+{
     for place in 0..senders.len() {
         if senders[place].number == number {
             return Some(senders.swap_remove(place));

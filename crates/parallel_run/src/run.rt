@@ -1,8 +1,10 @@
 //! A run by threads: the parts of the cluster go over a board to the workers, and back.
-ghost use Rattle.std.specs.Prelude.{◌≡◌, ◌↔◌, ℕ, ◌<◌, ◌^◌, ◌⊎◌, [], length, Some, IfOk, IfErr, OnOk, OnErr, IsErrOf, All};
+ghost use Rattle.std.specs.Prelude.{◌≡◌, ◌↔◌, ℕ, ◌<◌, ◌^◌, ◌⊎◌, ◌++◌, [], length, map, Some, IfOk, IfErr, OnOk, OnErr, IsErrOf, All};
 ghost use Rattle.std.specs.List.{AllByRecursion};
 ghost use Rattle.board.specs.Deal.{whole};
-ghost use Rattle.board.specs.Seats.{AreAllSeats};
+ghost use Rattle.board.specs.Posts.{dealt_at, taken_at};
+ghost use Rattle.board.specs.Records.{own_dealt, own_taken};
+ghost use Rattle.board.specs.Seats.{AreAllSeats, HasEmptyBags};
 ghost use Rattle.board.specs.Sites.{table_of, AreSingleSeats};
 ghost use Rattle.scenario.specs.Setup.{IsSound, member_count};
 ghost use Rattle.trace.specs.Text.{NamesMembers};
@@ -16,12 +18,14 @@ ghost use Rattle.run_output.specs.Traced.{IsEarly, KeepsTrace};
 ghost use Rattle.lookahead_windows.specs.Basis.{basis_of, GoBy};
 ghost use Rattle.lookahead_windows.specs.Bounds.{AwaitsRounds, AwaitsRun};
 ghost use Rattle.parallel_run.specs.Closing.{TakesAll};
+ghost use Rattle.parallel_run.specs.Dealt.{AreDealt, DealtAll, all_begun};
 ghost use Rattle.parallel_run.specs.Relays.{AreNewSeats, AreRelayed, AreClosed};
-ghost use Rattle.parallel_run.specs.Processes.{IsReady};
+ghost use Rattle.parallel_run.specs.Processes.{IsReady, begun_entry};
+ghost use Rattle.parallel_run.specs.Settled.{IsRecordOf, IsSettled};
 ghost use Rattle.parallel_run.specs.Starting.{MayStart};
 
-use crate::board_item::{BoardItem, RunBoard, RunPost, RunSeat};
-use crate::closed_relay::{ClosedRelay, RunRelays};
+use crate::board_item::{BoardItem, RunBoard, RunBoardRecord, RunPost, RunSeat};
+use crate::closed_relay::{ClosedRelay, RunAccount};
 use crate::closing::{SEATS, closed, no_seats};
 use crate::crew::Crew;
 use crate::hold::deal;
@@ -59,7 +63,7 @@ use worker_queue::{EventQueue, WheelQueue};
 /// before it runs it in a round, and below which bound: its own, no later than the moment before which
 /// nothing can come to the part, and no earlier than one that would serve all parts. The sinks and the
 /// observer stay on the calling thread. It waits for its threads. `account` gets the relays of the run,
-/// as they were closed. Returns the tallies of the rows.
+/// as they were closed, and what was dealt and taken on its board. Returns the tallies of the rows.
 ///
 /// Faults: `Memory`; `CounterOverflow` where a counter of the run or of the report would pass 2^63; `Write`
 /// where a sink failed; `ThreadLost` where a thread could not be started, or did not hand on what it was
@@ -73,7 +77,7 @@ pub fn run_by_rings<A: Sink, B: Sink, C: RowObserver, G: Gate, R: Threads + Wait
     gate: &G,
     place: &mut TraceAndGathered<A, C>,
     report: &mut B,
-    account: &mut RunRelays,
+    account: &mut RunAccount,
 ) -> Result<Tallies, Fault>
     requires divides { length division.now.part_of ≡ member_count scenario.now }
     requires countable { A.failed place.old.trace < 2 ^ 63 }
@@ -95,6 +99,10 @@ pub fn run_by_rings<A: Sink, B: Sink, C: RowObserver, G: Gate, R: Threads + Wait
     // Each part of a run that succeeds has a relay, made for the run: what was sent over it was received, the part's last rows too.
     ensures relayed { OnOk result (AreClosed scenario.now division.now account.new) }
 
+    // On the board of a run that succeeds the calling thread dealt each part, and took back each as it had come to the end. What was
+    // dealt at all seats is what was taken, as often, so a worker took each part, and a worker dealt it back.
+    ensures settled { OnOk result (IsSettled division.now account.new) }
+
     // No count of its report passes 2^63, and no fault comes without its cause.
     ensures lasts_report { OnOk result (¬ (ReportOverflows scenario.now)) }
     ensures overflow { IsErrOf result Fault.CounterOverflow → CounterOverflows scenario.now ⊎ ReportOverflows scenario.now }
@@ -115,7 +123,7 @@ fn run_into<T: RowSink<P>, P, G: Gate, R: Threads + Wait + Sync>(
     workers: Workers,
     gate: &G,
     place: &mut P,
-    account: &mut RunRelays,
+    account: &mut RunAccount,
 ) -> Result<Tallies, Fault>
     requires divides { length division.now.part_of ≡ member_count scenario.now }
     requires countable { T.failed place.old < 2 ^ 63 }
@@ -125,6 +133,7 @@ fn run_into<T: RowSink<P>, P, G: Gate, R: Threads + Wait + Sync>(
     ensures trace { KeepsTrace scenario.now (T.held place.old) (T.held place.new) (T.failed place.old) (T.failed place.new) result }
     ensures gathered { IfOk result (T.gathered place.new scenario.now) }
     ensures relayed { OnOk result (AreClosed scenario.now division.now account.new) }
+    ensures settled { OnOk result (IsSettled division.now account.new) }
     ensures sound { IsSound scenario.now }
 {
     let _end = scenario.end();
@@ -149,11 +158,12 @@ fn run_into<T: RowSink<P>, P, G: Gate, R: Threads + Wait + Sync>(
         gate,
         place,
         &mut account.closed,
+        &mut account.board,
     )
 }
 
 /// Runs these parts by so many workers, and takes the rows, which go over these relays. `ended` gets their seats at the
-/// end.
+/// end, and `record` what was dealt and taken on the board.
 fn by_workers<
     'a,
     T: RowSink<P>,
@@ -173,12 +183,14 @@ fn by_workers<
     gate: &G,
     place: &mut P,
     ended: &mut Vec<ClosedRelay>,
+    record: &mut RunBoardRecord,
 ) -> Result<Tallies, Fault>
     requires rounds { GoBy rounds.now }
     requires run { K.basis ≡ Some (basis_of rounds.now) }
     requires relays { K.relays ≡ relays.now }
     requires relay_seats { AllByRecursion (AreNewSeats relays.now (basis_of rounds.now)) relay_seats.items }
     requires seats_each { length relay_seats.items ≡ length parts.items }
+    requires parts_each { length relays.now ≡ length parts.items }
     requires opened { StandFor Q.set rounds.now.division.now parts.items (opening rounds.now.cluster.scenario.now) }
     requires known { KnowsAll G.knows workers }
     requires windows { AwaitsRounds G.awaits (basis_of rounds.now) }
@@ -187,6 +199,7 @@ fn by_workers<
     ensures trace { KeepsTrace rounds.now.cluster.scenario.now (T.held place.old) (T.held place.new) (T.failed place.old) (T.failed place.new) result }
     ensures gathered { IfOk result (T.gathered place.new rounds.now.cluster.scenario.now) }
     ensures relayed { OnOk result (AreRelayed relays.now ended.new.items) }
+    ensures settled { OnOk result (AreDealt (length parts.items) record.new) }
 {
     let event_counts = event_counts_of(alloc, parts.len())?;
     let ends = ends_of::<K>(alloc, relays, relay_seats)?;
@@ -203,17 +216,18 @@ fn by_workers<
         rounds.division.parts(),
         SEATS,
     )?;
-    let (outcome, _settled, relayed) = over_board::<T, P, Q, G, K, R>(
+    let (outcome, _settled, dealt, relayed) = over_board::<T, P, Q, G, K, R>(
         rt, alloc, board, seats, relays, processes, workers, crew, rounds, gate, writer, place,
     );
     *ended = relayed;
+    *record = dealt;
     outcome
 }
 
 /// Runs these processes over this board, and closes it and the relays over which their rows go: what
-/// came, the board's seats as they were at the end, and those of the relays. Where all went well every
-/// process that was dealt was taken, as often, and no other; and what was sent over each relay was
-/// received, the last batch of its part too.
+/// came, the board's seats as they were at the end, what was dealt and taken there, and the seats of the
+/// relays. Where all went well every process that was dealt was taken, as often, and no other; and what
+/// was sent over each relay was received, the last batch of its part too.
 fn over_board<
     'r,
     'b,
@@ -240,11 +254,13 @@ fn over_board<
 ) -> (
     Result<Tallies, Fault>,
     Snapshot<Vec<RunSeat<'b, K, Q>>>,
+    RunBoardRecord,
     Vec<ClosedRelay>,
 )
     requires relays { K.relays ≡ relays.now }
-    requires all { AreAllSeats board seats.items }
+    requires all { AreAllSeats board seats.items × All HasEmptyBags seats.items }
     requires count { length seats.items ≡ whole }
+    requires numbers { map begun_entry processes.items ≡ all_begun (length relays.now) }
     requires ready { AllByRecursion (IsReady Q.set (basis_of rounds.now)) processes.items }
     requires start { MayStart K.basis G.knows G.awaits rounds.now workers writer.scenario.now (length writer.takers.items) writer.tallies }
     requires countable { T.failed place.old < 2 ^ 63 }
@@ -252,22 +268,30 @@ fn over_board<
     ensures trace { KeepsTrace rounds.now.cluster.scenario.now (T.held place.old) (T.held place.new) (T.failed place.old) (T.failed place.new) result.0 }
     ensures gathered { IfOk result.0 (T.gathered place.new rounds.now.cluster.scenario.now) }
     ensures settled { OnOk result.0 (TakesAll board.entry result.1.value.items) }
-    ensures relayed { OnOk result.0 (AreRelayed relays.now result.2.items) }
+    ensures dealt { OnOk result.0 (AreDealt (length relays.now) result.2) }
+    ensures relayed { OnOk result.0 (AreRelayed relays.now result.3.items) }
 {
-    // three are answered, so no `?`
-    let (so_far, seats, relayed) = match at_board::<T, P, Q, G, Brand, K, R>(
+    // four are answered, so no `?`
+    let (so_far, back, relayed) = match at_board::<T, P, Q, G, Brand, K, R>(
         rt, alloc, &board, seats, relays, processes, workers, crew, rounds, gate, writer, place,
     ) {
         Ok(ended) => ended,
-        Err(fault) => return (Err(fault), no_seats(alloc), Vec::new(alloc)),
+        Err(fault) => {
+            return (
+                Err(fault),
+                no_seats(alloc),
+                RunBoardRecord::none(alloc),
+                Vec::new(alloc),
+            );
+        }
     };
-    let (outcome, settled) = closed(rt, alloc, board, seats, so_far);
-    (outcome, settled, relayed)
+    let (outcome, settled, record) = closed(rt, alloc, board, back, so_far);
+    (outcome, settled, record, relayed)
 }
 
-/// The same over this board, with a post at each of its seats: what came of the rows, the seats, or
-/// `Memory` where there was none for these, and the seats of the relays, which it closes. A fault where
-/// nothing was begun.
+/// The same over this board, with a post at each of its seats: what came of the rows, the seats and what
+/// was dealt and taken there, or `Memory` where there was none for these, and the seats of the relays,
+/// which it closes. A fault where nothing was begun.
 fn at_board<
     'r,
     'b,
@@ -295,20 +319,23 @@ fn at_board<
 ) -> Result<
     (
         Result<Tallies, Fault>,
-        Result<Vec<RunSeat<'b, K, Q>>, Memory>,
+        Result<(Vec<RunSeat<'b, K, Q>>, RunBoardRecord), Memory>,
         Vec<ClosedRelay>,
     ),
     Fault,
 >
     requires relays { K.relays ≡ relays.now }
     requires here { table_of board.now ≡ J.table }
-    requires all { AreAllSeats board.now seats.items }
+    requires all { AreAllSeats board.now seats.items × All HasEmptyBags seats.items }
     requires count { length seats.items ≡ whole }
+    requires numbers { map begun_entry processes.items ≡ all_begun (length relays.now) }
     requires ready { AllByRecursion (IsReady Q.set (basis_of rounds.now)) processes.items }
     requires start { MayStart K.basis G.knows G.awaits rounds.now workers writer.scenario.now (length writer.takers.items) writer.tallies }
     requires countable { T.failed place.old < 2 ^ 63 }
     requires none_gathered { T.gathered place.old writer.scenario.now [] }
-    ensures seats { IfOk result (λ r. IfOk r.1 (λ seats. AreSingleSeats board.now seats.items)) }
+    ensures seats { IfOk result (λ r. IfOk r.1 (λ back. AreSingleSeats board.now back.0.items)) }
+    ensures record { IfOk result (λ r. IfOk r.1 (λ back. IsRecordOf back.0.items back.1)) }
+    ensures own { IfOk result (λ r. OnOk r.0 (IfOk r.1 (λ back. DealtAll (length relays.now) back.1))) }
     ensures trace { IfOk result (λ r. KeepsTrace rounds.now.cluster.scenario.now (T.held place.old) (T.held place.new) (T.failed place.old) (T.failed place.new) r.0) }
     ensures gathered { IfOk result (λ r. IfOk r.0 (T.gathered place.new rounds.now.cluster.scenario.now)) }
     ensures relayed { IfOk result (λ r. OnOk r.0 (AreRelayed relays.now r.2.items)) }
@@ -338,6 +365,8 @@ fn deal_all<'p, 'b, K: OfRun, Q: EventQueue<Event> + Drop, J: Site>(
 ) -> Result<(), Fault>
     requires run { K.basis ≡ Some (basis_of rounds.now) }
     requires ready { AllByRecursion (IsReady Q.set (basis_of rounds.now)) processes.items }
+    ensures dealt { OnOk result (dealt_at post.new ≡ dealt_at post.old ++ map begun_entry processes.entry.items) }
+    ensures taken { OnOk result (taken_at post.new ≡ taken_at post.old) }
     ensures fault { IfErr result (λ fault. fault ≡ Fault.ThreadLost) }
 {
     let _ = rounds;
@@ -347,19 +376,19 @@ fn deal_all<'p, 'b, K: OfRun, Q: EventQueue<Event> + Drop, J: Site>(
     Ok(())
 }
 
-/// The seats of these posts and of one more.
+/// The seats of these posts and of one more, and what was dealt and taken there.
 fn seats_back<'p, 'b, Q: EventQueue<Event> + Drop, J: Site, K: OfRun>(
     alloc: Global,
     board: &RunBoard<'b, K, Q>,
     one: RunPost<'p, 'b, K, Q, J>,
     others: Result<Vec<RunPost<'p, 'b, K, Q, J>>, Memory>,
-) -> Result<Vec<RunSeat<'b, K, Q>>, Memory>
+) -> Result<(Vec<RunSeat<'b, K, Q>>, RunBoardRecord), Memory>
     requires { table_of board.now ≡ J.table }
-    ensures { IfOk result (λ seats. AreSingleSeats board.now seats.items) }
+    ensures seats { IfOk result (λ back. AreSingleSeats board.now back.0.items) }
+    ensures record { IfOk result (λ back. IsRecordOf back.0.items back.1) }
+    ensures own { IfOk result (λ back. (own_dealt back.1 ≡ dealt_at one.entry) × (own_taken back.1 ≡ taken_at one.entry)) }
 {
-    let mut posts = others?;
-    posts.push(one)?;
-    seats_of(alloc, board, posts)
+    seats_of(alloc, board, one, others?)
 }
 
 /// The first moment that pends in any of these parts, also one past the end.

@@ -8,7 +8,9 @@ ghost use Rattle.lookahead_windows.specs.Basis.{basis_of, GoBy};
 ghost use Rattle.lookahead_windows.specs.Bounds.{AwaitsRounds};
 ghost use Rattle.parallel_run.specs.Shares.{share_of};
 ghost use Rattle.parallel_run.specs.Starting.{MayStart};
+ghost use Rattle.board.specs.Posts.{record_at};
 ghost use Rattle.parallel_run.specs.Messages.{MayEndBy};
+ghost use Rattle.parallel_run.specs.Returned.{TakesBack};
 
 use crate::batch_receiver::BatchReceiver;
 use crate::batches::drained;
@@ -79,6 +81,7 @@ pub(crate) fn run_threads<
     requires none_gathered { T.gathered place.old writer.scenario.now [] }
     ensures trace { KeepsTrace rounds.now.cluster.scenario.now (T.held place.old) (T.held place.new) (T.failed place.old) (T.failed place.new) result.0 }
     ensures gathered { IfOk result.0 (T.gathered place.new rounds.now.cluster.scenario.now) }
+    ensures back { TakesBack (record_at own.entry) (record_at result.1) result.3.senders }
 {
     let (ended, own, posts, ends, _place) = thread::scope(
         thread::scope_env(),
@@ -96,6 +99,7 @@ pub(crate) fn run_threads<
             ensures same { result.4.ghost_name ≡ place.entry.ghost_name }
             ensures trace { KeepsTrace writer.entry.scenario.now (T.held place.entry.now) (T.held result.4.now) (T.failed place.entry.now) (T.failed result.4.now) result.0 }
             ensures gathered { IfOk result.0 (T.gathered result.4.now writer.entry.scenario.now) }
+            ensures back { TakesBack (record_at own.entry) (record_at result.1) result.3.senders }
         {
             let Writer {
                 scenario,
@@ -109,7 +113,7 @@ pub(crate) fn run_threads<
                 Err(fault) => {
                     crew.fail();
                     call_off(rt, &mut own, &mut takers, fault, rounds);
-                    let senders = Ok(Vec::new(alloc));
+                    let senders = Ok(None);
                     return (
                         Err(fault),
                         own,

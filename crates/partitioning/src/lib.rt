@@ -9,5 +9,5 @@ mod round_length;
 mod shared;
 mod sites;
 
-pub use parallel_run::RunRelays;
+pub use parallel_run::RunAccount;
 pub use shared::run_shared;

@@ -4,13 +4,13 @@ ghost use Rattle.scenario.specs.Setup.{member_count};
 ghost use Rattle.trace.specs.Text.{NamesMembers};
 ghost use Rattle.member_laws.specs.Runs.{IsRunOf, CounterOverflows};
 ghost use Rattle.run_output.specs.Promise.{KeepsPromise, ReportOverflows, summed};
-ghost use Rattle.partitioning.specs.Closed.{ClosesRelays};
+ghost use Rattle.partitioning.specs.Closed.{ClosesRelays, SettlesBoard};
 
 use crate::choosing::chosen_parts;
 use crate::hands::simulating;
 use base::{Fault, Memory};
 use lookahead_windows::OpenGate;
-use parallel_run::{RunRelays, run_by_rings};
+use parallel_run::{RunAccount, run_by_rings};
 use reports::Tallies;
 use run_output::{RowObserver, TraceAndGathered, end_run};
 use scenario::{Division, Scenario, Workers};
@@ -30,7 +30,7 @@ use trace::Sink;
 /// What is written is always the same: the trace, and once that is whole and its sink flushed the
 /// report, whose sink is flushed too. After a fault the sinks have got a beginning of that. An observer
 /// gathers of the rows what it does, as they come. `account` gets the relays of a run by several
-/// workers, as they were closed. Returns the tallies of the rows.
+/// workers, as they were closed, and what was dealt and taken on its board. Returns the tallies of the rows.
 ///
 /// Faults: as of `parallel_run::run_by_rings`.
 pub fn run_shared<A: Sink, B: Sink, C: RowObserver, R: Threads + Wait + Sync>(
@@ -41,7 +41,7 @@ pub fn run_shared<A: Sink, B: Sink, C: RowObserver, R: Threads + Wait + Sync>(
     workers: Workers,
     place: &mut TraceAndGathered<A, C>,
     report: &mut B,
-    account: &mut RunRelays,
+    account: &mut RunAccount,
 ) -> Result<Tallies, Fault>
     requires divides { length division.now.part_of ≡ member_count scenario.now }
     requires countable { A.failed place.old.trace < 2 ^ 63 }
@@ -59,6 +59,10 @@ pub fn run_shared<A: Sink, B: Sink, C: RowObserver, R: Threads + Wait + Sync>(
     // By several workers each part of a run that succeeds has a relay, made for the run: what was sent over it was received, the
     // part's last rows too.
     ensures relayed { OnOk result (2 ≤ workers → ClosesRelays scenario.now account.new) }
+
+    // On the board of such a run the calling thread dealt each part, and took back each as it had come to the end. What was dealt at
+    // all seats is what was taken, as often, so a worker took each part, and a worker dealt it back.
+    ensures settled { OnOk result (2 ≤ workers → SettlesBoard scenario.now account.new) }
 
     // No count of its report passes 2^63, and no fault comes without its cause.
     ensures lasts_report { OnOk result (¬ (ReportOverflows scenario.now)) }

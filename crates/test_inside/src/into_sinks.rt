@@ -7,7 +7,7 @@ ghost use Rattle.trace.specs.Memory.{memory_failures};
 
 use base::Fault;
 use lookahead_windows::Gate;
-use parallel_run::{RunRelays, run_by_rings};
+use parallel_run::{RunAccount, run_by_rings};
 use reports::Tallies;
 use run_output::{NothingGathered, Summary, TraceAndGathered};
 use scenario::{Division, Scenario, Workers};
@@ -59,7 +59,7 @@ pub(crate) fn stream(
     summary_of(outcome)
 }
 
-/// Runs the scenario by `run_by_rings`. The account of its relays is dropped.
+/// Runs the scenario by `run_by_rings`. The account of the run is dropped.
 pub(crate) fn run_rings<G: Gate, R: AllocGlobal + Threads + Wait + Sync>(
     rt: &R,
     scenario: &Scenario,
@@ -77,7 +77,7 @@ pub(crate) fn run_rings<G: Gate, R: AllocGlobal + Threads + Wait + Sync>(
 {
     let alloc = rt.alloc();
     let mut place = place_of(rt, trace);
-    let mut account = RunRelays::none(alloc);
+    let mut account = RunAccount::none(alloc);
     let outcome = run_by_rings(
         rt,
         alloc,

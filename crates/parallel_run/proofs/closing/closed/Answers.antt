@@ -1,5 +1,7 @@
-use Rattle.std.proofs.Common.{IsOk, Vec, Global, sym, subst, refl}
+use Rattle.std.proofs.Common.{IsOk, IfOk, Vec, Global, ap, ◌∙◌, sym, subst, refl}
+use Rattle.std.specs.List.{sum_by}
 use Rattle.parallel_run.specs.Closing.{TakesAll}
+use Rattle.parallel_run.specs.Settled.{IsRecordOf, IsSettledFrom}
 use Rattle.base.specs.declared.fault.Fault.TheVariants.{Memory, ThreadLost}
 use Rattle.parallel_run.proofs.ClosingEndings.{breaks_off}
 use Rattle.base.proofs.Faults.{memory≢relay}
@@ -19,3 +21,8 @@ returns-in-Ok-close_board-clause-settled g c =
 
 pub returns-in-Ok-close_board-clause-same : goal.returns-in-Ok-close_board-clause-same
 returns-in-Ok-close_board-clause-same g c = sym c.in-Ok-so_far.is
+
+pub returns-in-Ok-close_board-clause-balance : goal.returns-in-Ok-close_board-clause-balance
+returns-in-Ok-close_board-clause-balance g c =
+    let kept : IsRecordOf c.in-Ok.seats.items c.in-Ok.record = subst (λ b. IfOk b (λ x. IsRecordOf x.0.items x.1)) c.in-Ok.is c.requires.kept in
+    subst (λ b. IsSettledFrom b c.in-Ok.record) (sym c.in-Ok.is) (refl, λ weight. ap (sum_by weight) kept.0 ∙ (c.in-Ok-close_board.ensures.taken weight ∙ ap (sum_by weight) (sym kept.1)))

@@ -1,4 +1,4 @@
-use Rattle.std.proofs.Common.{◌≡◌, ◌<◌, [], ◌∷◌, ◌++◌, map, length, Vec, Global, append_assoc, refl, ap, ◌∙◌, sym, subst, arith}
+use Rattle.std.proofs.Common.{◌≡◌, suc, ◌<◌, [], ◌∷◌, ◌++◌, map, length, Vec, Global, append_assoc, refl, ap, ◌∙◌, sym, subst, arith}
 use Rattle.std.specs.List.{AllByRecursion}
 use Rattle.std.proofs.lemmas.List.{length-append, length-map}
 use Rattle.std.proofs.lemmas.Option.{slice_get_read}
@@ -9,7 +9,9 @@ use Rattle.parallel_run.specs.declared.peers.Peer.{Peer}
 use Rattle.parallel_run.specs.declared.process.Process.{Process}
 use Rattle.parallel_run.specs.declared.connections.Connections.{Connections}
 use Rattle.parallel_run.specs.Peers.{AreJoined, AreOthers, numbers_of}
-use Rattle.parallel_run.specs.Processes.{IsReady}
+use Rattle.parallel_run.specs.Dealt.{all_begun}
+use Rattle.parallel_run.specs.Processes.{IsReady, begun_entry}
+use Rattle.parallel_run.proofs.Dealing.{begun_more}
 use Rattle.parallel_run.proofs.Joining.{rings_of, joined_there}
 use Rattle.parallel_run.proofs.JoiningPlaces.{all_with_one}
 use Rattle.parallel_run.proofs.PeersOpening.{begins_first, one_less}
@@ -28,6 +30,7 @@ loop-part-init g c =
       ends = c.requires.ends ∙ ap length (sym c.into_iter-part-iterator.ensures.into_iter_gives.0);
       rings = sym (length-map peers rings_of) ∙ are.counted;
       others = λ i own low here. joined_there (length parts) i peers own are here;
+      numbers = ap (λ l. map begun_entry l) c.new-processes.ensures.items ∙ ap (λ l. all_begun (length l)) (sym c.new-processes.ensures.items);
       processes = λ basis is. subst (AllByRecursion (IsReady g.Q.EventQueue.set basis)) (sym c.new-processes.ensures.items) tt;
     }
 
@@ -52,6 +55,7 @@ loop-part-preserved g c =
     (subst (λ (v : Vec (Peer g.row.K.Denot) Global). AreOthers (length c.args.parts.items) number (numbers_of v.items)) (sym c.replace-own.ensures.value) (so_far.others number c.index_mut.result.now (omega arith) there)) in
     let lines : Connections g.row.K.Denot g.K.OfRun = record { number = number; peers = own; lots = c.in-Some-pop.field-0.sender } in
     let process : Process g.row.K.Denot g.row.Q.Denot g.K.OfRun = record { part = part; round = 0; first = c.same_moment.result; gathered = c.new-gathered.result; lines = lines } in
+    let longer : suc (length c.loop-part.processes.items) ≡ length c.push.new.self.items = omega (arith, c.in_ok-push.ensures.len) in
     record {
       left = append_assoc yielded (part ∷ []) rest ∙ all;
       count = omega (arith, c.in_ok-push.ensures.len, more, so_far.count);
@@ -59,6 +63,9 @@ loop-part-preserved g c =
       ends = one_less _ _ _ _ _ _ c.in-Some-pop.ensures.items c.in-Some.ensures.steps.0 so_far.ends;
       rings = same_count peers number c.replace-own.new.dest ∙ so_far.rings;
       others = λ i peers low here. so_far.others i peers (omega (arith, more)) (sym (elsewhere c.loop-part.peers.items number i c.replace-own.new.dest (λ same. omega (arith, more))) ∙ here);
+      numbers =
+          begun_more c.loop-part.processes.items c.push.new.self.items process (length c.loop-part.processes.items) c.in_ok-push.ensures.items refl (omega (arith, is_next, so_far.count)) so_far.numbers
+          ∙ ap all_begun longer;
       processes = λ basis is.
           let given = c.requires.run basis is in
           let begun = begins_first g.Q.EventQueue.set basis c.args.parts.items yielded rest part c.same_moment.result lines given.1 (subst (IsFirstMoment (opening basis.setup)) (sym c.same_moment.ensures) given.2) all is_next others in

@@ -1,4 +1,4 @@
-use Rattle.std.proofs.Common.{◌≡◌, ◌↔◌, ℕ, List, Option, ◌∙◌, subst, refl}
+use Rattle.std.proofs.Common.{◌≡◌, ◌↔◌, ℕ, List, Option, OnOk, ap, ◌∙◌, sym, subst, refl}
 use Rattle.std.specs.FinMap.{FinMap, get}
 use Rattle.base.specs.Order.{key_cmp}
 use Rattle.member.specs.declared.event.Event.{Event}
@@ -11,6 +11,7 @@ use Rattle.turns.proofs.Goes.{none_of_parts, none_of_world}
 use Rattle.lookahead_windows.specs.Starts.{IsUpTo, IsFirstMoment}
 use Rattle.lookahead_windows.specs.Basis.{Basis, IsBasis, basis_of}
 use Rattle.run_output.proofs.Early.{no_memory}
+use Rattle.parallel_run.specs.Dealt.{AreDealt, all_begun}
 use Rattle.parallel_run.proofs.WritingTurns.{one_basis}
 use Rattle.parallel_run.proofs.run.by_workers.Goals as goal
 
@@ -68,3 +69,9 @@ over_board-outcome-requires-clause-start g c = λ loans lives. record {
 
 pub returns-clause-relayed : goal.returns-clause-relayed
 returns-clause-relayed g c = c.over_board-outcome.ensures.relayed
+
+pub over_board-outcome-requires-clause-numbers : goal.over_board-outcome-requires-clause-numbers
+over_board-outcome-requires-clause-numbers g c = λ loans lives. c.in_ok-processes.ensures.numbers ∙ ap all_begun (c.in_ok-processes.ensures.count ∙ sym c.requires.parts_each)
+
+pub returns-clause-settled : goal.returns-clause-settled
+returns-clause-settled g c = subst (λ n. OnOk c.over_board-outcome.result.0 (AreDealt n c.over_board-outcome.result.2)) c.requires.parts_each c.over_board-outcome.ensures.dealt

@@ -1,7 +1,8 @@
-use Rattle.std.proofs.Common.{Err, refl, sym, subst}
+use Rattle.std.proofs.Common.{Err, length, refl, sym, subst}
 use Rattle.run_output.specs.Traced.{KeepsTrace}
 use Rattle.run_output.proofs.Early.{unwritten}
 use Rattle.parallel_run.proofs.ClosingEndings.{on_same, if_same}
+use Rattle.parallel_run.proofs.Dealing.{settled_whole}
 use Rattle.parallel_run.proofs.run.over_board.Goals as goal
 
 pub returns-in-Err-clause-trace : goal.returns-in-Err-clause-trace
@@ -21,3 +22,6 @@ returns-clause-gathered g c = if_same c.closed-outcome.result.0 c.in-Ok.ended.0 
 
 pub returns-clause-relayed : goal.returns-clause-relayed
 returns-clause-relayed g c = on_same c.closed-outcome.result.0 c.in-Ok.ended.0 _ c.closed-outcome.ensures.same c.in-Ok.ensures.relayed
+
+pub returns-clause-dealt : goal.returns-clause-dealt
+returns-clause-dealt g c = settled_whole (length c.args.relays.now) c.closed-outcome.result.0 c.in-Ok.ended.0 c.in-Ok.ended.1 c.closed-outcome.result.2 c.closed-outcome.ensures.same c.in-Ok.ensures.own c.closed-outcome.ensures.balance

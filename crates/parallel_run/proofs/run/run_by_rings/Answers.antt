@@ -8,6 +8,7 @@ use Rattle.run_output.specs.Promise.{ReportOverflows}
 use Rattle.run_output.proofs.Faults.{if_same, ok_too, on_came, still_countable}
 use Rattle.base.proofs.Faults.{write≢relay}
 use Rattle.parallel_run.specs.Relays.{AreClosed}
+use Rattle.parallel_run.specs.Settled.{IsSettled}
 use Rattle.parallel_run.proofs.run.run_by_rings.Goals as goal
 
 pub end_run-requires-clause-named : goal.end_run-requires-clause-named
@@ -44,3 +45,6 @@ returns-clause-gathered g c = if_same _ c.end_run.result c.run_into-outcome.resu
 
 pub returns-clause-relayed : goal.returns-clause-relayed
 returns-clause-relayed g c = on_came (AreClosed c.args.scenario.now c.args.division.now c.run_into-outcome.new.account) c.end_run.result c.run_into-outcome.result (ok_too c.end_run.result c.run_into-outcome.result c.end_run.ensures.came) c.run_into-outcome.ensures.relayed
+
+pub returns-clause-settled : goal.returns-clause-settled
+returns-clause-settled g c = on_came (IsSettled c.args.division.now c.run_into-outcome.new.account) c.end_run.result c.run_into-outcome.result (ok_too c.end_run.result c.run_into-outcome.result c.end_run.ensures.came) c.run_into-outcome.ensures.settled

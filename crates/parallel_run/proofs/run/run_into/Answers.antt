@@ -9,9 +9,10 @@ use Rattle.lookahead_windows.specs.Basis.{way_at}
 use Rattle.run_output.proofs.Early.{no_memory}
 use Rattle.lookahead_windows.specs.Basis.{basis_of}
 use Rattle.lookahead_windows.specs.Walks.{AreRoundWays}
+use Rattle.parallel_run.specs.Dealt.{AreDealt}
 use Rattle.parallel_run.specs.Relaying.{RowRelay, basis_by, basis_in}
 use Rattle.parallel_run.specs.Relays.{AreNewSeats}
-use Rattle.parallel_run.specs.declared.closed_relay.RunRelays.{RunRelays}
+use Rattle.parallel_run.specs.declared.closed_relay.RunAccount.{RunAccount}
 use Rattle.parallel_run.proofs.Relaying.{are_closed}
 use Rattle.parallel_run.proofs.GateBounds.{awaits_rounds, ways_of}
 use Rattle.parallel_run.proofs.run.run_into.Goals as goal
@@ -74,10 +75,20 @@ by_workers-requires-clause-seats_each g c _ _ = omega (arith, c.in_ok-relays.ens
 
 pub returns-clause-relayed : goal.returns-clause-relayed
 returns-clause-relayed g c =
-    let account : RunRelays = record { relays = c.of-2.result; closed = c.by_workers.new.ended } in
+    let account : RunAccount = record { relays = c.of-2.result; closed = c.by_workers.new.ended; board = c.by_workers.new.record } in
     let made = c.in_ok-relays.ensures.count.0 in
     let each = c.in_ok-parts.ensures.opened.count in
     on_ok_weaker c.by_workers.result
     (λ relayed. are_closed c.args.scenario.now c.args.division.now c.deref.result.now (basis_in c.of-run.result) account c.in_ok-relays.relays c.deref-2.result.now c.of-2.ensures
     (c.of-run.ensures ∙ ap (λ ways. basis_by c.args.scenario.now c.args.division.now ways) (sym c.deref.ensures.value)) (omega (arith, made, each, c.len.ensures))
     c.in_ok-relays.ensures.given c.deref-2.ensures.value relayed) c.by_workers.ensures.relayed
+
+pub by_workers-requires-clause-parts_each : goal.by_workers-requires-clause-parts_each
+by_workers-requires-clause-parts_each g c _ _ = omega (arith, c.in_ok-relays.ensures.count.0, ap length c.deref-2.ensures.value, c.len.ensures)
+
+-- ---- what was dealt and taken on the board
+
+pub returns-clause-settled : goal.returns-clause-settled
+returns-clause-settled g c =
+    let some = c.parts.ensures in
+    on_ok_weaker c.by_workers.result (λ dealt. (omega (arith, some.at_most_64.0, some.value), subst (λ n. AreDealt n c.by_workers.new.record) c.in_ok-parts.ensures.opened.count dealt)) c.by_workers.ensures.settled

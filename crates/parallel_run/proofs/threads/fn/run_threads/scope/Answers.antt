@@ -13,6 +13,7 @@ returns-in-Err g c =
       same = refl;
       trace = unwritten _ _ _ _ c.in-Err.fault (subst IsSound (sym start.writes.one) start.going.basis.plan.sound) refl c.in-Err.ensures;
       gathered = tt;
+      back = tt;
     }
 
 pub write_all-written-requires : goal.write_all-written-requires
