@@ -15,8 +15,8 @@ use Rattle.sweep.specs.Table.{counts_revived}
 use Rattle.sweep.specs.Resumed.{IsLong, IsShort, runs_in}
 use Rattle.sweep.specs.Sums.{key_of_text}
 use Rattle.sweep_until.specs.Shards.{settings_in, first_setting}
-use Rattle.resume.specs.Begun.{AreSettingsBehind}
-use Rattle.resume.proofs.Standing.{can_go_on}
+use Rattle.table_rows.specs.Begun.{AreSettingsBehind}
+use Rattle.table_rows.proofs.Standing.{can_go_on}
 use Rattle.sweep.specs.Runs.{IsAskedFor}
 use Rattle.figures.specs.declared.summary.SettingSummary.{SettingSummary}
 use Rattle.command_line.specs.declared.words.SweepWords.{SweepWords}

@@ -16,7 +16,7 @@ use Rattle.sweep.specs.Shards.{AreMadeIn, shard_table}
 use Rattle.sweep.specs.Resumed.{AreMadeBehind, IsBegun, RefusesBegun, rest_text}
 use Rattle.sweep.specs.declared.begun.BegunFault.{BegunFault}
 use Rattle.figures.specs.Notes.{Note}
-use Rattle.resume.specs.Begun.{IsBegunSettings, RefusesBegunSettings}
+use Rattle.table_rows.specs.Begun.{IsBegunSettings, RefusesBegunSettings}
 use Rattle.sweep_until.specs.Shards.{AreSettingsBehind, AreSettingsIn, CanGoOn}
 use Rattle.sweep_until.specs.Until.{SumsUp, all_of}
 

@@ -6,19 +6,19 @@ ghost use Rattle.shards.specs.Shards.{IsShard};
 ghost use Rattle.scenario_files.specs.Shelves.{IsUnread};
 ghost use Rattle.sweep.specs.Runs.{IsAskedFor};
 ghost use Rattle.sweep.specs.Resumed.{IsBegun, RefusesBegun};
-ghost use Rattle.resume.specs.Begun.{IsBegunSettings, RefusesBegunSettings};
+ghost use Rattle.table_rows.specs.Begun.{IsBegunSettings, RefusesBegunSettings};
 ghost use Rattle.sweep_command.specs.Outcomes.{CannotGoOn, GoesOn, HeldSoFar, RefusesSoFar, shard_resumed};
 ghost use Rattle.sweep_command.specs.Runs.{AreBegun, RefusesTable, standing};
 
 use command_line::{Failure, ShardFault, SweepWords};
 use figures::RunMetadata;
 use files::{Files, ReadFault};
-use resume::begun_settings_of;
 use scenario_files::MarkedDocument;
 use shards::Shard;
 use std::alloc::Global;
 use sweep::{BegunFault, begun_of};
 use sweep_plan::Plan;
+use table_rows::begun_settings_of;
 
 /// What stays of a shard's table that was made before it was cut off; nothing where no shard goes on.
 #[derive(Drop)]

@@ -8,3 +8,6 @@ pub mod SettingsOf
 pub mod OpenRows
 pub mod MadeLines
 mod Written
+mod Again
+mod CutSettings
+pub mod Standing

@@ -4,3 +4,5 @@ pub mod Settings
 pub mod Open
 pub mod Refused
 pub mod Made
+pub mod Begun
+pub mod Cut

@@ -1,6 +1,7 @@
-//! The lines of a sweep's table, with checksum and metadata: how they are written and read.
+//! The lines of a sweep's table, with checksum and metadata: how they are written and read, and which stay of a table with `--until` that was interrupted.
 #![tactic(auto)]
 
+mod begun;
 mod by_settings;
 mod fault;
 pub mod laws;
@@ -8,6 +9,7 @@ mod lines;
 mod opened;
 mod settings_of;
 
+pub use begun::{BegunSettings, begun_settings_of};
 pub use by_settings::{read_setting, read_settings};
 pub use fault::LineFault;
 pub use lines::{read_line, read_lines};

@@ -1,7 +1,7 @@
 use Rattle.std.proofs.Common.{[], drop, subst, sym}
 use Rattle.std.specs.Str.{IsValidUpTo}
-use Rattle.resume.proofs.Standing.{front_read, whole_read}
-use Rattle.resume.proofs.begun.read_front.Goals as goal
+use Rattle.table_rows.proofs.Standing.{front_read, whole_read}
+use Rattle.table_rows.proofs.begun.read_front.Goals as goal
 
 pub returns-in-Ok : goal.returns-in-Ok
 returns-in-Ok c = ([], whole_read c.args.text.now c.in-Ok.words.now (rw c.in-Ok.is at c.from_utf8.ensures.cases).0)

@@ -1,4 +1,4 @@
-use Rattle.resume.proofs.begun.read_up_to.Goals as goal
+use Rattle.table_rows.proofs.begun.read_up_to.Goals as goal
 
 pub returns-in-Ok : goal.returns-in-Ok
 returns-in-Ok c = (rw c.in-Ok.is at c.from_utf8.ensures.cases).0

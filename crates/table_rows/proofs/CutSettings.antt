@@ -33,9 +33,9 @@ use Rattle.table_rows.proofs.MadeLines.{line_from, lines_sound, setting_from, se
 use Rattle.table_rows.proofs.SettingsOf.{settings_counted, whole_settings}
 use Rattle.table_rows.proofs.OneSetting.{same_setting}
 use Rattle.table_rows.proofs.Read.{zipped_both}
-use Rattle.resume.specs.Begun.{AreLinesBehind, AreSettingsBehind, IsBegunSettings, RefusesBegunSettings}
-use Rattle.resume.specs.Cut.{IsCutShardOfSettings}
-use Rattle.resume.proofs.Again.{begin_setting, setting_again}
+use Rattle.table_rows.specs.Begun.{AreLinesBehind, AreSettingsBehind, IsBegunSettings, RefusesBegunSettings}
+use Rattle.table_rows.specs.Cut.{IsCutShardOfSettings}
+use Rattle.table_rows.proofs.Again.{begin_setting, setting_again}
 
 same_width : (a b : ℕ) → ◌≡◌ {A = Option ℕ} (Some a) (Some b) → a ≡ b
 same_width a b same = cc

@@ -7,8 +7,10 @@ ghost use Rattle.sweep.specs.Runs.{IsAskedFor};
 ghost use Rattle.sweep_plan.specs.Sweep.{setting_count};
 ghost use Rattle.table_rows.specs.Open.{BeginsWithOpen};
 ghost use Rattle.table_rows.specs.Settings.{HasSettingOf};
-ghost use Rattle.resume.specs.Begun.{IsBegunSettings, IsRead, RefusesBegunSettings};
+ghost use Rattle.table_rows.specs.Begun.{IsBegunSettings, IsRead, RefusesBegunSettings};
 
+use crate::opened::open_rows;
+use crate::settings_of::settings_of_runs;
 use base::Memory;
 use figures::RunMetadata;
 use shards::Shard;
@@ -16,7 +18,6 @@ use std::alloc::Global;
 use std::str::from_utf8;
 use sweep::{BegunFault, LineKey, key_of_text, lines_behind};
 use sweep_plan::Plan;
-use table_rows::{open_rows, settings_of_runs};
 use toml::Value;
 
 /// What of the table of a shard was made before it was cut off, where a setting has as many runs as it needs.

@@ -21,7 +21,7 @@ use Rattle.sweep_until.specs.Until.{AreTooFew}
 use Rattle.sweep_until.proofs.ShardSettings.{none_yet}
 use Rattle.table_rows.specs.Lines.{notes_of}
 use Rattle.table_rows.specs.Settings.{BeginsWithSettings, HasSettingOf, shard_setting}
-use Rattle.resume.specs.Begun.{AreLinesBehind, AreSettingsBehind, IsBegunSettings, IsRead}
+use Rattle.table_rows.specs.Begun.{AreLinesBehind, AreSettingsBehind, IsBegunSettings, IsRead}
 
 -- ---- the beginning of a text that is UTF-8
 

@@ -6,8 +6,8 @@ use Rattle.sweep.specs.Shards.{shard_header}
 use Rattle.sweep.specs.Table.{counts_revived}
 use Rattle.sweep_until.specs.Shards.{settings_in, first_setting}
 use Rattle.sweep_until.proofs.ShardSettings.{a_width, settings_within, few_settings}
-use Rattle.resume.proofs.Standing.{after_within, front_within, left_within, lines_behind, long_stands, rest_within, short_stands}
-use Rattle.resume.proofs.begun.begun_settings_of.Goals as goal
+use Rattle.table_rows.proofs.Standing.{after_within, front_within, left_within, lines_behind, long_stands, rest_within, short_stands}
+use Rattle.table_rows.proofs.begun.begun_settings_of.Goals as goal
 
 pub returns-in_default-clause-begun : goal.returns-in_default-clause-begun
 returns-in_default-clause-begun c =

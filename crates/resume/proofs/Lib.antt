@@ -1,3 +1,0 @@
-mod Again
-mod CutSettings
-pub mod Standing
