@@ -92,17 +92,17 @@ impl<E: Ends + Drop> Pipes<E> {
         Ok(())
     }
 
-    /// Its next line, without the line feed; what was sent goes out before. It waits for it without limit.
+    /// Its next line, without the line feed. It waits for it without limit; what was sent goes out before it waits.
     pub fn receive(&mut self) -> Result<Vec<u8>, ReceiveError>
         ensures { IfOk result
             (λ line. FlowsTo (E.came self.old.ends) (E.came self.new.ends) self.old.incoming (line.items ++ 10 ∷ self.new.incoming)) }
     {
-        self.hand_on()?;
         for _ in 0..u64::MAX {
             match self.incoming.take_line(self.alloc)? {
                 Found::Line(line) => return Ok(line),
                 Found::Long => return Err(ReceiveError::Long),
                 Found::Part => {
+                    self.hand_on()?;
                     if !self.take_in()? {
                         return Err(ReceiveError::Ended);
                     }
