@@ -16,6 +16,10 @@ impl ItemRule<u64, u64> for Small {
     ghost stands_for = { λ x. x };
 
     ghost belongs = { λ x. x < 100 };
+
+    fn entry_of(item: &u64) -> u64 {
+        *item
+    }
 }
 
 type Numbers = Board<u64, u64, Small>;
