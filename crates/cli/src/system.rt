@@ -10,6 +10,7 @@ use command_line::{Release, refuse};
 use drive_command::PipeHarness;
 use drive_pipes::SendError;
 use drive_pipes::system::{StandardEnds, Writer, start_writer};
+use drive_world::Harness;
 pub use files::system::SystemFiles;
 use std::fs;
 use std::io::{Print, Read, Write};
@@ -58,7 +59,7 @@ pub fn run_program<
             let writer = writer_of(*rt, words.as_slice(), output);
             let ends = StandardEnds::new(*rt, rt.alloc(), input, writer);
             let mut harness = PipeHarness::new(rt.alloc(), ends);
-            command(
+            let status = command(
                 rt,
                 rt.alloc(),
                 release,
@@ -71,7 +72,10 @@ pub fn run_program<
                 is_terminal(rt),
                 most_workers(rt),
                 &SystemSurroundings { runtime: rt },
-            )
+            );
+            // What was sent goes out, however a drive ends; the thread that writes it has ended then.
+            let _ = harness.flush();
+            status
         }
         Err(failure) => refuse(&failure, err),
     };

@@ -8,8 +8,8 @@ use std::mem;
 use std::sync::Wait;
 use std::thread::{self, JoinHandle, Threads};
 
-/// The thread that writes to standard output, and what is sent to it. The thread returns whether all could be written. If it
-/// isn't flushed, nobody waits for it: a harness that doesn't read can't hold up the end of the program.
+/// The thread that writes to standard output, and what is sent to it. The thread returns whether all could be
+/// written.
 #[derive(Drop)]
 pub struct Writer {
     sender: Sender<Vec<u8>, Global>,
