@@ -70,19 +70,26 @@ def check_own(program, text):
         expect(seen, program.held(seen), program.held(wanted))
 
 
+def answer_on(world):
+    """Answers event after event until the world takes no more; each answer makes an event more."""
+    try:
+        while world.poll() is None:
+            world.stdin.write(ANSWERS * b'[{"timer":1,"after":1}]\n')
+            world.stdin.flush()
+    except BrokenPipeError:
+        pass
+
+
 def check_closed(program, text):
-    """A harness that closes standard output after the first event ends the drive with status 1, one that closes both with 6 or 1."""
-    program.keep('s.toml', text)
+    """A harness that closes standard output after the first event, and goes on to answer, ends the drive with status 1."""
+    program.keep('s.toml', text.replace('end = 3', 'end = 1099511627776'))
     with subprocess.Popen(drive_words(program), cwd=program.folder, stdin=subprocess.PIPE, stdout=subprocess.PIPE,
-                          stderr=subprocess.PIPE) as world:
+                          stderr=subprocess.PIPE, bufsize=0) as world:
         told = world.stdout.readline()
         world.stdout.close()
-        # each answer makes an event more, so that the world soon writes again
-        world.stdin.write(ANSWERS * b'[{"timer":1,"after":1}]\n')
-        world.stdin.flush()
+        answer_on(world)
         status = world.wait(SECONDS)
         said = world.stderr.read()
-        world.stdin.close()
     expect('the first event', b'"event":"start"' in told, True)
     expect('status', status, 1)
     expect('standard error', said, b'')
