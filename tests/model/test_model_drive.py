@@ -99,7 +99,7 @@ def check_own(_, text):
 
 
 def check_random(_, number):
-    check_own(_, run_case(SEED, number, NEWEST)[0])
+    check_own(_, run_case(SEED, number, NEWEST)[0].decode())
 
 
 def cases():
