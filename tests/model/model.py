@@ -51,7 +51,8 @@ def rows_of(scenario):
     return Run(scenario).go()
 
 
-def main():
+def asked():
+    """The scenario of the file that the words name, and the words; a refused scenario ends the program."""
     arguments = argparse.ArgumentParser()
     arguments.add_argument('file', type=Path)
     arguments.add_argument('--trace', type=Path)
@@ -60,6 +61,11 @@ def main():
     rule, scenario = judge(document_of(options.file.read_bytes()), NEWEST)
     if rule:
         sys.exit(f'scenario rule {rule}')
+    return scenario, options
+
+
+def main():
+    scenario, options = asked()
     rows = rows_of(scenario)
     if options.trace:
         options.trace.write_text(trace_of(scenario, rows))

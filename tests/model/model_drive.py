@@ -8,19 +8,17 @@ scenario with a harness: an object whose `tell` takes the line of an event and w
 the harness wrote, or what there is of it. tests/model/model_harness.py is such a harness.
 """
 
-import argparse
 import collections
 import heapq
 import json
 import os
 import sys
-from pathlib import Path
 
+from model import asked
 from model_answers import LONGEST, NoAnswer, Send, Timer, Told, Used, answer_of
 from model_links import Draws, arrival, awake
 from model_member import Event
 from model_text import Row, report_of, trace_of
-from scenarios import NEWEST, document_of, judge
 
 # what the world tells of a member before and while it runs
 SCRIPT = ('start', 'crash', 'leave')
@@ -266,14 +264,7 @@ def played(drive, options):
 
 
 def main():
-    arguments = argparse.ArgumentParser()
-    arguments.add_argument('file', type=Path)
-    arguments.add_argument('--trace', type=Path)
-    arguments.add_argument('--report', type=Path)
-    options = arguments.parse_args()
-    rule, scenario = judge(document_of(options.file.read_bytes()), NEWEST)
-    if rule:
-        sys.exit(f'scenario rule {rule}')
+    scenario, options = asked()
     # what is left to be flushed to a pipe that is closed is given up
     os._exit(played(Drive(scenario, Pipes()), options))
 
