@@ -19,7 +19,7 @@ use Rattle.scenario.specs.declared.settings.Path.{Path}
 use Rattle.scenario.specs.declared.settings.Slow.{Slow}
 use Rattle.scenario.specs.declared.settings.Cut.{Cut}
 use Rattle.scenario.proofs.Between.{last_more}
-use Rattle.links.specs.Entries.{pair_cmp, numbered, number_in, slow_spans, spans_in, span_of, covers, extra_in, outages_in}
+use Rattle.links.specs.Entries.{pair_cmp, numbered, KeepsNumbers, number_in, slow_spans, spans_in, span_of, covers, extra_in, outages_in}
 use Rattle.scenario.specs.Spells.{is_in_any, HaveBegun}
 use Rattle.scenario.specs.declared.spells.Spell.{Spell}
 use Rattle.links.specs.declared.spans.times.SlowSpan.{SlowSpan}
@@ -55,7 +55,7 @@ numbered_before links x (suc k) few =
     ∙ ap Some (get_or_append_left links (x ∷ []) x k within)
     ∙ sym (slice_get-get_or links k x within)
 
-numbered_last : (links : List Link) (x : Link) (number : ℕ) → number ≡ length (links ++ x ∷ []) → numbered (links ++ x ∷ []) number ≡ Some x
+pub numbered_last : (links : List Link) (x : Link) (number : ℕ) → number ≡ length (links ++ x ∷ []) → numbered (links ++ x ∷ []) number ≡ Some x
 unfolding numbered
 numbered_last links x zero is = absurd (omega (arith, is, length-append links (x ∷ [])))
 numbered_last links x (suc k) is =
@@ -63,10 +63,23 @@ numbered_last links x (suc k) is =
     slice_get-get_or (links ++ x ∷ []) k x (omega (arith, is))
     ∙ ap Some (get_or_push links x x k last)
 
-put_numbered : (links : List Link) (x : Link) (b : Bool) (number old : ℕ) → number ≡ length (links ++ x ∷ []) → old ≤ length links
-    → numbered (links ++ x ∷ []) (cond b number old) ≡ cond b (Some x) (numbered links old)
-put_numbered links x true number old is few = numbered_last links x number is
-put_numbered links x false number old is few = numbered_before links x old few
+pub keeps_behind : (old new : List Link) (x : Link) → new ≡ old ++ x ∷ [] → KeepsNumbers old new
+keeps_behind old new x pushed = record {
+  more = let long : length new ≡ length old + 1 = ap length pushed ∙ length-append old (x ∷ []) in omega (arith, long);
+  same = λ number few. ap (λ ls. numbered ls number) pushed ∙ numbered_before old x number few;
+}
+
+pub keeps_all : (links : List Link) → KeepsNumbers links links
+keeps_all links = record { more = omega arith; same = λ number few. refl }
+
+pub numbered_there : (links : List Link) (x : Link) (place : ℕ) → slice_get links place ≡ Some x → numbered links (place + 1) ≡ Some x
+unfolding numbered
+numbered_there links x place there = ap (numbered links) (let next : place + 1 ≡ suc place = omega arith in next) ∙ there
+
+put_numbered : (old new : List Link) (x : Link) (b : Bool) (number before : ℕ) → KeepsNumbers old new → numbered new number ≡ Some x → before ≤ length old
+    → numbered new (cond b number before) ≡ cond b (Some x) (numbered old before)
+put_numbered old new x true number before kept is few = is
+put_numbered old new x false number before kept is few = kept.same before few
 
 -- a table without rows has no path
 pub no_number : (rows : List (Vec ℕ Global)) (from to : ℕ) → rows ≡ [] → number_in rows from to ≡ 0
@@ -82,25 +95,24 @@ unfolding numbered
 counted_from_one links zero some = absurd (some refl)
 counted_from_one links (suc k) some = ap (slice_get links) (omega arith)
 
--- the number of a path of so many links is at most their count, and stays so
-pub number_small : (old_rows new_rows : List (Vec ℕ Global)) (old new : List Link) (x : Link) (named : Bool) (number from to : ℕ) → new ≡ old ++ x ∷ [] → number ≡ length new
+-- the number of a path is at most the count of links, and stays so
+pub number_small : (old_rows new_rows : List (Vec ℕ Global)) (old new : List Link) (named : Bool) (number from to : ℕ) → KeepsNumbers old new → number ≤ length new
     → number_in new_rows from to ≡ cond named number (number_in old_rows from to)
     → number_in old_rows from to ≤ length old → number_in new_rows from to ≤ length new
-number_small old_rows new_rows old new x true number from to pushed is put_in few = omega (arith, is, put_in)
-number_small old_rows new_rows old new x false number from to pushed is put_in few = let long : length new ≡ length old + 1 = ap length pushed ∙ length-append old (x ∷ []) in omega (arith, long, put_in, few)
+number_small old_rows new_rows old new true number from to kept small put_in few = omega (arith, small, put_in)
+number_small old_rows new_rows old new false number from to kept small put_in few = let more = kept.more in omega (arith, more, put_in, few)
 
 -- a path that is put over the paths so far: its groups have the number of its link
 pub routes_more : (old_rows new_rows : List (Vec ℕ Global)) (old new : List Link) (ps : List Path) (i : ℕ) (d : Path) (number : ℕ) (link : Link) (from to : ℕ) → i < length ps
-    → new ≡ old ++ (get_or ps i d).link ∷ [] → number ≡ length new
+    → KeepsNumbers old new → numbered new number ≡ Some (get_or ps i d).link
     → number_in new_rows from to ≡ cond (leads from to (get_or ps i d)) number (number_in old_rows from to)
     → number_in old_rows from to ≤ length old
     → unwrap_or (numbered old (number_in old_rows from to)) link ≡ last_link link (map (λ p. p.link) (filter (leads from to) (take i ps)))
     → unwrap_or (numbered new (number_in new_rows from to)) link ≡ last_link link (map (λ p. p.link) (filter (leads from to) (take (i + 1) ps)))
-routes_more old_rows new_rows old new ps i d number link from to within pushed is put_in few before =
+routes_more old_rows new_rows old new ps i d number link from to within kept is put_in few before =
     let p = get_or ps i d in
     ap (λ n. unwrap_or (numbered new n) link) put_in
-    ∙ ap (λ ls. unwrap_or (numbered ls (cond (leads from to p) number (number_in old_rows from to))) link) pushed
-    ∙ ap (λ o. unwrap_or o link) (put_numbered old p.link (leads from to p) number (number_in old_rows from to) (is ∙ ap length pushed) few)
+    ∙ ap (λ o. unwrap_or o link) (put_numbered old new p.link (leads from to p) number (number_in old_rows from to) kept is few)
     ∙ put (leads from to p) p.link (numbered old (number_in old_rows from to)) link
     ∙ ap (λ l. if leads from to p then p.link else l) before
     ∙ sym (last_more link (leads from to) ps i d (leads from to p) within refl)

@@ -1,5 +1,5 @@
 -- What the maps of the table of links give.
-use Rattle.std.specs.Prelude.{ℕ, Bool, ◌&&◌, nat_le, nat_lt, nat_eq, List, [], map, filter, Option, unwrap_or, slice_get, get_or, zero, suc, None, Vec}
+use Rattle.std.specs.Prelude.{◌≡◌, ◌≤◌, length, ℕ, Bool, ◌&&◌, nat_le, nat_lt, nat_eq, List, [], map, filter, Option, unwrap_or, slice_get, get_or, zero, suc, None, Vec}
 use Rattle.std.specs.Option.{option_map_or, option_and_then}
 use Rattle.std.specs.List.{find, slice_index_or}
 use Rattle.std.specs.Map.{lookup}
@@ -25,6 +25,11 @@ number_in rows from to = option_map_or (λ row. get_or row.items to 0) (slice_ge
 unfoldable pub numbered : List Link → ℕ → Option Link
 numbered links zero = None
 numbered links (suc k) = slice_get links k
+
+-- each number that names a link names the same one as before
+pub record KeepsNumbers (before after : List Link) : Type 0 where
+  pub more : length before ≤ length after
+  pub same : (number : ℕ) → number ≤ length before → numbered after number ≡ numbered before number
 
 -- the link from one group to another, if a path names them
 abbrev pub route : Routes → ℕ → ℕ → Option Link

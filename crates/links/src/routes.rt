@@ -1,12 +1,15 @@
 //! Which link joins two groups: of several `[[path]]` entries for one pair of groups the last one counts.
-ghost use Rattle.std.specs.Prelude.{◌≡◌, ℕ, ◌<◌, ◌&&◌, nat_eq, cond, map, filter, get_or, length, IfOk, OnOk, unwrap_or, vec_len};
+ghost use Rattle.std.specs.Prelude.{◌≡◌, ℕ, ◌<◌, ◌≤◌, ◌&&◌, nat_eq, cond, map, filter, get_or, length, Some, IfOk, IfSome, OnOk, unwrap_or, vec_len, slice_get};
 ghost use Rattle.std.specs.Option.{option_copied};
 ghost use Rattle.scenario.specs.Setup.{leads, last_link};
-ghost use Rattle.links.specs.Entries.{number_in, route};
+ghost use Rattle.links.specs.Entries.{number_in, numbered, route, KeepsNumbers};
 
 use base::Memory;
 use scenario::{Link, Path};
 use std::alloc::Global;
+
+/// Among how many links an equal one is looked for: a text names many paths, but few different links.
+const SEARCHED: usize = 64;
 
 /// The links of paths, found by the numbers of two groups without a search.
 #[derive(Drop)]
@@ -14,7 +17,7 @@ pub(crate) struct Routes {
     /// For each sending group, the number of its path to each receiving group. Numbers count from 1; 0 is no path.
     /// Groups past the last one that a path names have no place.
     pub(crate) rows: Vec<Vec<usize>>,
-    /// The link of each path, in the order of the text.
+    /// The links of the paths. Of equal ones among the first, one stands for all: so a table that is used often stays small.
     pub(crate) links: Vec<Link>,
 }
 
@@ -51,10 +54,34 @@ pub(crate) fn routes_of(alloc: Global, paths: &[Path]) -> Result<Routes, Memory>
         links: Vec::new(alloc),
     };
     for path in paths {
-        routes.links.push(path.link)?;
-        number_path(alloc, &mut routes.rows, path, routes.links.len())?;
+        let number = number_of(&mut routes.links, path.link)?;
+        number_path(alloc, &mut routes.rows, path, number)?;
     }
     Ok(routes)
+}
+
+/// The number of a link: that of an equal one, or the next one, which it takes.
+fn number_of(links: &mut Vec<Link>, link: Link) -> Result<usize, Memory>
+    ensures kept { OnOk result (KeepsNumbers links.old.items links.new.items) }
+    ensures numbered { IfOk result (λ number. (number ≤ length links.new.items) × (numbered links.new.items number ≡ Some link)) }
+{
+    if let Some(place) = place_of(links.as_slice(), &link) {
+        return Ok(place + 1);
+    }
+    links.push(link)?;
+    Ok(links.len())
+}
+
+/// The place of an equal link, looked for among the first `SEARCHED`.
+fn place_of(links: &[Link], link: &Link) -> Option<usize>
+    ensures { IfSome result (λ place. (place < length links.now) × (slice_get links.now place ≡ Some link.now)) }
+{
+    for place in 0..links.len().min(SEARCHED) {
+        if links[place] == *link {
+            return Some(place);
+        }
+    }
+    None
 }
 
 /// Gives a number to the groups that a path joins.

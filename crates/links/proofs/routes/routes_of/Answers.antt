@@ -1,4 +1,4 @@
-use Rattle.std.proofs.Common.{◌≡◌, length, arith, rules}
+use Rattle.std.proofs.Common.{arith}
 use Rattle.links.proofs.Maps.{routes_more, number_small, no_number, no_path}
 use Rattle.links.proofs.routes.routes_of.Goals as goal
 
@@ -9,9 +9,9 @@ loop-path-init c = record {
 }
 
 pub loop-path-preserved : goal.loop-path-preserved
-loop-path-preserved c = let counted : c.len.result ≡ length c.push.new.self.items = search rules in record {
-  small = λ from to. number_small c.loop-path.routes.rows.items c.number_path.new.rows.items c.loop-path.routes.links.items c.push.new.self.items _ _ c.len.result from to
-      c.in_ok-push.ensures.items counted (c.in_ok-number_path.ensures from to) (c.loop-path.invariant.small from to);
-  last = λ link from to. routes_more c.loop-path.routes.rows.items c.number_path.new.rows.items c.loop-path.routes.links.items c.push.new.self.items c.args.paths.now c.loop-path.path-index _ c.len.result
-      link from to c.loop-path-test.true c.in_ok-push.ensures.items counted (c.in_ok-number_path.ensures from to) (c.loop-path.invariant.small from to) (c.loop-path.invariant.last link from to);
+loop-path-preserved c = let numbers = c.in_ok-number.ensures in record {
+  small = λ from to. number_small c.loop-path.routes.rows.items c.number_path.new.rows.items c.loop-path.routes.links.items c.number_of.new.links.items _ _ from to
+      numbers.kept numbers.numbered.0 (c.in_ok-number_path.ensures from to) (c.loop-path.invariant.small from to);
+  last = λ link from to. routes_more c.loop-path.routes.rows.items c.number_path.new.rows.items c.loop-path.routes.links.items c.number_of.new.links.items c.args.paths.now c.loop-path.path-index _ _
+      link from to c.loop-path-test.true numbers.kept numbers.numbered.1 (c.in_ok-number_path.ensures from to) (c.loop-path.invariant.small from to) (c.loop-path.invariant.last link from to);
 }
