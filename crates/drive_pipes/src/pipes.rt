@@ -1,6 +1,6 @@
 //! A harness behind two pipes.
-ghost use Rattle.std.specs.Prelude.{◌++◌, ◌∷◌, IfOk, OnOk};
-ghost use Rattle.drive_pipes.specs.Flows.{FlowsTo};
+ghost use Rattle.std.specs.Prelude.{◌≡◌, ◌++◌, ◌∷◌, [], IfOk, OnOk};
+ghost use Rattle.drive_pipes.specs.Flows.{FlowsTo, AreSent};
 
 use crate::ends::{Ends, SendError};
 use crate::incoming::{Found, Incoming};
@@ -62,7 +62,10 @@ impl<E: Ends + Drop> Pipes<E> {
     }
 
     /// Sends lines: they are gathered, and handed on once they are many.
-    pub fn send(&mut self, lines: &[u8]) -> Result<(), SendError> {
+    pub fn send(&mut self, lines: &[u8]) -> Result<(), SendError>
+        ensures sent { OnOk result (AreSent (E.went self.old.ends) (E.went self.new.ends) self.old.outgoing.items self.new.outgoing.items lines.now) }
+        ensures came { OnOk result (FlowsTo (E.came self.old.ends) (E.came self.new.ends) self.old.incoming self.new.incoming) }
+    {
         match self.outgoing.extend_from_slice(lines) {
             Ok(()) => {}
             Err(_) => return Err(SendError::Memory),
@@ -75,7 +78,9 @@ impl<E: Ends + Drop> Pipes<E> {
 
     /// Has all written that was sent, and waits until it is.
     pub fn flush(&mut self) -> Result<(), SendError>
-        ensures { OnOk result (FlowsTo (E.came self.old.ends) (E.came self.new.ends) self.old.incoming self.new.incoming) }
+        ensures sent { OnOk result (AreSent (E.went self.old.ends) (E.went self.new.ends) self.old.outgoing.items self.new.outgoing.items []) }
+        ensures none_waits { OnOk result (self.new.outgoing.items ≡ []) }
+        ensures came { OnOk result (FlowsTo (E.came self.old.ends) (E.came self.new.ends) self.old.incoming self.new.incoming) }
     {
         self.hand_on()?;
         self.ends.flush()
@@ -83,7 +88,9 @@ impl<E: Ends + Drop> Pipes<E> {
 
     /// Has all written that was sent, and doesn't wait for it.
     fn hand_on(&mut self) -> Result<(), SendError>
-        ensures { OnOk result (FlowsTo (E.came self.old.ends) (E.came self.new.ends) self.old.incoming self.new.incoming) }
+        ensures sent { AreSent (E.went self.old.ends) (E.went self.new.ends) self.old.outgoing.items self.new.outgoing.items [] }
+        ensures none_waits { OnOk result (self.new.outgoing.items ≡ []) }
+        ensures came { OnOk result (FlowsTo (E.came self.old.ends) (E.came self.new.ends) self.old.incoming self.new.incoming) }
     {
         if !self.outgoing.is_empty() {
             self.ends.write(self.outgoing.as_slice())?;
@@ -94,8 +101,9 @@ impl<E: Ends + Drop> Pipes<E> {
 
     /// Its next line, without the line feed. It waits for it without limit; what was sent goes out before it waits.
     pub fn receive(&mut self) -> Result<Vec<u8>, ReceiveError>
-        ensures { IfOk result
+        ensures came { IfOk result
             (λ line. FlowsTo (E.came self.old.ends) (E.came self.new.ends) self.old.incoming (line.items ++ 10 ∷ self.new.incoming)) }
+        ensures sent { AreSent (E.went self.old.ends) (E.went self.new.ends) self.old.outgoing.items self.new.outgoing.items [] }
     {
         for _ in 0..u64::MAX {
             match self.incoming.take_line(self.alloc)? {
@@ -114,7 +122,8 @@ impl<E: Ends + Drop> Pipes<E> {
 
     /// Takes in some bytes; false if no more come.
     fn take_in(&mut self) -> Result<bool, Memory>
-        ensures { OnOk result (FlowsTo (E.came self.old.ends) (E.came self.new.ends) self.old.incoming self.new.incoming) }
+        ensures came { OnOk result (FlowsTo (E.came self.old.ends) (E.came self.new.ends) self.old.incoming self.new.incoming) }
+        ensures sent { AreSent (E.went self.old.ends) (E.went self.new.ends) self.old.outgoing.items self.new.outgoing.items [] }
     {
         let mut room = [0u8; READ];
         match self.ends.read(&mut room) {
