@@ -16,7 +16,8 @@ use Rattle.command_line.specs.declared.failure.Failure.{Failure}
 use Rattle.command_line.specs.declared.failure.Failure.TheVariants.{Run, Drive}
 use Rattle.scenario_files.specs.Shelves.{HoldsBeginning, Shelf, word_given}
 use Rattle.drive_events.specs.Line.{end_line}
-use Rattle.drive_world.specs.Drives.{BeginsDrive, DrivesTo, DrivesUpTo}
+use Rattle.std.specs.Prelude.{string_bytes}
+use Rattle.drive_world.specs.Drives.{BeginsDrive, DrivesTo, DrivesUpTo, StopsAt}
 use Rattle.drive_world.specs.declared.ends.DriveError.{DriveError}
 use Rattle.drive_world.specs.declared.ends.DriveError.TheVariants as error
 use Rattle.drive_world.specs.declared.ends.Stop.{Stop}
@@ -68,11 +69,11 @@ module _ {M : Type 0} (contents : M → Option (List ℕ)) (s : Setup) (release 
   }
 
   -- a drive that was stopped has left a beginning, too
-  stop_breaks : StopsDrive s start end drive gave told → BreaksOff s release start end drive gave told
-  stop_breaks stops = record {
+  stop_breaks : (place : ℕ) (why : Stop) (event : List ℕ) → LeavesRows (StopsAt s place why event gave told) s start end drive → BreaksOff s release start end drive gave told
+  stop_breaks place why event stops = record {
     rows = stops.rows;
     written = inl (
-      inl (begins_drive s gave told stops.rows stops.came),
+      inl (begins_drive s gave told stops.rows stops.came.up_to),
       record { front = trace_text s stops.rows; rest = []; whole = append-nil (trace_text s stops.rows); written = stops.traced },
       stops.reported,
       stops.paged,
@@ -128,16 +129,25 @@ module _ {M : Type 0} (contents : M → Option (List ℕ)) (s : Setup) (release 
     by_memory : (cause : Fault) → cause ≡ fault.Memory → cause ≡ fault.Write → Refused
     by_memory cause is other = absurd (let same : fault.Memory ≡ fault.Write = sym is ∙ other in cc same)
 
-    by_answer : (place : ℕ) (stop : Stop) (event : List ℕ) (it : DriveStop) → TellsAnswer place stop event it → StopsDrive s start end drive gave told → Ends (Drive it)
-    by_answer place stop event (stopped.Answer told_place cause text) tells stops = (apart, stops)
-    by_answer place stop event stopped.Closed tells stops = absurd tells
+    by_answer : (place : ℕ) (why : Stop) (event : List ℕ) (it : DriveStop) → TellsAnswer place why event it → LeavesRows (StopsAt s place why event gave told) s start end drive → Ends (Drive it)
+    by_answer place why event (stopped.Answer told_place cause text) tells stops = (
+      apart,
+      record {
+        why = why;
+        tells = tells.1;
+        left =
+            subst (λ (n : ℕ). LeavesRows (StopsAt s n why (string_bytes text) gave told) s start end drive) (sym tells.0)
+            (subst (λ (l : List ℕ). LeavesRows (StopsAt s place why l gave told) s start end drive) (sym tells.2) stops);
+      },
+    )
+    by_answer place why event stopped.Closed tells stops = absurd tells
 
     left : (e : DriveError) (failure : Failure) → IsToldBy e failure → LeavesBy contents s drive.file.now release gave told first last e
         → (e ≡ error.Fault fault.Write → Refused) → Ends failure
     left (error.Stopped place stop event) failure (inl tells) leaves refused =
-        subst Ends (sym tells.1) (by_answer place stop event.items tells.0 tells.2 (rows_left (DrivesUpTo s gave told) leaves))
+        subst Ends (sym tells.1) (by_answer place stop event.items tells.0 tells.2 (rows_left (StopsAt s place stop event.items gave told) leaves))
     left (error.Stopped place stop event) failure (inr is) leaves refused =
-        subst Ends (sym is) (apart, inl (stop_breaks (rows_left (DrivesUpTo s gave told) leaves)), by_memory fault.Memory refl)
+        subst Ends (sym is) (apart, inl (stop_breaks place stop event.items (rows_left (StopsAt s place stop event.items gave told) leaves)), by_memory fault.Memory refl)
     left error.Closed failure is leaves refused = subst Ends (sym is) (apart, inl (rows_left (ComesUntold s gave) leaves))
     left (error.Fault cause) failure is leaves refused = subst Ends (sym is) (apart, inl (breaks leaves), λ write. refused (ap error.Fault write))
 

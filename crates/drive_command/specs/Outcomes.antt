@@ -1,5 +1,5 @@
 -- What a drive has done once it ends, in the files as far as they tell, and why one was not done.
-use Rattle.std.specs.Prelude.{◌≡◌, ◌≢◌, ◌⊎◌, ◌++◌, ℕ, List, [], Option, Some, None, Ok, IfSome, false}
+use Rattle.std.specs.Prelude.{◌≡◌, ◌≢◌, ◌⊎◌, ◌++◌, ℕ, List, [], Option, Some, None, Ok, IfSome, false, string_bytes}
 use Rattle.base.specs.declared.fault.Fault.{Fault}
 use Rattle.base.specs.declared.fault.Fault.TheVariants as fault
 use Rattle.scenario.specs.Setup.{Setup}
@@ -10,7 +10,10 @@ use Rattle.page_runs.specs.Pages.{IsPageOf}
 use Rattle.clap.specs.Words.{Text}
 use Rattle.files.specs.Files.{KnownFile, Making, HoldsNow, CannotMake, CannotMakeSecond, CannotMakeThird, AreThreeFiles, AreFourFiles}
 use Rattle.drive_events.specs.Line.{end_line}
-use Rattle.drive_world.specs.Drives.{BeginsDrive, DrivesTo, DrivesUpTo}
+use Rattle.drive_world.specs.declared.ends.Stop.{Stop}
+use Rattle.drive_world.specs.Drives.{BeginsDrive, DrivesTo, DrivesUpTo, StopsAt}
+use Rattle.command_line.specs.declared.answers.AnswerFault.{AnswerFault}
+use Rattle.drive_command.specs.Ends.{cause_of}
 use Rattle.drive_world.specs.Ends.{DrivesToBy}
 use Rattle.command_line.specs.Words.{AsksForDrive}
 use Rattle.command_line.specs.declared.driving.DriveWords.{DriveWords}
@@ -86,9 +89,12 @@ pub record LeavesRows (Came : List Row → Type 0) (s : Setup) (before after : S
   pub paged : HoldsAsked before after (word_given drive.page) []
   pub others : KeepsOthers before after drive
 
--- it came up to an event that was to be answered and wasn't: its rows are those of all events before that one
-abbrev pub StopsDrive : Setup → Shelf → Shelf → DriveWords → List (List ℕ) → List ℕ → Type 0
-StopsDrive s before after drive came_in told = LeavesRows (DrivesUpTo s came_in told) s before after drive
+-- It came up to an event that was to be answered and wasn't: its rows are those of all events before that one. The place, the cause and
+-- the event that are said are those of the answer that is none.
+pub record StopsDrive (s : Setup) (before after : Shelf) (drive : DriveWords) (came_in : List (List ℕ)) (told : List ℕ) (place : ℕ) (cause : AnswerFault) (event : List ℕ) : Type 0 where
+  pub why : Stop
+  pub tells : cause_of why ≡ Some cause
+  pub left : LeavesRows (StopsAt s place why event came_in told) s before after drive
 
 -- how far it comes where the harness can't be told: these lines are those that it should have been told
 abbrev pub ComesUntold : Setup → List (List ℕ) → List Row → Type 0
@@ -136,7 +142,8 @@ abbrev pub DriveEnds : Type 0 → Setup → List ℕ → Shelf → Shelf → Mak
 DriveEnds Refused s release before after making drive came_in told (File name) =
     IsUnmade making drive.file.now drive.trace.now (word_given drive.report) (word_given drive.page) name.now × (after ≡ before)
 DriveEnds Refused s release before after making drive came_in told Memory = after ≡ before
-DriveEnds Refused s release before after making drive came_in told (Drive (stop.Answer place cause event)) = AreApart making drive × StopsDrive s before after drive came_in told
+DriveEnds Refused s release before after making drive came_in told (Drive (stop.Answer place cause event)) =
+    AreApart making drive × StopsDrive s before after drive came_in told place cause (string_bytes event)
 DriveEnds Refused s release before after making drive came_in told (Drive stop.Closed) =
     AreApart making drive × (LosesHarness s before after drive came_in ⊎ ((lines : List ℕ) × StoresDrive s release before after drive came_in lines))
 DriveEnds Refused s release before after making drive came_in told (Run cause) =

@@ -9,7 +9,7 @@ use Rattle.trace.specs.Text.{trace_text}
 use Rattle.trace.specs.Writers.{writer_under, put_failures}
 use Rattle.reports.specs.Text.{report_text}
 use Rattle.page_runs.specs.Pages.{WritesPage, BeginsPage}
-use Rattle.drive_world.specs.Drives.{BeginsDrive, DrivesTo, DrivesUpTo}
+use Rattle.drive_world.specs.Drives.{BeginsDrive, DrivesTo, StopsAt}
 use Rattle.drive_world.specs.declared.ends.DriveError.{DriveError}
 use Rattle.drive_world.specs.declared.ends.DriveError.TheVariants as error
 use Rattle.drive_command.specs.declared.making.Made.{Made}
@@ -109,7 +109,7 @@ pub record WritesPart {M : Type 0} (contents : M → Option (List ℕ)) (s : Set
 
 -- what a trace has got where the drive ended by an error
 abbrev pub LeavesTraceBy : Setup → List (List ℕ) → List ℕ → Option (List ℕ) → Option (List ℕ) → DriveError → Type 0
-LeavesTraceBy s gave told old new (error.Stopped place stop event) = (rows : List Row) × DrivesUpTo s gave told rows × Appends old new (trace_text s rows)
+LeavesTraceBy s gave told old new (error.Stopped place stop event) = (rows : List Row) × StopsAt s place stop event.items gave told rows × Appends old new (trace_text s rows)
 LeavesTraceBy s gave told old new error.Closed = (rows : List Row) × ComesUntold s gave rows × Appends old new (trace_text s rows)
 LeavesTraceBy s gave told old new (error.Fault cause) =
     (rows : List Row) × (BeginsDrive s rows ⊎ DrivesTo s gave told rows) × AppendsBeginning old new (trace_text s rows)
@@ -128,6 +128,6 @@ WritesRestPart contents s name release rows old new _ = ⊥
 
 -- what the sinks have got where the drive ended by an error
 abbrev pub LeavesBy : {M : Type 0} → (M → Option (List ℕ)) → Setup → List ℕ → List ℕ → List (List ℕ) → List ℕ → Made M → Made M → DriveError → Type 0
-LeavesBy contents s name release gave told old new (error.Stopped place stop event) = WritesUpTo (DrivesUpTo s gave told) contents s old new
+LeavesBy contents s name release gave told old new (error.Stopped place stop event) = WritesUpTo (StopsAt s place stop event.items gave told) contents s old new
 LeavesBy contents s name release gave told old new error.Closed = WritesUpTo (ComesUntold s gave) contents s old new
 LeavesBy contents s name release gave told old new (error.Fault cause) = WritesPart contents s name release gave told old new

@@ -20,6 +20,7 @@ use Rattle.drive_world.specs.declared.ends.Stop.{Stop}
 use Rattle.drive_world.specs.declared.world.World.{World as Held}
 use Rattle.drive_world.specs.Telling.{NoneMay}
 use Rattle.drive_world.specs.DriveOf.{drive_of, world_of}
+use Rattle.drive_world.specs.Drives.{IsUnanswered}
 use Rattle.drive_world.specs.Halts.{IsHalted, HaltsBy}
 use Rattle.drive_world.specs.Turns.{GoesOn, IsOnWay}
 use Rattle.drive_world.specs.UnderWay.{IsUnderWay}
@@ -40,10 +41,12 @@ module _ (cmp : Row → Row → Ordering) (order : IsRowOrder cmp) (s : Setup) (
   -- a drive under way that halts pauses
   pub pauses : IsSound s → (halt : Halt) (w v : Held) (told told_new : List ℕ) (gave gave_new : List (List ℕ)) (written : List Row) → IsUnderWay cmp s least_delay w told gave written → GoesOn s.end w
       → IsOnWay s v → HaltsBy s least_delay halt w v told told_new gave gave_new → PausesBy cmp s least_delay halt v told_new gave_new written
+  unfolding halted
   pauses sound (Stopped place stop event) w v told told_new gave gave_new written under goes way halt = (
-    halted w v told told_new gave gave_new written under halt,
-    subst (λ u. NoneMay s least_delay (drive_of u)) (sym halt.same) halt.none,
-    subst (GoesOn s.end) (sym halt.same) goes,
+    halted w v told told_new gave gave_new written under halt.0,
+    subst (λ u. NoneMay s least_delay (drive_of u)) (sym halt.0.same) halt.0.none,
+    subst (GoesOn s.end) (sym halt.0.same) goes,
+    subst (λ u. IsUnanswered s (drive_of u) gave halt.0.behind place stop event.items) (sym halt.0.same) (halt.1 under.come.counts),
   )
   pauses sound Closed w v told told_new gave gave_new written under goes way (inl halt) = (told_new, halted w v told told_new gave gave_new written under halt)
   pauses sound Closed w v told told_new gave gave_new written under goes way (inr turn) = (

@@ -1,5 +1,5 @@
 -- A drive stays under way while turns are made and rows are handed on, and what that comes to at the end.
-use Rattle.std.proofs.Common.{◌≡◌, ◌++◌, ℕ, ◌≤◌, ◌<◌, Bool, true, false, not, filter, List, [], length, Option, Some, inl, inr, ap, ◌∙◌, sym, subst, refl, append_assoc, arith}
+use Rattle.std.proofs.Common.{◌≡◌, ◌++◌, ℕ, ◌≤◌, ◌<◌, Bool, true, false, not, filter, List, [], length, map, Option, Some, inl, inr, ap, ◌∙◌, sym, subst, refl, append_assoc, arith}
 use Rattle.std.specs.Option.{is_some}
 use Rattle.std.specs.List.{AllByRecursion}
 use Rattle.std.specs.List.Sorted.{IsPermutation, IsSorted}
@@ -25,6 +25,7 @@ use Rattle.drive_events.specs.declared.content.Content.{Content}
 use Rattle.drive_answers.specs.declared.action.Action.{Action}
 use Rattle.drive_process.specs.Answers.{AreSoundActions}
 use Rattle.drive_process.specs.Process.{Process}
+use Rattle.drive_world.specs.declared.ends.Stop.{Stop}
 use Rattle.drive_world.specs.declared.fate.Fate.{Fate}
 use Rattle.drive_world.specs.declared.fate.Fate.TheVariants.{Untold, Told, Asked}
 use Rattle.drive_world.specs.declared.world.World.{World as Held}
@@ -32,7 +33,7 @@ use Rattle.drive_world.specs.Telling.{Drive, NoneMay}
 use Rattle.drive_world.specs.Courses.{Move, Moves, move_by, outcome_by, begun_course, begins}
 use Rattle.drive_world.specs.WorldOf.{events_in}
 use Rattle.drive_world.specs.DriveOf.{drive_of, world_of, IsPeopled}
-use Rattle.drive_world.specs.Drives.{DrivesTo, DrivesUpTo, BeginsDrive}
+use Rattle.drive_world.specs.Drives.{DrivesTo, DrivesUpTo, BeginsDrive, IsUnanswered, StopsAt}
 use Rattle.drive_world.specs.Rows.{key_of, is_row_before, rows_before, rows_from}
 use Rattle.drive_world.specs.Turns.{Turns, HasCome, Waits, IsOnWay}
 use Rattle.drive_world.specs.Next.{has_one_for}
@@ -215,6 +216,7 @@ module _ (cmp : Row → Row → Ordering) (order : IsRowOrder cmp) (s : Setup) (
         lines = under.come.lines;
         read = under.come.read;
         rows = handed_rows;
+        counts = ap (λ (x : Held). x.answers) same ∙ under.come.counts;
       };
       named = subst (AllByRecursion (NamesMembers s)) (sym left) (kept (NamesMembers s) (λ row. not (is_row_before key row)) w.rows.items under.named);
       low = key;
@@ -301,3 +303,17 @@ module _ (cmp : Row → Row → Ordering) (order : IsRowOrder cmp) (s : Setup) (
         unanswered = ap (λ (d : Drive). has_one_for key.to d.waiting) under.come.last ∙ first_waits s least_delay w key sound least first in_time none;
         run = there.run;
       }
+
+  -- and which answer that is, and why it is none
+  pub stops_up_to : (w v : Held) (key : Key) (told : List ℕ) (gave came_in behind : List (List ℕ)) (written sorted : List Row) → (sound : IsSound s) → (least : IsLeastDelay s least_delay)
+      → (under : IsUnderWay cmp s least_delay w told gave written) → (same : v ≡ record w { rows = v.rows; enough = v.enough }) → (left : v.rows.items ≡ rows_from key w.rows.items)
+      → (items : IsPermutation (rows_before key w.rows.items) sorted) → (up : IsSorted cmp sorted) → (in_time : key.at ≤ s.end) → (first : IsLeastKey (events_in w.pending) key)
+      → (none : NoneMay s least_delay (drive_of w)) → (read : came_in ≡ gave ++ behind) → (place : ℕ) (stop : Stop) (event : List ℕ) → IsUnanswered s (drive_of w) gave behind place stop event
+      → StopsAt s place stop event came_in told (written ++ sorted)
+  unfolding up_to
+  stops_up_to w v key told gave came_in behind written sorted sound least under same left items up in_time first none read place stop event is = record {
+    up_to = up_to w v key told gave came_in behind written sorted sound least under same left items up in_time first none read;
+    unanswered =
+        subst (λ (d : Drive). IsUnanswered s d (map (λ (t : List ℕ × List Action). t.0) under.come.course.taken) behind place stop event) (sym under.come.last)
+        (subst (λ a. IsUnanswered s (drive_of w) a behind place stop event) (sym under.come.read) is);
+  }

@@ -21,18 +21,19 @@ use Rattle.drive_world.proofs.Firsts.{earlier-from_before_first}
 use Rattle.run_output.specs.Written.{HasWritten}
 use Rattle.run_output.proofs.Faults.{on_ok}
 use Rattle.drive_process.specs.Driven.{Answers, driven, opening}
+use Rattle.drive_world.specs.declared.ends.Stop.{Stop}
 use Rattle.drive_world.specs.declared.ends.Halt.{Halt}
 use Rattle.drive_world.specs.declared.ends.Halt.TheVariants.{Stopped, Closed}
 use Rattle.drive_world.specs.declared.world.World.{World as Held}
 use Rattle.drive_world.specs.Telling.{NoneMay}
 use Rattle.drive_world.specs.WorldOf.{events_in}
 use Rattle.drive_world.specs.DriveOf.{drive_of, world_of}
-use Rattle.drive_world.specs.Drives.{DrivesTo, DrivesUpTo, BeginsDrive, RunsBefore}
+use Rattle.drive_world.specs.Drives.{DrivesTo, DrivesUpTo, BeginsDrive, RunsBefore, IsUnanswered, StopsAt}
 use Rattle.drive_world.specs.Rows.{is_row_before, rows_before, rows_from}
 use Rattle.drive_world.specs.Turns.{GoesOn}
 use Rattle.drive_world.specs.UnderWay.{IsUnderWay}
 use Rattle.drive_world.specs.Ends.{HasTaken, TakesBeginning, HandsOn, IsPaused, RestsBy, StopsBy}
-use Rattle.drive_world.proofs.Handed.{handed, begun, ended, up_to, resorted, kept}
+use Rattle.drive_world.proofs.Handed.{handed, begun, ended, up_to, stops_up_to, resorted, kept}
 
 pub on_error : {T E P Q : Type 0} (o : Result T E) → (P → Q) → OnErr o P → OnErr o Q
 on_error (Ok x) f p = tt
@@ -113,6 +114,11 @@ module _ (cmp : Row → Row → Ordering) (order : IsRowOrder cmp) (s : Setup) (
         λ text. (rows_then, begun cmp order s least_delay v told gave rows_then sound delay (handed_then told gave under), text) in
         on_error r gives (on.written from taken).part
 
+    stopped_at : (told : List ℕ) (gave : List (List ℕ)) → (paused : IsPaused cmp s least_delay w told gave before) → NoneMay s least_delay (drive_of w) → (place : ℕ) (stop : Stop) (event : List ℕ)
+        → IsUnanswered s (drive_of w) paused.before paused.behind place stop event → StopsAt s place stop event gave told rows_then
+    stopped_at told gave paused none place stop event is =
+        stops_up_to cmp order s least_delay w v key told paused.before gave paused.behind before on.sorted sound delay paused.under same left on.same on.up in_time first none paused.read place stop event is
+
     stopped_up_to : (told : List ℕ) (gave : List (List ℕ)) → IsPaused cmp s least_delay w told gave before → NoneMay s least_delay (drive_of w) → DrivesUpTo s gave told rows_then
     stopped_up_to told gave paused none =
         up_to cmp order s least_delay w v key told paused.before gave paused.behind before on.sorted sound delay paused.under same left on.same on.up in_time first none paused.read
@@ -123,7 +129,7 @@ module _ (cmp : Row → Row → Ordering) (order : IsRowOrder cmp) (s : Setup) (
 
     stops_at : (halt : Halt) (told : List ℕ) (gave : List (List ℕ)) (from : Option (List ℕ)) → RestsBy cmp s least_delay halt w told gave before → Appends from held_new (trace_text s rows_then)
         → StopsBy s halt gave told from held_new
-    stops_at (Stopped place stop event) told gave from rests text = (rows_then, stopped_up_to told gave rests.0 rests.1, text)
+    stops_at (Stopped place stop event) told gave from rests text = (rows_then, stopped_at told gave rests.0 rests.1 place stop event.items rests.3, text)
     stops_at Closed told gave from rests text = (rows_then, rests.0, inl (stopped_up_to rests.0 gave rests.1 (none_then rests.2)), text)
 
     pub stops_on : (halt : Halt) (told : List ℕ) (gave : List (List ℕ)) (from : Option (List ℕ)) → RestsBy cmp s least_delay halt w told gave before → HasTaken s from held_old before

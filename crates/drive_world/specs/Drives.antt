@@ -1,5 +1,5 @@
 -- What a drive comes to: the rows of the world in which each event made just what was answered to it.
-use Rattle.std.specs.Prelude.{◌≡◌, ◌++◌, ◌≤◌, ℕ, Bool, true, false, List, [], ◌∷◌, map, Option, Some}
+use Rattle.std.specs.Prelude.{◌≡◌, ◌≢◌, ◌++◌, ◌+◌, ◌≤◌, length, nat_eq, ℕ, Bool, true, false, List, [], ◌∷◌, map, Option, Some}
 use Rattle.std.specs.FinMap.{get}
 use Rattle.std.specs.List.{AllByRecursion}
 use Rattle.base.specs.declared.key.Key.{Key}
@@ -17,12 +17,19 @@ use Rattle.windows.specs.Schedule.{Schedule}
 use Rattle.drive_events.specs.declared.content.Content.{Content}
 use Rattle.drive_events.specs.declared.content.Content.TheVariants as content
 use Rattle.drive_answers.specs.declared.action.Action.{Action}
+use Rattle.drive_answers.specs.Answer.{IsNoJson, IsNoList, IsNobodys, IsCause}
+use Rattle.drive_answers.specs.declared.error.AnswerError.TheVariants.{Memory}
 use Rattle.drive_process.specs.Process.{Process}
 use Rattle.drive_process.specs.Answers.{AreSoundAnswers}
 use Rattle.drive_process.specs.Driven.{Answers, driven, opening}
 use Rattle.drive_process.specs.Own.{Says}
 use Rattle.drive_world.specs.Courses.{Course, IsCourse}
 use Rattle.drive_world.specs.Next.{has_one_for}
+use Rattle.drive_world.specs.Telling.{Drive}
+use Rattle.drive_world.specs.Turns.{counted}
+use Rattle.drive_world.specs.declared.ends.Stop.{Stop}
+use Rattle.drive_world.specs.declared.ends.Stop.TheVariants.{Long, Ended, Answer}
+use Rattle.drive_events.specs.Line.{line_of}
 
 -- these answers give each asked event what was taken for it, in the order asked; of the last nothing may have been taken
 abbrev pub Agree : Answers → List Key → List (List ℕ × List Action) → Type 0
@@ -75,6 +82,28 @@ pub record DrivesUpTo (s : Setup) (came_in : List (List ℕ)) (told : List ℕ) 
   pub first : (q : Key) → IsPending course.last.world q → ¬ (IsBefore q key)
   pub unanswered : has_one_for key.to course.last.waiting ≡ true
   pub run : (answers : Answers) → AreSoundAnswers s answers → Agree answers course.asked course.taken → RunsBefore s answers key rows
+
+-- What came in behind the answers, by the cause: no line, or one that is no answer for this cause.
+abbrev pub IsCauseIn : Setup → ℕ → List (List ℕ) → Stop → Type 0
+IsCauseIn s m behind Long = behind ≡ []
+IsCauseIn s m behind Ended = behind ≡ []
+IsCauseIn s m behind (Answer cause) = (line : List ℕ) × (behind ≡ line ∷ []) × (cause ≢ Memory) × IsCause (IsNoJson line) (IsNoList line) (IsNobodys s m line) cause
+
+-- The first event that waits has no answer. Its place is that of its answer, from 1, and `event` is its line without the line feed.
+pub record IsUnanswered (s : Setup) (d : Drive) (answers behind : List (List ℕ)) (place : ℕ) (stop : Stop) (event : List ℕ) : Type 0 where
+  pub key : Key
+  pub others : List Key
+  pub first : d.waiting ≡ key ∷ others
+  pub content : Content
+  pub here : get d.world.pending key ≡ Some content
+  pub nth : place ≡ counted (length answers + 1)
+  pub line : event ++ 10 ∷ [] ≡ line_of s (nat_eq place 1) key content
+  pub cause : IsCauseIn s key.to behind stop
+
+-- The beginning of the trace where an answer is none: the place, the cause and the event are those of the first event that waits.
+pub record StopsAt (s : Setup) (place : ℕ) (stop : Stop) (event : List ℕ) (came_in : List (List ℕ)) (told : List ℕ) (rows : List Row) : Type 0 where
+  pub up_to : DrivesUpTo s came_in told rows
+  pub unanswered : IsUnanswered s up_to.course.last (map (λ t. t.0) up_to.course.taken) up_to.behind place stop event
 
 -- ---- our own members
 

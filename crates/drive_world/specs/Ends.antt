@@ -18,7 +18,7 @@ use Rattle.drive_world.specs.declared.world.World.{World as Held}
 use Rattle.drive_world.specs.DriveOf.{drive_of, world_of}
 use Rattle.drive_world.specs.Telling.{NoneMay}
 use Rattle.drive_world.specs.Turns.{GoesOn}
-use Rattle.drive_world.specs.Drives.{DrivesTo, DrivesUpTo, BeginsDrive}
+use Rattle.drive_world.specs.Drives.{DrivesTo, DrivesUpTo, BeginsDrive, IsUnanswered, StopsAt}
 use Rattle.drive_world.specs.UnderWay.{IsUnderWay}
 
 -- The place has got the trace of these rows since it held what it held first, and they were tallied.
@@ -35,7 +35,7 @@ DrivesToBy s came_in lines rows = (answers behind : List (List ℕ)) × (came_in
 
 -- Where an answer is none, the harness was told all lines. Where it can't be told any more, as many as it could be.
 abbrev pub StopsBy : Setup → Halt → List (List ℕ) → List ℕ → Option (List ℕ) → Option (List ℕ) → Type 0
-StopsBy s (Stopped _ _ _) came_in told first held = (rows : List Row) × DrivesUpTo s came_in told rows × Appends first held (trace_text s rows)
+StopsBy s (Stopped place stop event) came_in told first held = (rows : List Row) × StopsAt s place stop event.items came_in told rows × Appends first held (trace_text s rows)
 StopsBy s Closed came_in told first held =
     (rows : List Row) × (lines : List ℕ) × (DrivesUpTo s came_in lines rows ⊎ DrivesToBy s came_in lines rows) × Appends first held (trace_text s rows)
 
@@ -77,7 +77,9 @@ pub record IsPaused (cmp : Row → Row → Ordering) (s : Setup) (least_delay : 
 
 -- an event waits for an answer that is none, or the harness can't be told
 abbrev pub PausesBy : (Row → Row → Ordering) → Setup → Option ℕ → Halt → Held → List ℕ → List (List ℕ) → List Row → Type 0
-PausesBy cmp s least_delay (Stopped _ _ _) w told gave written = IsPaused cmp s least_delay w told gave written × NoneMay s least_delay (drive_of w) × GoesOn s.end w
+PausesBy cmp s least_delay (Stopped place stop event) w told gave written =
+    (paused : IsPaused cmp s least_delay w told gave written) × NoneMay s least_delay (drive_of w) × GoesOn s.end w
+    × IsUnanswered s (drive_of w) paused.before paused.behind place stop event.items
 PausesBy cmp s least_delay Closed w told gave written = (lines : List ℕ) × IsPaused cmp s least_delay w lines gave written
 
 -- or nothing is left
@@ -87,6 +89,8 @@ PausesAt cmp s least_delay (Some halt) w told gave written = PausesBy cmp s leas
 
 -- An answer is needed, or nothing is left: where the harness can't be told, as if it were.
 abbrev pub RestsBy : (Row → Row → Ordering) → Setup → Option ℕ → Halt → Held → List ℕ → List (List ℕ) → List Row → Type 0
-RestsBy cmp s least_delay (Stopped _ _ _) w told gave written = IsPaused cmp s least_delay w told gave written × NoneMay s least_delay (drive_of w) × GoesOn s.end w
+RestsBy cmp s least_delay (Stopped place stop event) w told gave written =
+    (paused : IsPaused cmp s least_delay w told gave written) × NoneMay s least_delay (drive_of w) × GoesOn s.end w
+    × IsUnanswered s (drive_of w) paused.before paused.behind place stop event.items
 RestsBy cmp s least_delay Closed w told gave written =
     (lines : List ℕ) × IsPaused cmp s least_delay w lines gave written × (IsOver s.end (world_of w) ⊎ NoneMay s least_delay (drive_of w))

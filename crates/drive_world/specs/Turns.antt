@@ -1,5 +1,5 @@
 -- One turn of a drive in memory makes one move.
-use Rattle.std.specs.Prelude.{◌≡◌, ℕ, ◌≤◌, ◌++◌, List, length, map, Option}
+use Rattle.std.specs.Prelude.{◌≡◌, ℕ, ◌≤◌, ◌-◌, ◌^◌, min, ◌++◌, List, length, map, Option}
 use Rattle.base.specs.declared.key.Key.{Key}
 use Rattle.base.specs.World.{World, IsPending}
 use Rattle.drive_events.specs.declared.content.Content.{Content}
@@ -14,12 +14,17 @@ use Rattle.worker_queue.specs.Queue.{IsLeastKey}
 use Rattle.drive_world.specs.WorldOf.{events_in}
 use Rattle.drive_world.specs.DriveOf.{drive_of, world_of, IsPeopled}
 
+-- so many answers, as far as 64 bits count them
+abbrev pub counted : ℕ → ℕ
+counted n = min n (2 ^ 64 - 1)
+
 -- The world, what the harness was told and what it gave, before and after it.
 pub record Comes (m : Move) (before after : Held) (told_old told_new : List ℕ) (gave_old gave_new : List (List ℕ)) : Type 0 where
   pub drive : drive_of after ≡ m.after
   pub lines : told_new ≡ told_old ++ m.lines
   pub read : gave_new ≡ gave_old ++ map (λ t. t.0) m.taken
   pub rows : after.rows.items ≡ before.rows.items ++ m.rows
+  pub counts : before.answers ≡ counted (length gave_old) → after.answers ≡ counted (length gave_new)
 
 -- a move that the rules of a drive allow
 pub record Turns (s : Setup) (least_delay : Option ℕ) (before after : Held) (told_old told_new : List ℕ) (gave_old gave_new : List (List ℕ)) : Type 0 where
@@ -52,3 +57,4 @@ pub record HasCome (s : Setup) (least_delay : Option ℕ) (w : Held) (told : Lis
   pub lines : course.lines ≡ told
   pub read : map (λ t. t.0) course.taken ≡ gave
   pub rows : IsPermutation course.rows (written ++ w.rows.items)
+  pub counts : w.answers ≡ counted (length gave)

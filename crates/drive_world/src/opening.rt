@@ -23,6 +23,7 @@ impl World {
     pub(crate) fn open(alloc: Global, scenario: &Scenario) -> Result<Self, Memory>
         ensures drive { IfOk result (λ world. drive_of world ≡ at_first scenario.now) }
         ensures rows { IfOk result (λ world. world.rows.items ≡ []) }
+        ensures answers { IfOk result (λ world. world.answers ≡ 0) }
         ensures places { IfOk result (λ world. length world.waiting.busy.items ≡ member_count scenario.now) }
     {
         let mut pending = Pending::new(alloc);

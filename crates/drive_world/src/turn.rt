@@ -1,6 +1,5 @@
 //! One turn of a drive: an event is told, or is over at once, or takes the next answer.
-ghost use Rattle.std.specs.Prelude.{◌≡◌, ◌<◌, ◌++◌, Some, true, not, ℕ, List, OnOk, IfOk};
-ghost use Rattle.std.specs.Option.{is_some};
+ghost use Rattle.std.specs.Prelude.{◌≡◌, ◌≢◌, ◌<◌, ◌++◌, Some, true, not, ℕ, List, OnOk, IfOk};
 ghost use Rattle.std.specs.FinMap.{get};
 ghost use Rattle.scenario.specs.Setup.{member_count};
 ghost use Rattle.drive_events.specs.declared.content.Content.{Content as AContent};
@@ -9,7 +8,9 @@ ghost use Rattle.drive_world.specs.Telling.{IsNext, NoneMay};
 ghost use Rattle.drive_world.specs.WorldOf.{events_in};
 ghost use Rattle.drive_world.specs.DriveOf.{drive_of, IsSetting};
 ghost use Rattle.drive_world.specs.Turns.{Turns, GoesOn, IsOnWay};
-ghost use Rattle.drive_world.specs.Halts.{ComesTo};
+ghost use Rattle.drive_answers.specs.declared.error.AnswerError.TheVariants as cause;
+ghost use Rattle.drive_world.specs.declared.ends.Stop.TheVariants as stop;
+ghost use Rattle.drive_world.specs.Halts.{ComesTo, HaltsFor, StopsWith};
 
 use crate::ends::{Halt, Stop};
 use crate::fate::Fate;
@@ -173,7 +174,7 @@ fn no_line(
 ) -> Result<Option<Halt>, StepError>
     requires to { key.now.to < member_count scenario.now }
     requires from { key.now.from < member_count scenario.now }
-    ensures { IfOk result (λ halt. is_some halt ≡ true) }
+    ensures { IfOk result (HaltsFor scenario.now world.now key.now place none) }
 {
     match none {
         NoLine::Long => stopped(alloc, world, scenario, key, place, Stop::Long),
@@ -194,7 +195,7 @@ fn no_answer(
 ) -> Result<Option<Halt>, StepError>
     requires to { key.now.to < member_count scenario.now }
     requires from { key.now.from < member_count scenario.now }
-    ensures { IfOk result (λ halt. is_some halt ≡ true) }
+    ensures { IfOk result (λ halt. (error ≢ cause.Memory) × StopsWith scenario.now world.now key.now place (stop.Answer error) halt) }
 {
     match error {
         AnswerError::Memory => Err(StepError::Memory),
@@ -213,7 +214,7 @@ fn stopped(
 ) -> Result<Option<Halt>, StepError>
     requires to { key.now.to < member_count scenario.now }
     requires from { key.now.from < member_count scenario.now }
-    ensures { IfOk result (λ halt. is_some halt ≡ true) }
+    ensures { IfOk result (StopsWith scenario.now world.now key.now place stop) }
 {
     let mut event = line_of(alloc, &world.pending, scenario, key, place == 1)?;
     event.pop();

@@ -122,6 +122,7 @@ impl World {
             → Settles setting.now.scenario.now key.now content actions.items self.old self.new) }
         ensures waiting { OnOk result (self.new.waiting ≡ self.old.waiting) }
         ensures begun { OnOk result (self.new.begun ≡ self.old.begun) }
+        ensures answers { self.new.answers ≡ self.old.answers }
     {
         let Some(content) = self.pending.take(key) else {
             return Ok(());
@@ -139,6 +140,7 @@ impl World {
         ensures processes { self.new.processes ≡ self.old.processes }
         ensures waiting { self.new.waiting ≡ self.old.waiting }
         ensures begun { self.new.begun ≡ self.old.begun }
+        ensures answers { self.new.answers ≡ self.old.answers }
     {
         let Some(effects) = made else {
             return Ok(());

@@ -34,7 +34,7 @@ play-requires-clause-begun g c =
     let gave = g.H.Harness.gave c.args.harness.now in
     subst (IsUnderWay cmp s c.args.setting.now.least_delay w told gave) (sym c.new-tallies.ensures)
     (under_way_first cmp row_order s c.args.setting.now.least_delay w told gave (opening_way s w c.in_ok-world.ensures.drive c.in_ok-world.ensures.places)
-    (come_first s c.args.setting.now.least_delay w told gave c.in_ok-world.ensures.drive c.in_ok-world.ensures.rows c.requires.untold c.requires.ungiven) c.in_ok-world.ensures.rows)
+    (come_first s c.args.setting.now.least_delay w told gave c.in_ok-world.ensures.drive c.in_ok-world.ensures.rows c.in_ok-world.ensures.answers c.requires.untold c.requires.ungiven) c.in_ok-world.ensures.rows)
 
 pub play-requires-clause-gathered : goal.play-requires-clause-gathered
 play-requires-clause-gathered g c =

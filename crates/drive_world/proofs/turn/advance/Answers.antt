@@ -25,7 +25,7 @@ returns-in_ok-settle-in-Untold-clause-turns c = λ told gave.
     let new = c.settle.new.self in
     let settles = subst (λ a. Settles s k has.content a w new) c.new-in-Untold.ensures.items (c.in_ok-settle-in-Untold.ensures.settles has.content has.here) in
     turn_by s d k has.content w new told _ gave gave c.requires.next has.here Untold (sym c.in-Untold.is ∙ has.is)
-    (untold_comes s d k has.content w new told _ gave gave settles (ap (λ (x : Waiting). x.keys.items) c.in_ok-settle-in-Untold.ensures.waiting) c.in_ok-settle-in-Untold.ensures.begun
+    (untold_comes s d k has.content w new told _ gave gave settles (ap (λ (x : Waiting). x.keys.items) c.in_ok-settle-in-Untold.ensures.waiting) c.in_ok-settle-in-Untold.ensures.begun c.settle.ensures.answers
     (ap (λ l. told ++ l) c.new-in-Untold-2.ensures.items ∙ append-nil told) refl)
 
 pub returns-in_ok-settle-in-Untold-clause-way : goal.returns-in_ok-settle-in-Untold-clause-way
@@ -50,7 +50,7 @@ returns-in_ok-settle-in-Told-clause-turns c = λ told gave.
     let new = c.settle-in-Told.new.self in
     let settles = from_begun s k has.content [] w mid new refl (subst (λ a. Settles s k has.content a mid new) c.new-in-Told.ensures.items (c.in_ok-settle-in-Told.ensures.settles has.content has.here)) in
     turn_by s d k has.content w new told _ gave gave c.requires.next has.here Told (sym c.in-Told.is ∙ has.is)
-    (told_comes s d k has.content w new told _ gave gave settles (ap (λ (x : Waiting). x.keys.items) c.in_ok-settle-in-Told.ensures.waiting) c.in_ok-settle-in-Told.ensures.begun
+    (told_comes s d k has.content w new told _ gave gave settles (ap (λ (x : Waiting). x.keys.items) c.in_ok-settle-in-Told.ensures.waiting) c.in_ok-settle-in-Told.ensures.begun c.settle-in-Told.ensures.answers
     (ap (λ l. told ++ l) (c.in_ok-line-in-Told.ensures has.content has.here)) refl)
 
 pub returns-in_ok-settle-in-Told-clause-way : goal.returns-in_ok-settle-in-Told-clause-way
@@ -73,4 +73,4 @@ returns-in_ok-push-in-Asked-clause-turns c = λ told gave.
     let k = c.args.key.now in
     let has = c.in-Some.ensures.fate in
     turn_by s d k has.content w _ told _ gave gave c.requires.next has.here Asked (sym c.in-Asked.is ∙ has.is)
-    (asked_comes s d k has.content w _ told _ gave gave refl refl c.in_ok-push-in-Asked.ensures.keys refl (ap (λ l. told ++ l) (c.in_ok-line-in-Asked.ensures has.content has.here)) refl)
+    (asked_comes s d k has.content w _ told _ gave gave refl refl c.in_ok-push-in-Asked.ensures.keys refl refl (ap (λ l. told ++ l) (c.in_ok-line-in-Asked.ensures has.content has.here)) refl)

@@ -2,7 +2,8 @@ use Rattle.std.proofs.Common.{◌∷◌, [], length, ap, append-nil, ◌∙◌, 
 use Rattle.std.specs.FinMap.{get}
 use Rattle.std.proofs.lemmas.Result.{IfOk-weaker}
 use Rattle.std.specs.List.{AllByRecursion}
-use Rattle.drive_answers.specs.Answer.{IsAnswer}
+use Rattle.drive_answers.specs.Answer.{IsAnswer, IsCause, IsNoJson, IsNoList, IsNobodys}
+use Rattle.drive_world.specs.declared.ends.Stop.TheVariants as stop
 use Rattle.drive_world.specs.declared.waiting.Waiting.{Waiting}
 use Rattle.drive_world.specs.Next.{are_of_different}
 use Rattle.drive_world.specs.WorldOf.{events_in}
@@ -11,7 +12,7 @@ use Rattle.drive_world.specs.Turns.{Waits}
 use Rattle.drive_world.proofs.Busy.{Agrees, free_rest}
 use Rattle.drive_world.proofs.Nexts.{free_by}
 use Rattle.drive_world.proofs.Sounds.{sound_answer}
-use Rattle.drive_world.proofs.Turning.{never_stuck, taken_turn, there_is, popped_rest, halts_by}
+use Rattle.drive_world.proofs.Turning.{never_stuck, taken_turn, there_is, popped_rest, no_line_comes, stops_with}
 use Rattle.drive_world.proofs.Way.{way_settled}
 use Rattle.drive_world.proofs.turn.take.Goals as goal
 
@@ -39,7 +40,7 @@ returns-clause-comes g c =
     (subst (λ l. IsAnswer s k.to l actions) c.as_slice.ensures.value c.in-Ok-read_answer.ensures.said) settles
     (ap (λ (x : Waiting). x.keys.items) c.in_ok-settle.ensures.waiting
     ∙ popped_rest c.pop.result w.waiting.keys.items c.in-Some.ensures.first.0 c.pop.new.self.keys.items k c.in-Some.ensures.first.1 c.pop.ensures.first c.pop.ensures.none)
-    c.in_ok-settle.ensures.begun c.in-Ok.ensures.told c.in-Ok.ensures.gave
+    c.in_ok-settle.ensures.begun (c.settle.ensures.answers ∙ c.saturating_add-place.ensures) c.in-Ok.ensures.told c.in-Ok.ensures.gave
 
 pub returns-clause-way : goal.returns-clause-way
 returns-clause-way g c =
@@ -64,20 +65,29 @@ returns-clause-way g c =
 
 pub returns-in-Err-clause-comes : goal.returns-in-Err-clause-comes
 returns-in-Err-clause-comes g c =
+    let s = c.args.setting.now.scenario.now in
     let w = c.args.world.now in
+    let k = c.in-Some.key in
+    let waits = subst (AllByRecursion (Waits s.end (world_of w))) c.in-Some.ensures.first.1 c.requires.way.waits in
+    let asks = there_is (get (events_in w.pending) k) waits.0.0 in
     IfOk-weaker c.no_line.result _ _
-    (λ halt some.
-    halts_by c.args.setting.now.scenario.now c.args.setting.now.least_delay halt w w (g.H.Harness.told c.args.harness.now) (g.H.Harness.told c.answer.new.self) (g.H.Harness.gave c.args.harness.now)
-    (g.H.Harness.gave c.answer.new.self) some
-    (record { none = c.requires.none; same = refl; told = c.in-Err.ensures.told; behind = []; gave = c.in-Err.ensures.none ∙ sym (append-nil (g.H.Harness.gave c.args.harness.now)) }))
+    (λ halt halts.
+    no_line_comes s c.args.setting.now.least_delay w k c.in-Some.ensures.first.0 asks.0 c.saturating_add-place.result c.in-Some.ensures.first.1 asks.1 c.saturating_add-place.ensures c.requires.none _ _
+    (g.H.Harness.gave c.args.harness.now) _ [] c.in-Err.ensures.told (c.in-Err.ensures.none ∙ sym (append-nil (g.H.Harness.gave c.args.harness.now))) c.in-Err.none halt halts refl)
     c.no_line.ensures
 
 pub returns-in-Err-read_answer-clause-comes : goal.returns-in-Err-read_answer-clause-comes
 returns-in-Err-read_answer-clause-comes g c =
+    let s = c.args.setting.now.scenario.now in
     let w = c.args.world.now in
+    let k = c.in-Some.key in
+    let line = c.in-Ok.line.items in
+    let waits = subst (AllByRecursion (Waits s.end (world_of w))) c.in-Some.ensures.first.1 c.requires.way.waits in
+    let asks = there_is (get (events_in w.pending) k) waits.0.0 in
+    let error = c.in-Err-read_answer.error in
+    let refused = subst (λ l. IsCause (IsNoJson l) (IsNoList l) (IsNobodys s k.to l) error) c.as_slice.ensures.value c.in-Err-read_answer.ensures.refused in
     IfOk-weaker c.no_answer.result _ _
-    (λ halt some.
-    halts_by c.args.setting.now.scenario.now c.args.setting.now.least_delay halt w w (g.H.Harness.told c.args.harness.now) (g.H.Harness.told c.answer.new.self) (g.H.Harness.gave c.args.harness.now)
-    (g.H.Harness.gave c.answer.new.self) some
-    (record { none = c.requires.none; same = refl; told = c.in-Ok.ensures.told; behind = c.in-Ok.line.items ∷ []; gave = c.in-Ok.ensures.gave }))
+    (λ halt stops.
+    stops_with s c.args.setting.now.least_delay w k c.in-Some.ensures.first.0 asks.0 c.saturating_add-place.result c.in-Some.ensures.first.1 asks.1 c.saturating_add-place.ensures c.requires.none _ _
+    (g.H.Harness.gave c.args.harness.now) _ (line ∷ []) c.in-Ok.ensures.told c.in-Ok.ensures.gave halt (stop.Answer error) stops.1 (line, refl, stops.0, refused))
     c.no_answer.ensures
