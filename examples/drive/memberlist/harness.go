@@ -2,8 +2,8 @@
 //
 //	memberlist-driven swimsim drive FILE --trace T
 //
-// starts the words behind its name as a child and answers its events. memberlist decides as ever; its clock and its
-// transport are the world's. A tick is a millisecond.
+// starts the words behind its name as a child and answers its events. memberlist decides as ever; its settings are the
+// scenario's, its clock and its transport the world's. A tick is a millisecond.
 package main
 
 import (
@@ -18,6 +18,7 @@ import (
 	"os"
 	"os/exec"
 	"runtime"
+	"runtime/debug"
 	"strings"
 	"sync"
 
@@ -62,6 +63,8 @@ type node struct {
 }
 
 var (
+	settings map[string]int
+	config   *memberlist.Config
 	names    []string
 	founders []string
 	numbers  = map[string]int{}
@@ -175,24 +178,33 @@ func (n *node) compare() {
 
 // ---- events
 
+// A member begins within `spread` ticks, so that its periods aren't those of all; but the first founder, whom the others
+// join, begins at once.
 func (n *node) start(e *event) {
-	config := memberlist.DefaultLANConfig()
-	config.Name = names[n.index]
-	config.BindAddr, config.AdvertiseAddr, config.AdvertisePort = address(n.index).IP.String(), address(n.index).IP.String(), port
-	config.Transport, config.EnableCompression = n, false
-	config.Logger = log.New(n, "", 0)
-	list, err := memberlist.Create(config)
+	spread := rand.Intn(settings["swim.spread"])
+	contact := e.Contact
+	if contact == "" && len(founders) > 0 && founders[0] != e.Member {
+		contact = founders[0]
+	}
+	if contact == "" {
+		n.create()
+		return
+	}
+	time.AfterFunc(time.Duration(spread)*time.Millisecond, func() {
+		n.create()
+		n.list.Join([]string{address(numbers[contact]).String()})
+	})
+}
+
+func (n *node) create() {
+	own := *config
+	own.Name, own.Transport, own.Logger = names[n.index], n, log.New(n, "", 0)
+	own.BindAddr, own.AdvertiseAddr, own.AdvertisePort = address(n.index).IP.String(), address(n.index).IP.String(), port
+	list, err := memberlist.Create(&own)
 	if err != nil {
 		log.Fatal(err)
 	}
 	n.list = list
-	contact := e.Contact
-	if contact == "" && len(founders) > 0 && founders[0] != names[n.index] {
-		contact = founders[0]
-	}
-	if contact != "" {
-		go list.Join([]string{address(numbers[contact]).String()})
-	}
 }
 
 func (n *node) message(e *event) {
@@ -222,24 +234,17 @@ func (n *node) handle(e *event) {
 	case "message":
 		n.message(e)
 	case "leave":
-		go n.list.Leave(5 * time.Second)
+		if n.list != nil {
+			go n.list.Leave(5 * time.Second)
+		}
 	}
 }
 
-// Waits until all goroutines but this one wait for something.
+// Waits until all goroutines but this one wait for something. On one processor Gosched lets the others run until none can;
+// but one in 61 times the scheduler takes this one first, and a goroutine that was stopped after 10 ms comes behind it.
 func settle() {
-	room := make([]byte, 1<<20)
-	for {
+	for turn := 0; turn < 3; turn++ {
 		runtime.Gosched()
-		used := runtime.Stack(room, true)
-		for used == len(room) {
-			room = make([]byte, 2*len(room))
-			used = runtime.Stack(room, true)
-		}
-		text := string(room[:used])
-		if strings.Count(text, " [runnable") == 0 && strings.Count(text, " [running") == 1 {
-			return
-		}
 	}
 }
 
@@ -260,6 +265,8 @@ var epoch = time.Unix(0, 0)
 
 func begin(e *event) {
 	rand.Seed(e.Seed)
+	settings = readSettings(scenario(os.Args[1:]))
+	config = configOf(settings)
 	names, founders = e.Members, e.Founders
 	for index, name := range names {
 		numbers[name] = index
@@ -279,8 +286,20 @@ func begin(e *event) {
 	}
 }
 
+// The scenario: what stands right behind the word `drive`.
+func scenario(words []string) string {
+	for place, word := range words[:len(words)-1] {
+		if word == "drive" {
+			return words[place+1]
+		}
+	}
+	log.Fatal("no word `drive` before a scenario")
+	return ""
+}
+
 func main() {
 	runtime.GOMAXPROCS(1)
+	debug.SetGCPercent(-1) // a collection would hold goroutines up; it is made while all wait
 	world := exec.Command(os.Args[1], os.Args[2:]...)
 	world.Stderr = os.Stderr
 	events, _ := world.StdoutPipe()
@@ -289,7 +308,7 @@ func main() {
 		log.Fatal(err)
 	}
 	in, out := bufio.NewReaderSize(events, 1<<20), bufio.NewWriter(answers)
-	for {
+	for count := 1; ; count++ {
 		line, err := in.ReadBytes('\n')
 		if err == io.EOF {
 			break
@@ -306,6 +325,9 @@ func main() {
 		}
 		if in.Buffered() == 0 {
 			out.Flush()
+		}
+		if count%4096 == 0 {
+			runtime.GC()
 		}
 	}
 	if err := world.Wait(); err != nil {
