@@ -58,7 +58,7 @@ type node struct {
 	accepts chan net.Conn
 	streams map[int]*stream
 	opened  int
-	states  map[string]memberlist.NodeStateType
+	known   []memberlist.Known
 	health  int
 }
 
@@ -88,7 +88,9 @@ func (n *node) act(a action) {
 	n.lock.Unlock()
 }
 
-func (n *node) row(what, about string) { n.act(action{"row": what, "about": about}) }
+func (n *node) row(what, about string, value int) {
+	n.act(action{"row": what, "about": about, "value": value})
+}
 
 func (n *node) send(word string, to int, held map[string]interface{}, isStream bool) {
 	n.act(action{"send": word, "to": names[to], "payload": held, "stream": isStream})
@@ -140,36 +142,37 @@ func (n *node) FinalAdvertiseAddr(string, int) (net.IP, int, error) {
 
 func (n *node) Write(line []byte) (int, error) {
 	text := string(line)
-	var name string
-	switch {
-	case strings.Contains(text, "has failed, no acks received"):
-		fmt.Sscanf(text[strings.Index(text, "Suspect "):], "Suspect %s", &name)
-		n.row("fail", name)
-	case strings.Contains(text, "suspect timeout reached"):
-		fmt.Sscanf(text[strings.Index(text, "Marking "):], "Marking %s", &name)
-		n.row("accuse", name)
-	case strings.Contains(text, "Refuting a"):
-		n.row("refute", names[n.index])
+	if place := strings.Index(text, "Suspect "); place >= 0 && strings.Contains(text, "has failed, no acks received") {
+		n.row("fail", strings.Fields(text[place:])[1], 0)
+	} else if strings.Contains(text, "Refuting a") {
+		n.row("refute", names[n.index], 0)
 	}
 	return len(line), nil
 }
 
+var rows = map[memberlist.NodeStateType]string{memberlist.StateAlive: "alive", memberlist.StateSuspect: "suspect",
+	memberlist.StateDead: "confirm", memberlist.StateLeft: "confirm"}
+
+// Writes the rows of what an event has changed in a member's table, and of its health.
 func (n *node) compare() {
-	rows := map[memberlist.NodeStateType]string{memberlist.StateAlive: "alive", memberlist.StateSuspect: "suspect",
-		memberlist.StateDead: "confirm", memberlist.StateLeft: "confirm"}
-	states := n.list.States()
-	for _, name := range names {
-		state, known := states[name]
-		was, before := n.states[name]
+	for index, name := range names {
+		was, now := n.known[index], n.list.Known(name)
+		if index == n.index || was == now {
+			continue
+		}
+		n.known[index] = now
 		switch {
-		case !known || name == names[n.index] || (before && was == state):
-		case !before && state == memberlist.StateAlive:
-			n.row("joined", name)
-		default:
-			n.row(rows[state], name)
+		case !now.Is: // it has forgotten a dead member
+		case !was.Is && now.State == memberlist.StateAlive:
+			n.row("joined", name, int(now.Incarnation))
+		case !was.Is || was.State != now.State || was.Incarnation != now.Incarnation:
+			n.row(rows[now.State], name, int(now.Incarnation))
+			was.Confirmations = 0
+		}
+		for count := was.Confirmations + 1; count <= now.Confirmations; count++ {
+			n.row("accuse", name, int(count))
 		}
 	}
-	n.states = states
 	if health := n.list.GetHealthScore(); health != n.health {
 		n.health = health
 		n.act(action{"row": "health", "value": health})
@@ -271,7 +274,7 @@ func begin(e *event) {
 	for index, name := range names {
 		numbers[name] = index
 		nodes = append(nodes, &node{index: index, packets: make(chan *memberlist.Packet, 4096), accepts: make(chan net.Conn, 64),
-			streams: map[int]*stream{}, states: map[string]memberlist.NodeStateType{}})
+			streams: map[int]*stream{}, known: make([]memberlist.Known, len(names))})
 	}
 	time.Schedule = func(after time.Duration, call func()) {
 		n := current
