@@ -3,11 +3,11 @@
 
     tests/programs/drive_memberlist.py [--program FILE] [--seeds N]
 
-It builds the harness of examples/drive/memberlist. Over seeds 1 to 20 the failed probes, suspicions and refutations of both
-may differ by 10 %; by chance alone failed probes and refutations differ by 4 % (one standard error), suspicions by 5 %. Then
-it changes the text, and looks whether memberlist takes each setting. Where Go or Debian's package of memberlist is missing
-all is skipped, and the script says so. It takes about a minute. The last line is `N passed, M failed`, with `, K skipped`
-where some were, and the status is 1 where M is over 0.
+It builds the harness of examples/drive/memberlist. Over seeds 1 to 20 failed probes, suspicions and refutations of both may
+differ by 10 %. By chance alone each sum differs by 5 % (one standard error), but the same seeds make nearly the same sums.
+Then it changes the text, and looks whether memberlist takes each setting. Where Go or Debian's package of memberlist is
+missing all is skipped, and the script says so. It takes a minute of four processors at most. The last line is `N passed, M
+failed`, with `, K skipped` where some were, and the status is 1 where M is over 0.
 """
 
 import os
@@ -71,7 +71,8 @@ class Both:
     def counts(self, name, text, *harness):
         """The figures of the report of a run or a drive, each by the words before it."""
         self.ended(name, text, harness)
-        return {it[1]: int(it[2]) for it in re.finditer(r'^([a-z -]+?) (\d+)', (self.room / f'{name}.txt').read_text(), re.M)}
+        lines = re.findall(r'^([a-z -]+?) (\d+)', (self.room / f'{name}.txt').read_text(), re.M)
+        return Counter({words: int(figure) for words, figure in lines})
 
     def driven(self, name, text):
         return self.counts(f'driven-{name}', text, self.room / 'memberlist-driven')
@@ -85,10 +86,10 @@ def compared(both, pool, seeds):
     texts = [changed({'seed = 1\n': f'seed = {seed}\n'}) for seed in range(1, seeds + 1)]
     sums = []
     for counts_of in both.driven, both.run:
-        sums.append(sum((Counter(counts) for counts in pool.map(counts_of, range(seeds), texts)), Counter()))
+        sums.append(sum(pool.map(counts_of, range(seeds), texts), Counter()))
     for what in COMPARED:
         driven, run = (it[what] for it in sums)
-        fault = '' if 100 * abs(driven - run) <= PERCENT * run else f'they differ by more than {PERCENT} %'
+        fault = '' if run and 100 * abs(driven - run) <= PERCENT * run else f'they differ by more than {PERCENT} %'
         yield f'{what}, {seeds} seeds: memberlist {driven}, run {run}', fault
 
 
