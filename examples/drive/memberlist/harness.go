@@ -2,8 +2,8 @@
 //
 //	memberlist-driven swimsim drive FILE --trace T
 //
-// starts the words behind its name as a child and answers its events. memberlist decides as ever; its clock and its
-// transport are the world's. A tick is a millisecond.
+// starts the words behind its name as a child and answers its events. memberlist decides as ever; its settings are the
+// scenario's, its clock and its transport the world's. A tick is a millisecond.
 package main
 
 import (
@@ -18,6 +18,7 @@ import (
 	"os"
 	"os/exec"
 	"runtime"
+	"runtime/debug"
 	"strings"
 	"sync"
 
@@ -57,11 +58,13 @@ type node struct {
 	accepts chan net.Conn
 	streams map[int]*stream
 	opened  int
-	states  map[string]memberlist.NodeStateType
+	known   []memberlist.Known
 	health  int
 }
 
 var (
+	settings map[string]int
+	config   *memberlist.Config
 	names    []string
 	founders []string
 	numbers  = map[string]int{}
@@ -85,7 +88,9 @@ func (n *node) act(a action) {
 	n.lock.Unlock()
 }
 
-func (n *node) row(what, about string) { n.act(action{"row": what, "about": about}) }
+func (n *node) row(what, about string, value int) {
+	n.act(action{"row": what, "about": about, "value": value})
+}
 
 func (n *node) send(word string, to int, held map[string]interface{}, isStream bool) {
 	n.act(action{"send": word, "to": names[to], "payload": held, "stream": isStream})
@@ -137,36 +142,37 @@ func (n *node) FinalAdvertiseAddr(string, int) (net.IP, int, error) {
 
 func (n *node) Write(line []byte) (int, error) {
 	text := string(line)
-	var name string
-	switch {
-	case strings.Contains(text, "has failed, no acks received"):
-		fmt.Sscanf(text[strings.Index(text, "Suspect "):], "Suspect %s", &name)
-		n.row("fail", name)
-	case strings.Contains(text, "suspect timeout reached"):
-		fmt.Sscanf(text[strings.Index(text, "Marking "):], "Marking %s", &name)
-		n.row("accuse", name)
-	case strings.Contains(text, "Refuting a"):
-		n.row("refute", names[n.index])
+	if place := strings.Index(text, "Suspect "); place >= 0 && strings.Contains(text, "has failed, no acks received") {
+		n.row("fail", strings.Fields(text[place:])[1], 0)
+	} else if strings.Contains(text, "Refuting a") {
+		n.row("refute", names[n.index], 0)
 	}
 	return len(line), nil
 }
 
+var rows = map[memberlist.NodeStateType]string{memberlist.StateAlive: "alive", memberlist.StateSuspect: "suspect",
+	memberlist.StateDead: "confirm", memberlist.StateLeft: "confirm"}
+
+// Writes the rows of what an event has changed in a member's table, and of its health.
 func (n *node) compare() {
-	rows := map[memberlist.NodeStateType]string{memberlist.StateAlive: "alive", memberlist.StateSuspect: "suspect",
-		memberlist.StateDead: "confirm", memberlist.StateLeft: "confirm"}
-	states := n.list.States()
-	for _, name := range names {
-		state, known := states[name]
-		was, before := n.states[name]
+	for index, name := range names {
+		was, now := n.known[index], n.list.Known(name)
+		if index == n.index || was == now {
+			continue
+		}
+		n.known[index] = now
 		switch {
-		case !known || name == names[n.index] || (before && was == state):
-		case !before && state == memberlist.StateAlive:
-			n.row("joined", name)
-		default:
-			n.row(rows[state], name)
+		case !now.Is: // it has forgotten a dead member
+		case !was.Is && now.State == memberlist.StateAlive:
+			n.row("joined", name, int(now.Incarnation))
+		case !was.Is || was.State != now.State || was.Incarnation != now.Incarnation:
+			n.row(rows[now.State], name, int(now.Incarnation))
+			was.Confirmations = 0
+		}
+		for count := was.Confirmations + 1; count <= now.Confirmations; count++ {
+			n.row("accuse", name, int(count))
 		}
 	}
-	n.states = states
 	if health := n.list.GetHealthScore(); health != n.health {
 		n.health = health
 		n.act(action{"row": "health", "value": health})
@@ -175,24 +181,33 @@ func (n *node) compare() {
 
 // ---- events
 
+// A member begins within `spread` ticks, so that its periods aren't those of all; but the first founder, whom the others
+// join, begins at once.
 func (n *node) start(e *event) {
-	config := memberlist.DefaultLANConfig()
-	config.Name = names[n.index]
-	config.BindAddr, config.AdvertiseAddr, config.AdvertisePort = address(n.index).IP.String(), address(n.index).IP.String(), port
-	config.Transport, config.EnableCompression = n, false
-	config.Logger = log.New(n, "", 0)
-	list, err := memberlist.Create(config)
+	spread := rand.Intn(settings["swim.spread"])
+	contact := e.Contact
+	if contact == "" && len(founders) > 0 && founders[0] != e.Member {
+		contact = founders[0]
+	}
+	if contact == "" {
+		n.create()
+		return
+	}
+	time.AfterFunc(time.Duration(spread)*time.Millisecond, func() {
+		n.create()
+		n.list.Join([]string{address(numbers[contact]).String()})
+	})
+}
+
+func (n *node) create() {
+	own := *config
+	own.Name, own.Transport, own.Logger = names[n.index], n, log.New(n, "", 0)
+	own.BindAddr, own.AdvertiseAddr, own.AdvertisePort = address(n.index).IP.String(), address(n.index).IP.String(), port
+	list, err := memberlist.Create(&own)
 	if err != nil {
 		log.Fatal(err)
 	}
 	n.list = list
-	contact := e.Contact
-	if contact == "" && len(founders) > 0 && founders[0] != names[n.index] {
-		contact = founders[0]
-	}
-	if contact != "" {
-		go list.Join([]string{address(numbers[contact]).String()})
-	}
 }
 
 func (n *node) message(e *event) {
@@ -222,24 +237,17 @@ func (n *node) handle(e *event) {
 	case "message":
 		n.message(e)
 	case "leave":
-		go n.list.Leave(5 * time.Second)
+		if n.list != nil {
+			go n.list.Leave(5 * time.Second)
+		}
 	}
 }
 
-// Waits until all goroutines but this one wait for something.
+// Waits until all goroutines but this one wait for something. On one processor Gosched lets the others run until none can;
+// but one in 61 times the scheduler takes this one first, and a goroutine that was stopped after 10 ms comes behind it.
 func settle() {
-	room := make([]byte, 1<<20)
-	for {
+	for turn := 0; turn < 3; turn++ {
 		runtime.Gosched()
-		used := runtime.Stack(room, true)
-		for used == len(room) {
-			room = make([]byte, 2*len(room))
-			used = runtime.Stack(room, true)
-		}
-		text := string(room[:used])
-		if strings.Count(text, " [runnable") == 0 && strings.Count(text, " [running") == 1 {
-			return
-		}
 	}
 }
 
@@ -260,11 +268,13 @@ var epoch = time.Unix(0, 0)
 
 func begin(e *event) {
 	rand.Seed(e.Seed)
+	settings = readSettings(scenario(os.Args[1:]))
+	config = configOf(settings)
 	names, founders = e.Members, e.Founders
 	for index, name := range names {
 		numbers[name] = index
 		nodes = append(nodes, &node{index: index, packets: make(chan *memberlist.Packet, 4096), accepts: make(chan net.Conn, 64),
-			streams: map[int]*stream{}, states: map[string]memberlist.NodeStateType{}})
+			streams: map[int]*stream{}, known: make([]memberlist.Known, len(names))})
 	}
 	time.Schedule = func(after time.Duration, call func()) {
 		n := current
@@ -279,8 +289,20 @@ func begin(e *event) {
 	}
 }
 
+// The scenario: what stands right behind the word `drive`.
+func scenario(words []string) string {
+	for place, word := range words[:len(words)-1] {
+		if word == "drive" {
+			return words[place+1]
+		}
+	}
+	log.Fatal("no word `drive` before a scenario")
+	return ""
+}
+
 func main() {
 	runtime.GOMAXPROCS(1)
+	debug.SetGCPercent(-1) // a collection would hold goroutines up; it is made while all wait
 	world := exec.Command(os.Args[1], os.Args[2:]...)
 	world.Stderr = os.Stderr
 	events, _ := world.StdoutPipe()
@@ -289,7 +311,7 @@ func main() {
 		log.Fatal(err)
 	}
 	in, out := bufio.NewReaderSize(events, 1<<20), bufio.NewWriter(answers)
-	for {
+	for count := 1; ; count++ {
 		line, err := in.ReadBytes('\n')
 		if err == io.EOF {
 			break
@@ -306,6 +328,9 @@ func main() {
 		}
 		if in.Buffered() == 0 {
 			out.Flush()
+		}
+		if count%4096 == 0 {
+			runtime.GC()
 		}
 	}
 	if err := world.Wait(); err != nil {

@@ -25,9 +25,9 @@ var (
 	Schedule func(after Duration, call func())
 )
 
-func Now() Time                { return Clock }
-func Since(t Time) Duration    { return Clock.Sub(t) }
-func Until(t Time) Duration    { return t.Sub(Clock) }
+func Now() Time                 { return Clock }
+func Since(t Time) Duration     { return Clock.Sub(t) }
+func Until(t Time) Duration     { return t.Sub(Clock) }
 func Unix(sec, nsec int64) Time { return time.Unix(sec, nsec) }
 
 // Timer is a timer of the simulation. One that was stopped still comes, and does nothing then.
