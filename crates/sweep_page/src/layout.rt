@@ -13,7 +13,7 @@ h2{font-size:1.15rem;margin:2em 0 .2em}h3{font-size:1rem;margin:1em 0 .2em;overf
 .answers code{font-size:1.05rem;font-weight:600;flex:1 1 18rem;overflow-wrap:anywhere}.answers b{font-size:1.05rem}\
 .answers .unknown{border-color:var(--five)}.answers .unsafe{border-color:var(--lost)}.goals{margin:.3em 0 .8em;padding-left:1.4em}\
 .number{min-width:1.7em;height:1.7em;padding:0 .35em;border-radius:1em;background:var(--one);color:#fff;font-size:.85rem;font-weight:600;display:inline-flex;align-items:center;justify-content:center}\
-.chart{display:grid;grid-template-columns:4.5rem 1fr;align-items:stretch;margin-top:.9rem}.chart .plot{height:20rem}.plane{position:relative}\
+.chart{display:grid;grid-template-columns:4.5rem 1fr;align-items:stretch;margin-top:3.1rem}.chart .plot{height:20rem}.plane{position:relative}\
 .chart .across,.chart .unit{grid-column:2}.plane .number{position:absolute;transform:translate(-50%,-60%);font-size:.72rem;pointer-events:none}\
 .plane .number:nth-of-type(even){transform:translate(-50%,-165%)}\
 .plane .plot{position:absolute;inset:0;height:100%}.plane{height:20rem}\
@@ -23,7 +23,7 @@ h2{font-size:1.15rem;margin:2em 0 .2em}h3{font-size:1rem;margin:1em 0 .2em;overf
 .span.best{stroke:var(--one);stroke-width:2.5;opacity:1}.point.best{stroke:var(--one)}\
 .joined{fill:none;stroke:var(--one);stroke-width:2.5;stroke-dasharray:7 5;vector-effect:non-scaling-stroke}\
 .many{display:grid;grid-template-columns:repeat(auto-fill,minmax(min(100%,20rem),1fr));gap:1rem 1.5rem}\
-.many .plane{height:11rem}.many .chart{grid-template-columns:4.2rem 1fr}.many .across span:nth-child(even){display:none}\
+.many .plane{height:11rem}.many .chart{grid-template-columns:4.2rem 1fr;margin-top:.9rem}.many .across span:nth-child(even){display:none}\
 .values{position:relative;height:1.4em;border-top:1px solid var(--line);grid-column:2}\
 .values span{position:absolute;transform:translateX(-50%);font-size:.8rem;color:var(--soft);white-space:nowrap}\
 .path{fill:none;stroke-width:2.5;vector-effect:non-scaling-stroke;stroke-linejoin:round}\
