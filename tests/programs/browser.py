@@ -94,7 +94,7 @@ function wrong(page, width) {
             if (across > 2 && up > 4) told.push(`over another: ${found[i].words} | ${found[j].words}`);
         }
     if (width >= 1280)
-        for (const box of page.querySelectorAll('.wide'))
+        for (const box of page.querySelectorAll('.wide:not(details:not([open]) *)'))
             if (box.scrollWidth > box.clientWidth) told.push(`cut off: ${box.textContent.trim().slice(0, 60)}`);
     return found.length ? told : ['no text is shown'];
 }

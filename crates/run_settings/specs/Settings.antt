@@ -32,7 +32,7 @@ chip prefix key number changed = chip_opening changed ++ prefix ++ key ++ codes 
 unfoldable pub switch : List ℕ → List ℕ → Bool → Bool → List ℕ
 switch prefix key on changed = chip_opening changed ++ prefix ++ key ++ (if on then codes " on</li>" else codes " off</li>")
 
--- a key of a table, where it has a number or is a switch; beside the preset of that name
+-- a key of a table beside a preset, where it has a number or is a switch
 abbrev pub entry_of : Option ℕ → Option Bool → Preset → List ℕ → FormatKey → List ℕ
 entry_of (Some number) on preset prefix key = chip prefix (spelling_of key) number (is_other_number number (usual preset key))
 entry_of None (Some on) preset prefix key = switch prefix (spelling_of key) on (is_other_switch on (usual_switch preset key))

@@ -6,7 +6,7 @@ unfoldable pub page_style : List ℕ
 page_style =
     codes "*{box-sizing:border-box}body{margin:0;background:var(--page);color:var(--ink);font:16px/1.5 system-ui,sans-serif}"
     ++ codes "main{max-width:72rem;margin:0 auto;padding:1rem}h1{font-size:1.5rem;margin:.2em 0;overflow-wrap:anywhere}"
-    ++ codes "h2{font-size:1.15rem;margin:2em 0 .2em}h3{font-size:1rem;margin:1em 0 .2em;overflow-wrap:anywhere}p{margin:.3em 0;max-width:48rem}"
+    ++ codes "h2{font-size:1.15rem;margin:2em 0 .2em;overflow-wrap:anywhere}h3{font-size:1rem;margin:1em 0 .2em;overflow-wrap:anywhere}p{margin:.3em 0;max-width:48rem}"
     ++ codes ".lead{font-size:1.1rem}.unit{max-width:none}.soft{color:var(--soft);font-size:.9rem}footer{margin:2em 0 1em}"
     ++ codes ".answers{list-style:none;padding:0;margin:.8em 0}"
     ++ codes ".answers li{display:flex;flex-wrap:wrap;align-items:center;gap:.1rem 1.2rem;background:var(--field);border-left:5px solid var(--one);padding:.35rem .8rem;margin:.3rem 0}"
@@ -36,7 +36,7 @@ page_style =
     ++ codes "details{margin:.5em 0}summary{cursor:pointer;color:var(--soft);font-size:.9rem}"
     ++ codes ".wide{overflow-x:auto}table{border-collapse:collapse;font-size:.82rem;margin:.4em 0}caption{text-align:left;color:var(--soft)}"
     ++ codes "th,td{text-align:right;padding:.2em .5em .2em 0;border-bottom:1px solid var(--line);font-variant-numeric:tabular-nums}"
-    ++ codes "thead th{color:var(--soft);font-weight:600;font-size:.75rem;vertical-align:bottom;line-height:1.2}th{font-weight:400}"
+    ++ codes "thead th{color:var(--soft);font-weight:600;font-size:.7rem;vertical-align:bottom;line-height:1.2}th{font-weight:400}"
     ++ codes "table:has(th:nth-child(16)){font-size:.72rem}table:has(th:nth-child(16)) thead th{font-size:.65rem}table:has(th:nth-child(16)) :is(th,td){padding-right:.3em}"
     ++ codes ".best td,.best th{font-weight:600}tr.best{background:var(--field)}"
     ++ codes "@media(max-width:760px){.chart{grid-template-columns:3.4rem 1fr}.plane{height:14rem}}"
