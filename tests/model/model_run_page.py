@@ -421,7 +421,8 @@ class Settings:
         keys += ''.join(self.table(name) for name in TOLD_TABLES)
         keys += ''.join(map(self.group, self.scenario['group'])) + ''.join(map(self.path, self.scenario['path'])) + self.events()
         text = figure('settings', 'What was run')
-        text += f'<p class="soft">In bold: what isn\'t as <code>init {self.preset}</code> prints it, a late start, and a path\'s own link.</p>'
+        text += (f'<p class="soft">In bold: keys of tables that aren\'t as <code>init {self.preset}</code> prints them, late starts, and paths '
+                 'with a link of their own.</p>')
         return f'{text}<ul class="keys">{keys}</ul><p class="soft">swimsim {escaped(release)}</p>{FIGURE_END}'
 
     @staticmethod

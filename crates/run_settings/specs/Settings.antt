@@ -102,7 +102,7 @@ entries s preset =
 -- what is in bold beside a preset, and the list of all begins
 unfoldable pub bold_words : Preset → List ℕ
 bold_words preset =
-    codes "<p class=\"soft\">In bold: what isn't as <code>init " ++ word_of preset ++ codes "</code> prints it, a late start, and a path's own link.</p><ul class=\"keys\">"
+    codes "<p class=\"soft\">In bold: keys of tables that aren't as <code>init " ++ word_of preset ++ codes "</code> prints them, late starts, and paths with a link of their own.</p><ul class=\"keys\">"
 
 -- the figure beside a preset
 unfoldable pub settings_beside : Setup → Preset → List ℕ → List ℕ

@@ -53,10 +53,10 @@ fn push_beside(
 fn push_bold_words(text: &mut String, preset: Preset) -> Result<(), AllocError>
     ensures { OnOk result (string_bytes text.new ≡ string_bytes text.old ++ bold_words preset) }
 {
-    text.push_str("<p class=\"soft\">In bold: what isn't as <code>init ")?;
+    text.push_str("<p class=\"soft\">In bold: keys of tables that aren't as <code>init ")?;
     text.push_str(word_of(preset))?;
     text.push_str(
-        "</code> prints it, a late start, and a path's own link.</p><ul class=\"keys\">",
+        "</code> prints them, late starts, and paths with a link of their own.</p><ul class=\"keys\">",
     )?;
     Ok(())
 }
