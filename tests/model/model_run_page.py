@@ -3,6 +3,10 @@
 Written from docs/PAGES.md ("The page of a run") alone.
 """
 
+import functools
+import tomllib
+from pathlib import Path
+
 from model_drawing import (FIGURE_END, PLOT_END, area, axis_across, axis_up, band, dot, escaped, figure, grouped, lasting, lasting_between,
                            legend, legend_entry, line, moment_alone, page_opening, plot, rule, time_alone, time_text)
 from model_run_series import MOST_HEALTH, MOST_SPANS, Series, deaths_of
@@ -18,11 +22,23 @@ HEALTH_CLASSES = ('two', 'one', 'six', 'dead')
 # the tables and lists of keys, in the order in which they are told
 TOLD_TABLES = ('swim', 'suspicion', 'lifeguard', 'link', 'gossip', 'stream')
 TABLE_END = '</table></div></details>'
+PRESETS = Path(__file__).parents[1] / 'data' / 'presets'
 
 
 def counted(number, one, several):
     """A number and the words for one thing, or for several."""
     return f'{grouped(number)} {one if number == 1 else several}'
+
+
+@functools.cache
+def preset(name):
+    """What `init NAME` prints, as a document."""
+    return tomllib.loads((PRESETS / f'{name}.toml').read_text())
+
+
+def differs(value, usual):
+    """A key isn't as in a preset that has it."""
+    return usual is not None and value != usual
 
 
 def folded(summary, heads):
@@ -109,6 +125,9 @@ class Page:
         text += legend([('suspect', 'suspect it'), ('dead', 'have declared it dead'), *(it for it in bands if self.scenario[it[0]])])
         text += ('<p class="soft">Solid vertical line: the member crashes; dashed: it leaves or starts; dotted: others declare it alive '
                  'again; dot: it refutes a claim.</p>')
+        width = self.series.width
+        text += (f'<p class="soft">Each column is {counted(width, "tick", "ticks")}{self.lasting(width)} wide: a shorter suspicion is drawn '
+                 'as wide.</p>')
         text += ''.join(self.lane(member) for member in self.lanes[:MOST_LANES])
         text += f'<div class="lane">{self.time_axis()}</div>'
         if len(self.lanes) > MOST_LANES:
@@ -383,31 +402,41 @@ class Page:
 
 
 class Settings:
-    """What was run: each key of the scenario, those in bold that aren't the default, and what it has happen."""
+    """What was run: each key of the scenario, those in bold that aren't as in the nearest preset, and what it has happen."""
 
     def __init__(self, scenario):
         self.scenario = scenario
         self.keys = keys_of(scenario['version'])
+        self.preset = min(('lan', 'wan', 'local') if scenario['version'] == 3 else ('swim',), key=self.differing)
+        self.usual = preset(self.preset)
+
+    def differing(self, name):
+        """How many keys aren't as in a preset."""
+        usual = preset(name)
+        return sum(differs(self.scenario[table][key], usual.get(table, {}).get(key))
+                   for table in TOLD_TABLES if self.scenario.get(table) for key in self.keys[table].keys)
 
     def text(self, release):
-        keys = ''.join(self.key(name, self.scenario[name], None) for name in ('version', 'seed', 'end'))
+        keys = ''.join(self.key(name, self.scenario[name], False) for name in ('version', 'seed', 'end'))
         keys += ''.join(self.table(name) for name in TOLD_TABLES)
         keys += ''.join(map(self.group, self.scenario['group'])) + ''.join(map(self.path, self.scenario['path'])) + self.events()
-        text = figure('settings', 'What was run') + '<p class="soft">What isn\'t the default is in bold.</p>'
+        text = figure('settings', 'What was run')
+        text += (f'<p class="soft">In bold: keys of tables that aren\'t as <code>init {self.preset}</code> prints them, late starts, and paths '
+                 'with a link of their own.</p>')
         return f'{text}<ul class="keys">{keys}</ul><p class="soft">swimsim {escaped(release)}</p>{FIGURE_END}'
 
     @staticmethod
     def item(words, is_changed):
         return f'<li{" class=" + chr(34) + "changed" + chr(34) if is_changed else ""}>{words}</li>'
 
-    def key(self, name, value, default):
-        """A key; one without a default is never in bold."""
+    def key(self, name, value, is_changed):
         told = {True: 'on', False: 'off'}[value] if isinstance(value, bool) else grouped(value)
-        return self.item(f'{name} {told}', isinstance(default, int) and value != default)
+        return self.item(f'{name} {told}', is_changed)
 
     def table(self, name):
         held = self.scenario.get(name)
-        return ''.join(self.key(f'{name}.{key}', held[key], kind.default) for key, kind in self.keys[name].keys.items()) if held else ''
+        return ''.join(self.key(f'{name}.{key}', held[key], differs(held[key], self.usual.get(name, {}).get(key)))
+                       for key in self.keys[name].keys) if held else ''
 
     def group(self, group):
         start = f', start {grouped(group["start"])}' if group['start'] else ''

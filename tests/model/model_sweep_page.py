@@ -285,7 +285,7 @@ class Page:
     # all cases
 
     def table(self):
-        columns = ['number', *(escaped(key) for key, _ in self.settings), 'confirmed, median', 'runs with a false death',
+        columns = ['number', *(key.replace('.', '.<wbr>') for key, _ in self.settings), 'confirmed, median', 'runs with a false death',
                    'their share', '95&nbsp;% interval', 'false deaths per run', 'suspected, median', 'confirmed, 99th percentile',
                    'confirmed, greatest', 'last confirmed, median', 'last confirmed, greatest', 'false suspicions per run',
                    'messages per member per 1,000 ticks']

@@ -4,8 +4,8 @@
     tests/programs/browser.py [--program FILE] [--keep FOLDER]
 
 Each page is loaded by headless Chromium (Debian's package `chromium`), 1,280 and 400 pixels wide, in light and in dark, with its
-tables folded and unfolded: no text may stand outside the page, or over another, or be of its ground's colour; a page may ask for
-nothing from elsewhere. With --keep a picture of each is left in FOLDER. The last line is `N passed, M failed, K skipped`; where
+tables folded and unfolded: no text may stand outside the page, or over another, or be of its ground's colour; at 1,280 pixels no table may
+be cut off; a page may ask for nothing from elsewhere. With --keep a picture of each is left in FOLDER. The last line is `N passed, M failed, K skipped`; where
 there is no Chromium all are skipped.
 """
 
@@ -20,18 +20,23 @@ import paths  # noqa: F401 (puts the folders of what follows on the path)
 from harness import TOP, end, parser_of, program_at
 from program import Program
 
-RUNS = ('crash', 'slow-member-without-lifeguard', 'cut-between-sites', 'rolling-join', 'pauses', 'three-sites-wan', 'quiet')
+UNITS = ['--tick', '1ms']
+RUNS = (('crash', []), ('slow-member-without-lifeguard', []), ('cut-between-sites', []), ('rolling-join', []), ('pauses', []),
+        ('three-sites-wan', []), ('quiet', []), ('three-sites', UNITS), ('three-sites-lan', UNITS))
 SWEEPS = (('slow-member', ['--seeds', '1..5', '--set', 'suspicion.alpha=2,4,6', '--set', 'swim.helpers=0,3']),
-          ('crash', ['--seeds', '1..3', '--want', 'out<=0.1', '--want', 'messages<=5']))
+          ('crash', ['--seeds', '1..3', '--want', 'out<=0.1', '--want', 'messages<=5']),
+          ('three-sites-stops', ['--seeds', '1..3', '--set', 'swim.period=1000,2000', '--set', 'pause.eu-3.until=16000,19000',
+                                 '--set', 'suspicion.alpha+lifeguard.confirmations=3+1,4+2', *UNITS]))
 WIDTHS, SCHEMES = (1280, 400), ('light', 'dark')
 SECONDS = 120
 
-# what stands in a page that is wrong, and how that is told; so the looking itself is tried
+# what stands in a page that is wrong, how that is told, and how wide the page is; so the looking itself is tried
 BROKEN = (
-    ('<p style="position: absolute; top: 9px">one</p><p style="position: absolute; top: 9px">other</p>', 'over another'),
-    ('<p style="position: absolute; left: 390px; white-space: nowrap">' + 'wide ' * 400 + '</p>', 'outside'),
-    ('<p style="background: #777; color: #888">grey</p>', 'unreadable'),
-    ('<p style="background: url(a.png)">fetched</p>', 'asks for something'),
+    ('<p style="position: absolute; top: 9px">one</p><p style="position: absolute; top: 9px">other</p>', 'over another', 400),
+    ('<p style="position: absolute; left: 390px; white-space: nowrap">' + 'wide ' * 400 + '</p>', 'outside', 400),
+    ('<p style="background: #777; color: #888">grey</p>', 'unreadable', 400),
+    ('<p style="background: url(a.png)">fetched</p>', 'asks for something', 400),
+    ('<div class="wide"><table><tr><td style="white-space: nowrap">' + 'wide ' * 400 + '</table></div>', 'cut off', 1280),
 )
 
 # what would fetch something, or run
@@ -88,6 +93,9 @@ function wrong(page, width) {
             const up = Math.min(one.bottom, other.bottom) - Math.max(one.top, other.top);
             if (across > 2 && up > 4) told.push(`over another: ${found[i].words} | ${found[j].words}`);
         }
+    if (width >= 1280)
+        for (const box of page.querySelectorAll('.wide:not(details:not([open]) *)'))
+            if (box.scrollWidth > box.clientWidth) told.push(`cut off: ${box.textContent.trim().slice(0, 60)}`);
     return found.length ? told : ['no text is shown'];
 }
 
@@ -142,15 +150,16 @@ def wrong_with(chromium, page, width, scheme, picture):
 
 def unseen(chromium, page):
     """What is wrong with a page, and isn't seen."""
-    seen = [(wanted, wrong_with(chromium, page.replace('<main>', f'<main>{broken}', 1), 400, 'light', None)) for broken, wanted in BROKEN]
+    seen = [(wanted, wrong_with(chromium, page.replace('<main>', f'<main>{broken}', 1), width, 'light', None))
+            for broken, wanted, width in BROKEN]
     return [wanted for wanted, told in seen if not any(line.startswith(wanted) for line in told)]
 
 
 def pages(path, room):
     """The name and the text of each page."""
     program = Program(path, room)
-    for name in RUNS:
-        program.call(['run', str(TOP / 'examples' / f'{name}.toml'), '--trace', '/dev/null', '--page', 'p.html'])
+    for name, words in RUNS:
+        program.call(['run', str(TOP / 'examples' / f'{name}.toml'), '--trace', '/dev/null', '--page', 'p.html', *words])
         yield f'run {name}', program.held('p.html').decode()
     for name, words in SWEEPS:
         program.call(['sweep', str(TOP / 'examples' / f'{name}.toml'), '--table', 't.csv', '--page', 'p.html', *words])

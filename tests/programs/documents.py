@@ -3,8 +3,8 @@
 
     tests/programs/documents.py [--program FILE] [DOCUMENT..]
 
-The program is the one that ./swimsim has built, or FILE. Each document has a folder of its own with the examples, in which
-its blocks of commands run from the first to the last, each to status 0. A block without a language is lines, in their
+The program is the one that ./swimsim has built, or FILE. The documents' blocks of commands run from the first to the last, each
+to status 0, all in one folder with the examples: so no document is in another one's way. A block without a language is lines, in their
 order, of what was last printed or written: by the command in the text right before it, else by the run of the example that
 the section's heading names, else by the block of commands above. One that begins with `error[` is all that `explain` tells
 of the text of tests/data/explain/refused that it names. The picture is one that tools/picture makes now. Blocks of other commands, as ./test, are left out; those that want a
@@ -52,13 +52,20 @@ def blocks_of(document):
         yield Block(begin + 1, lines[begin][3:], '\n'.join(lines[begin + 1:end]) + '\n', before, example and example[1])
 
 
+def make_folder(program, folder):
+    """Puts the examples and the program into a folder."""
+    shutil.copytree(TOP / 'examples', folder / 'examples')
+    (folder / 'swimsim').symlink_to(program)
+
+
 class Reader:
-    """Somebody who runs a document's blocks, one after the other, in a folder."""
+    """Somebody who runs a document's blocks, one after the other, in a folder, where other documents were read before."""
 
     def __init__(self, program, folder):
-        self.folder = Path(folder)
-        shutil.copytree(TOP / 'examples', self.folder / 'examples')
-        (self.folder / 'swimsim').symlink_to(program)
+        self.folder = folder
+        # what is shown must be told anew
+        for path in folder.glob('*.txt'):
+            path.unlink()
         self.commands = call([program, '--help'], text=True).out
         # what the last command printed, and each text that is there; of which example the run in t.csv and r.txt is
         self.told, self.example = [''], None
@@ -114,21 +121,20 @@ def stranger_in(shown, told):
     return next((line for line in shown.splitlines() if line not in lines), None)
 
 
-def read_document(name, program):
-    """How many blocks of a document are right, what is wrong, and what was skipped."""
+def read_document(name, program, folder):
+    """How many blocks of a document are right in a folder, what is wrong, and what was skipped."""
     passed, failures, skipped = 0, [], []
-    with tempfile.TemporaryDirectory() as folder:
-        reader = Reader(program, folder)
-        for block in blocks_of(TOP / name):
-            if OTHERS.search(block.text):
-                continue
-            try:
-                reader.read(block)
-                passed += 1
-            except Wrong as wrong:
-                failures.append(f'{name}:{block.line}: {wrong}')
-            except Skipped as why:
-                skipped.append(f'{name}:{block.line}: skipped: {why}')
+    reader = Reader(program, folder)
+    for block in blocks_of(TOP / name):
+        if OTHERS.search(block.text):
+            continue
+        try:
+            reader.read(block)
+            passed += 1
+        except Wrong as wrong:
+            failures.append(f'{name}:{block.line}: {wrong}')
+        except Skipped as why:
+            skipped.append(f'{name}:{block.line}: skipped: {why}')
     return passed, failures, skipped
 
 
@@ -144,7 +150,9 @@ def main():
     parser.add_argument('documents', nargs='*', metavar='DOCUMENT', help='default: all, and the picture')
     asked = parser.parse_args()
     program = program_at(asked.program)
-    results = [read_document(name, program) for name in asked.documents or DOCUMENTS]
+    with tempfile.TemporaryDirectory() as room:
+        make_folder(program, Path(room))
+        results = [read_document(name, program, Path(room)) for name in asked.documents or DOCUMENTS]
     if not asked.documents:
         results.append(check_picture(program))
     failures = [line for _, lines, _ in results for line in lines]

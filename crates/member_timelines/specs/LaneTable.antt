@@ -13,7 +13,8 @@ use Rattle.member_timelines.specs.Choice.{times_of}
 use Rattle.member_timelines.specs.Numbers.{by_number}
 use Rattle.member_timelines.specs.Heights.{before}
 use Rattle.member_timelines.specs.Lanes.{lane, held_heights}
-use Rattle.drawing.specs.Lengths.{moment_alone}
+use Rattle.drawing.specs.Lengths.{lasting, moment_alone}
+use Rattle.drawing.specs.Numbers.{grouped}
 use Rattle.ticks.specs.declared.tick.Tick.{Tick}
 
 -- an entry of the legend, where what it stands for is there
@@ -26,12 +27,19 @@ lane_legend slow paused cut =
     entry (codes "suspect") (codes "suspect it") ++ entry (codes "dead") (codes "have declared it dead") ++ entry_where slow (codes "slow") (codes "it is slow")
     ++ entry_where paused (codes "pause") (codes "it is paused") ++ entry_where cut (codes "cut") (codes "it is cut off")
 
+-- how long a column of a lane is, for nothing is drawn narrower
+unfoldable pub column_words : Option Tick → ℕ → List ℕ
+column_words time width =
+    codes "<p class=\"soft\">Each column is " ++ grouped width ++ by_number width (codes " tick") (codes " ticks") ++ lasting time width
+    ++ codes " wide: a shorter suspicion is drawn as wide.</p>"
+
 -- what the lanes show
-unfoldable pub lane_words : Setup → List ℕ
-lane_words s =
+unfoldable pub lane_words : Option Tick → Setup → List ℕ
+lane_words time s =
     codes "<p class=\"soft\">One lane per member. Its height stands for all other members: how many of them suspect it, and how many have declared it dead.</p><ul class=\"legend\">"
     ++ lane_legend (not (nat_eq (length s.slows) 0)) (not (nat_eq (length s.pauses) 0)) (not (nat_eq (length s.cuts) 0))
     ++ codes "</ul><p class=\"soft\">Solid vertical line: the member crashes; dashed: it leaves or starts; dotted: others declare it alive again; dot: it refutes a claim.</p>"
+    ++ column_words time (span_width s)
 
 -- the axis of time
 abbrev pub time_axis : Option Tick → Setup → List ℕ
@@ -84,7 +92,7 @@ lane_at time s rows chosen = lane time s rows chosen.member (times_of chosen)
 -- the lanes of the first 60 of these, and the rest of the figure
 unfoldable pub lanes_of : Option Tick → Setup → List Row → List Chosen → List ℕ
 lanes_of time s rows all =
-    lane_words s ++ flat_map (lane_at time s rows) (take 60 all) ++ lane_axis time s ++ lane_rest (length all) ++ lane_table time s rows (take 60 all)
+    lane_words time s ++ flat_map (lane_at time s rows) (take 60 all) ++ lane_axis time s ++ lane_rest (length all) ++ lane_table time s rows (take 60 all)
 
 -- the figure of all that get a lane, in their order
 unfoldable pub lanes_text : Option Tick → Setup → List Row → List Chosen → List ℕ

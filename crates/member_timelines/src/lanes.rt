@@ -3,7 +3,7 @@ ghost use Rattle.std.specs.Prelude.{◌≡◌, ◌<◌, ◌≤◌, ◌^◌, ◌+
 ghost use Rattle.std.specs.String.{string_bytes};
 ghost use Rattle.scenario.specs.Setup.{member_count};
 ghost use Rattle.member_timelines.specs.Run.{IsTold};
-ghost use Rattle.member_timelines.specs.LaneTable.{entry_where, lane_legend, lane_words, time_axis, lane_axis, more_words, lane_rest, table_row, span_row, span_rows, member_rows, lane_table, lane_at, lanes_of, lanes_text};
+ghost use Rattle.member_timelines.specs.LaneTable.{entry_where, lane_legend, column_words, lane_words, time_axis, lane_axis, more_words, lane_rest, table_row, span_row, span_rows, member_rows, lane_table, lane_at, lanes_of, lanes_text};
 
 use crate::chosen::{Chosen, first_lanes};
 use crate::counts::before;
@@ -12,7 +12,8 @@ use crate::numbers::by_number;
 use crate::run::Run;
 use base::{MemberId, Memory};
 use drawing::{
-    close_figure, open_figure, push_entry, push_escaped, push_moment_alone, push_time_across,
+    close_figure, open_figure, push_entry, push_escaped, push_grouped, push_lasting,
+    push_moment_alone, push_time_across,
 };
 use std::alloc::{AllocError, Global};
 use ticks::Tick;
@@ -80,7 +81,8 @@ fn push_each(alloc: Global, text: &mut String, run: &Run, lanes: &[Chosen]) -> R
 /// Appends what the lanes show.
 #[tactic(auto, unfolding(crate::specs::LaneTable::lane_words))]
 fn push_words(text: &mut String, run: &Run) -> Result<(), AllocError>
-    ensures { OnOk result (string_bytes text.new ≡ string_bytes text.old ++ lane_words run.now.scenario.now) }
+    requires told { IsTold run.now }
+    ensures { OnOk result (string_bytes text.new ≡ string_bytes text.old ++ lane_words run.now.tick run.now.scenario.now) }
 {
     text.push_str(
         "<p class=\"soft\">One lane per member. Its height stands for all other members: how many of them suspect it, and how many have declared it dead.</p><ul class=\"legend\">",
@@ -89,6 +91,20 @@ fn push_words(text: &mut String, run: &Run) -> Result<(), AllocError>
     text.push_str(
         "</ul><p class=\"soft\">Solid vertical line: the member crashes; dashed: it leaves or starts; dotted: others declare it alive again; dot: it refutes a claim.</p>",
     )?;
+    push_column(text, run.tick, run.width())?;
+    Ok(())
+}
+
+/// Appends how long a column of a lane is, for nothing is drawn narrower.
+#[tactic(auto, unfolding(crate::specs::LaneTable::column_words))]
+fn push_column(text: &mut String, time: Option<Tick>, width: u64) -> Result<(), AllocError>
+    ensures { OnOk result (string_bytes text.new ≡ string_bytes text.old ++ column_words time width) }
+{
+    text.push_str("<p class=\"soft\">Each column is ")?;
+    push_grouped(text, width)?;
+    text.push_str(by_number(width, " tick", " ticks"))?;
+    push_lasting(text, time, width)?;
+    text.push_str(" wide: a shorter suspicion is drawn as wide.</p>")?;
     Ok(())
 }
 

@@ -4,10 +4,10 @@ ghost use Rattle.run_page.specs.Styles.{layout_style};
 
 /// The style of the page.
 const STYLE: &str = "\
-:root{--pause:#d5dcc0;--eight:#4b2e83;--nine:#2f6b2f;--ten:#a8c686;--eleven:#a0522d;--twelve:#e3b7a0}\
-@media(prefers-color-scheme:dark){:root{--pause:#3a4227;--eight:#8f74d1;--nine:#5fa85f;--ten:#c3dba7;--eleven:#cf7f55;--twelve:#f0d0bf}}\
+:root{--slow:#a9cdeb;--cut:#cbb5de;--pause:#b4c38a;--eight:#4b2e83;--nine:#2f6b2f;--ten:#a8c686;--eleven:#a0522d;--twelve:#e3b7a0}\
+@media(prefers-color-scheme:dark){:root{--slow:#2d5f8a;--cut:#65478a;--pause:#64743b;--eight:#8f74d1;--nine:#5fa85f;--ten:#c3dba7;--eleven:#cf7f55;--twelve:#f0d0bf}}\
 .pause{fill:var(--pause)}.eight{fill:var(--eight)}.nine{fill:var(--nine)}.ten{fill:var(--ten)}.eleven{fill:var(--eleven)}.twelve{fill:var(--twelve)}\
-.rule.back{stroke-dasharray:1 4}\
+.rule.back{stroke-dasharray:1 4}.lane :is(.slow,.pause,.cut){transform:scaleY(1.22);transform-box:fill-box;transform-origin:center}\
 *{box-sizing:border-box}body{margin:0;background:var(--page);color:var(--ink);font:16px/1.5 system-ui,sans-serif}\
 main{max-width:72rem;margin:0 auto;padding:1rem}h1{font-size:1.5rem;margin:.2em 0;overflow-wrap:anywhere}\
 h2{font-size:1.15rem;margin:2em 0 .2em}p{margin:.3em 0;max-width:48rem}.lead{font-size:1.1rem}.unit{max-width:none}.soft{color:var(--soft);font-size:.9rem}\
@@ -27,6 +27,7 @@ details{margin:.5em 0}summary{cursor:pointer;color:var(--soft);font-size:.9rem}\
 .wide{overflow-x:auto}table{border-collapse:collapse;font-size:.85rem;margin:.4em 0}\
 th,td{text-align:right;padding:.15em .7em .15em 0;border-bottom:1px solid var(--line);font-variant-numeric:tabular-nums}td{white-space:nowrap}\
 th:first-child,td:first-child{text-align:left}.many td,.many th{padding-right:.6em;white-space:normal}th{color:var(--soft);font-weight:600;vertical-align:bottom;line-height:1.2}\
+table:has(th:nth-child(13)){font-size:.7rem}table:has(th:nth-child(13)) :is(th,td){padding-right:.4em;white-space:normal}\
 .keys{display:flex;flex-wrap:wrap;gap:.3rem .5rem;padding:0;margin:.4em 0;list-style:none;font-size:.9rem}\
 .keys li{border:1px solid var(--line);border-radius:.3rem;padding:.05rem .5rem}.keys .changed{border-color:var(--ink);font-weight:600}\
 @media(max-width:760px){.lane{grid-template-columns:1fr}.lane .name{text-align:left}.lane .across,.lane .unit{grid-column:1}\

@@ -1,2 +1,4 @@
 pub mod Events
+pub mod Nearest
 pub mod Settings
+pub mod Values

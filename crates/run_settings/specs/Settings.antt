@@ -1,138 +1,60 @@
--- What was run: the scenario's numbers and switches, those that aren't as where their keys are missing in bold.
+-- What was run: the scenario's numbers and switches, those that aren't as in the nearest preset in bold.
 use Rattle.std.specs.Prelude.{ℕ, Bool, false, not, ◌&&◌, nat_lt, nat_eq, if◌then◌else◌, Option, Some, None, List, [], ◌++◌, codes, flat_map}
+use Rattle.presets.specs.Presets.{word_of}
+use Rattle.presets.specs.declared.preset.Preset.{Preset}
 use Rattle.schema.specs.Schema.{key_rules_of, spelling_of}
 use Rattle.schema.specs.declared.schema.Version.{Version}
 use Rattle.schema.specs.declared.schema.Version.TheVariants.{One, Two, Three}
 use Rattle.schema.specs.declared.schema.KeyRule.{KeyRule}
 use Rattle.schema.specs.declared.schema.FormatKey.{FormatKey}
-use Rattle.schema.specs.declared.schema.FormatKey.TheVariants as key
-use Rattle.schema.specs.declared.schema.Absence.{Absence}
-use Rattle.schema.specs.declared.schema.Absence.TheVariants.{Default, Off}
 use Rattle.schema.specs.declared.schema.Section.{Section}
 use Rattle.schema.specs.declared.schema.Section.TheVariants as section
 use Rattle.scenario.specs.Setup.{Setup, Group}
-use Rattle.scenario.specs.declared.settings.Swim.{Swim}
-use Rattle.scenario.specs.declared.settings.Suspicion.{Suspicion}
-use Rattle.scenario.specs.declared.settings.Lifeguard.{Lifeguard}
 use Rattle.scenario.specs.declared.settings.Link.{Link}
 use Rattle.scenario.specs.declared.settings.Path.{Path}
 use Rattle.scenario.specs.declared.settings.Gossip.{Gossip}
-use Rattle.scenario.specs.declared.settings.Stream.{Stream}
 use Rattle.drawing.specs.Escaped.{escaped}
 use Rattle.drawing.specs.Numbers.{grouped}
 use Rattle.drawing.specs.Shapes.{figure_opening, figure_end}
 use Rattle.run_settings.specs.Events.{group_name, events}
+use Rattle.run_settings.specs.Nearest.{nearest, usual, usual_switch, is_other_number, is_other_switch}
+use Rattle.run_settings.specs.Values.{value_of, switch_of}
 
--- an entry begins; one that isn't as where its key is missing stands out
+-- an entry begins; one that isn't as in the nearest preset stands out
 abbrev pub chip_opening : Bool → List ℕ
 chip_opening changed = if changed then codes "<li class=\"changed\">" else codes "<li>"
 
--- the number isn't the default
-abbrev pub is_changed : ℕ → Option ℕ → Bool
-is_changed number None = false
-is_changed number (Some usual) = not (nat_eq usual number)
-
 -- a key and its number
-unfoldable pub chip : List ℕ → List ℕ → ℕ → Option ℕ → List ℕ
-chip prefix key number default = chip_opening (is_changed number default) ++ prefix ++ key ++ codes " " ++ grouped number ++ codes "</li>"
+unfoldable pub chip : List ℕ → List ℕ → ℕ → Bool → List ℕ
+chip prefix key number changed = chip_opening changed ++ prefix ++ key ++ codes " " ++ grouped number ++ codes "</li>"
 
 -- a key and its switch
 unfoldable pub switch : List ℕ → List ℕ → Bool → Bool → List ℕ
 switch prefix key on changed = chip_opening changed ++ prefix ++ key ++ (if on then codes " on</li>" else codes " off</li>")
 
--- the whole numbers of keys in their tables
-abbrev pub swim_value : Swim → FormatKey → Option ℕ
-swim_value swim key.Period = Some swim.period
-swim_value swim key.Timeout = Some swim.timeout
-swim_value swim key.Helpers = Some swim.helpers
-swim_value swim key.Carry = Some swim.carry
-swim_value swim key.Lambda = Some swim.lambda
-swim_value swim key.Spread = Some swim.spread
-swim_value swim _ = None
+-- a key of a table beside a preset, where it has a number or is a switch
+abbrev pub entry_of : Option ℕ → Option Bool → Preset → List ℕ → FormatKey → List ℕ
+entry_of (Some number) on preset prefix key = chip prefix (spelling_of key) number (is_other_number number (usual preset key))
+entry_of None (Some on) preset prefix key = switch prefix (spelling_of key) on (is_other_switch on (usual_switch preset key))
+entry_of None None preset prefix key = []
 
-abbrev pub suspicion_value : Suspicion → FormatKey → Option ℕ
-suspicion_value suspicion key.Alpha = Some suspicion.alpha
-suspicion_value suspicion key.Beta = Some suspicion.beta
-suspicion_value suspicion _ = None
-
-abbrev pub lifeguard_value : Lifeguard → FormatKey → Option ℕ
-lifeguard_value lifeguard key.Ceiling = Some lifeguard.ceiling
-lifeguard_value lifeguard key.Confirmations = Some lifeguard.confirmations
-lifeguard_value lifeguard key.NackPercent = Some lifeguard.nack_percent
-lifeguard_value lifeguard _ = None
-
-abbrev pub link_value : Link → FormatKey → Option ℕ
-link_value link key.Delay = Some link.delay
-link_value link key.Jitter = Some link.jitter
-link_value link key.Loss = Some link.loss
-link_value link _ = None
-
-abbrev pub gossip_value : Gossip → FormatKey → Option ℕ
-gossip_value gossip key.Interval = Some gossip.interval
-gossip_value gossip key.Nodes = Some gossip.nodes
-gossip_value gossip key.Dead = Some gossip.dead
-gossip_value gossip key.Push = Some gossip.push
-gossip_value gossip _ = None
-
-abbrev pub gossip_value_of : Option Gossip → FormatKey → Option ℕ
-gossip_value_of (Some gossip) key = gossip_value gossip key
-gossip_value_of None key = None
-
-abbrev pub stream_value : Stream → FormatKey → Option ℕ
-stream_value stream key.Connect = Some stream.connect
-stream_value stream key.Again = Some stream.again
-stream_value stream _ = None
-
-abbrev pub value_of : Setup → Section → FormatKey → Option ℕ
-value_of s section.Swim key = swim_value s.swim key
-value_of s section.Suspicion key = suspicion_value s.suspicion key
-value_of s section.Lifeguard key = lifeguard_value s.lifeguard key
-value_of s section.Link key = link_value s.link key
-value_of s section.Gossip key = gossip_value_of s.gossip key
-value_of s section.Stream key = stream_value s.stream key
-value_of s _ key = None
-
--- the switch of a key
-abbrev pub switch_of : Setup → FormatKey → Option Bool
-switch_of s key.Fallback = Some s.swim.fallback
-switch_of s key.Probe = Some s.lifeguard.probe
-switch_of s key.Suspicion = Some s.lifeguard.suspicion
-switch_of s key.Buddy = Some s.lifeguard.buddy
-switch_of s _ = None
-
--- what holds where the key is missing
-abbrev pub default_of : Absence → Option ℕ
-default_of (Default number) = Some number
-default_of _ = None
-
--- the switch isn't as where its key is missing: off for some, on for the others
-abbrev pub is_switched : Bool → Absence → Bool
-is_switched on Off = on
-is_switched on _ = not on
-
--- a key of a table, where it has a number or is a switch
-abbrev pub entry_of : Option ℕ → Option Bool → List ℕ → KeyRule → List ℕ
-entry_of (Some number) on prefix rule = chip prefix (spelling_of rule.key) number (default_of rule.absence)
-entry_of None (Some on) prefix rule = switch prefix (spelling_of rule.key) on (is_switched on rule.absence)
-entry_of None None prefix rule = []
-
-abbrev pub key_entry : Setup → List ℕ → Section → KeyRule → List ℕ
-key_entry s prefix section rule = entry_of (value_of s section rule.key) (switch_of s rule.key) prefix rule
+abbrev pub key_entry : Setup → Preset → List ℕ → Section → KeyRule → List ℕ
+key_entry s preset prefix section rule = entry_of (value_of s section rule.key) (switch_of s rule.key) preset prefix rule.key
 
 -- the keys of a table
-abbrev pub section_entries : Setup → List ℕ → Section → List ℕ
-section_entries s prefix section = flat_map (key_entry s prefix section) (key_rules_of s.version section)
+abbrev pub section_entries : Setup → Preset → List ℕ → Section → List ℕ
+section_entries s preset prefix section = flat_map (key_entry s preset prefix section) (key_rules_of s.version section)
 
 -- the keys of how members gossip, where they do
-abbrev pub gossip_entries : Setup → Option Gossip → List ℕ
-gossip_entries s (Some gossip) = section_entries s (codes "gossip.") section.Gossip
-gossip_entries s None = []
+abbrev pub gossip_entries : Setup → Preset → Option Gossip → List ℕ
+gossip_entries s preset (Some gossip) = section_entries s preset (codes "gossip.") section.Gossip
+gossip_entries s preset None = []
 
 -- the keys of the tables that only version 3 has
-abbrev pub third_entries : Setup → Version → List ℕ
-third_entries s One = []
-third_entries s Two = []
-third_entries s Three = gossip_entries s s.gossip ++ section_entries s (codes "stream.") section.Stream
+abbrev pub third_entries : Setup → Preset → Version → List ℕ
+third_entries s preset One = []
+third_entries s preset Two = []
+third_entries s preset Three = gossip_entries s preset s.gossip ++ section_entries s preset (codes "stream.") section.Stream
 
 -- when the members of a group start, where that is later than at 0
 abbrev pub start_words : ℕ → List ℕ
@@ -164,21 +86,30 @@ version_number Three = 3
 -- the keys that stand above all tables
 unfoldable pub top_entries : Setup → List ℕ
 top_entries s =
-    chip (codes "") (codes "version") (version_number s.version) None ++ chip (codes "") (codes "seed") s.seed None ++ chip (codes "") (codes "end") s.end None
+    chip (codes "") (codes "version") (version_number s.version) false ++ chip (codes "") (codes "seed") s.seed false ++ chip (codes "") (codes "end") s.end false
 
 -- the paths, and what the scenario has happen
 unfoldable pub last_entries : Setup → List ℕ
 last_entries s = flat_map (path_entry s) s.paths ++ events s
 
--- the keys of all tables, groups and paths, and what the scenario has happen
-unfoldable pub entries : Setup → List ℕ
-entries s =
-    top_entries s ++ section_entries s (codes "swim.") section.Swim ++ section_entries s (codes "suspicion.") section.Suspicion
-    ++ section_entries s (codes "lifeguard.") section.Lifeguard ++ section_entries s (codes "link.") section.Link
-    ++ third_entries s s.version ++ flat_map group_entry s.groups ++ last_entries s
+-- the keys of all tables beside a preset, groups and paths, and what the scenario has happen
+unfoldable pub entries : Setup → Preset → List ℕ
+entries s preset =
+    top_entries s ++ section_entries s preset (codes "swim.") section.Swim ++ section_entries s preset (codes "suspicion.") section.Suspicion
+    ++ section_entries s preset (codes "lifeguard.") section.Lifeguard ++ section_entries s preset (codes "link.") section.Link
+    ++ third_entries s preset s.version ++ flat_map group_entry s.groups ++ last_entries s
 
--- the figure, and which program ran it
-unfoldable pub settings_text : Setup → List ℕ → List ℕ
-settings_text s release =
-    figure_opening (codes "settings") (codes "What was run") ++ codes "<p class=\"soft\">What isn't the default is in bold.</p><ul class=\"keys\">"
-    ++ entries s ++ codes "</ul><p class=\"soft\">swimsim " ++ escaped release ++ codes "</p>" ++ figure_end
+-- what is in bold beside a preset, and the list of all begins
+unfoldable pub bold_words : Preset → List ℕ
+bold_words preset =
+    codes "<p class=\"soft\">In bold: keys of tables that aren't as <code>init " ++ word_of preset ++ codes "</code> prints them, late starts, and paths with a link of their own.</p><ul class=\"keys\">"
+
+-- the figure beside a preset
+unfoldable pub settings_beside : Setup → Preset → List ℕ → List ℕ
+settings_beside s preset release =
+    figure_opening (codes "settings") (codes "What was run") ++ bold_words preset ++ entries s preset ++ codes "</ul><p class=\"soft\">swimsim " ++ escaped release
+    ++ codes "</p>" ++ figure_end
+
+-- the figure beside the nearest preset, and which program ran it
+abbrev pub settings_text : Setup → List ℕ → List ℕ
+settings_text s release = settings_beside s (nearest s) release

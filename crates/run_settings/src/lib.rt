@@ -2,6 +2,7 @@
 #![tactic(auto)]
 
 mod events;
+mod nearest;
 mod settings;
 mod values;
 

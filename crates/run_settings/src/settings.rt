@@ -4,17 +4,20 @@ ghost use Rattle.std.specs.String.{string_bytes};
 ghost use Rattle.schema.specs.Schema.{spelling_of};
 ghost use Rattle.scenario.specs.SetupOf.{group_of};
 ghost use Rattle.run_settings.specs.Events.{group_name};
-ghost use Rattle.run_settings.specs.Settings.{chip_opening, is_changed, chip, switch, default_of, is_switched, entry_of, key_entry, section_entries, gossip_entries, third_entries, group_entry, start_words, path_entry, is_other_link, link_words, version_number, top_entries, last_entries, entries, settings_text};
+ghost use Rattle.presets.specs.Presets.{word_of};
+ghost use Rattle.run_settings.specs.Settings.{bold_words, chip_opening, chip, switch, entry_of, key_entry, section_entries, gossip_entries, third_entries, group_entry, start_words, path_entry, is_other_link, link_words, version_number, top_entries, last_entries, entries, settings_beside, settings_text};
 
 use crate::events::push_events;
+use crate::nearest::{is_other_number, is_other_switch, nearest, usual, usual_switch};
 use crate::values::{switch_of, value_of};
 use drawing::{close_figure, open_figure, push_escaped, push_grouped};
+use presets::Preset;
 use scenario::{Group, Link, Path, Scenario, Version};
-use schema::{Absence, KeyRule, Section};
+use schema::{FormatKey, KeyRule, Section};
 use std::alloc::AllocError;
 
-/// Appends what was run: a scenario, by a release of the program. What isn't the default stands out.
-#[tactic(auto, unfolding(crate::specs::Settings::settings_text))]
+/// Appends what was run: a scenario, by a release of the program. What isn't as in the nearest preset
+/// stands out.
 pub fn push_settings(
     text: &mut String,
     scenario: &Scenario,
@@ -22,9 +25,22 @@ pub fn push_settings(
 ) -> Result<(), AllocError>
     ensures { OnOk result (string_bytes text.new ≡ string_bytes text.old ++ settings_text scenario.now release.now) }
 {
+    push_beside(text, scenario, nearest(scenario), release)
+}
+
+/// Appends the same beside a preset.
+#[tactic(auto, unfolding(crate::specs::Settings::settings_beside))]
+fn push_beside(
+    text: &mut String,
+    scenario: &Scenario,
+    preset: Preset,
+    release: &str,
+) -> Result<(), AllocError>
+    ensures { OnOk result (string_bytes text.new ≡ string_bytes text.old ++ settings_beside scenario.now preset release.now) }
+{
     open_figure(text, "settings", "What was run")?;
-    text.push_str("<p class=\"soft\">What isn't the default is in bold.</p><ul class=\"keys\">")?;
-    push_entries(text, scenario)?;
+    push_bold_words(text, preset)?;
+    push_entries(text, scenario, preset)?;
     text.push_str("</ul><p class=\"soft\">swimsim ")?;
     push_escaped(text, release)?;
     text.push_str("</p>")?;
@@ -32,17 +48,42 @@ pub fn push_settings(
     Ok(())
 }
 
-/// Appends the keys of all tables, groups and paths, and what the scenario has happen.
+/// Appends what is in bold beside a preset, and begins the list of all.
+#[tactic(auto, unfolding(crate::specs::Settings::bold_words))]
+fn push_bold_words(text: &mut String, preset: Preset) -> Result<(), AllocError>
+    ensures { OnOk result (string_bytes text.new ≡ string_bytes text.old ++ bold_words preset) }
+{
+    text.push_str("<p class=\"soft\">In bold: keys of tables that aren't as <code>init ")?;
+    text.push_str(word_of(preset))?;
+    text.push_str(
+        "</code> prints them, late starts, and paths with a link of their own.</p><ul class=\"keys\">",
+    )?;
+    Ok(())
+}
+
+/// The name of a preset.
+fn word_of(preset: Preset) -> &'static str
+    ensures { result.now ≡ word_of preset }
+{
+    match preset {
+        Preset::Local => "local",
+        Preset::Lan => "lan",
+        Preset::Wan => "wan",
+        Preset::Swim => "swim",
+    }
+}
+
+/// Appends the keys of all tables beside a preset, groups and paths, and what the scenario has happen.
 #[tactic(auto, unfolding(crate::specs::Settings::entries))]
-fn push_entries(text: &mut String, scenario: &Scenario) -> Result<(), AllocError>
-    ensures { OnOk result (string_bytes text.new ≡ string_bytes text.old ++ entries scenario.now) }
+fn push_entries(text: &mut String, scenario: &Scenario, preset: Preset) -> Result<(), AllocError>
+    ensures { OnOk result (string_bytes text.new ≡ string_bytes text.old ++ entries scenario.now preset) }
 {
     push_top(text, scenario)?;
-    push_section(text, scenario, "swim.", Section::Swim)?;
-    push_section(text, scenario, "suspicion.", Section::Suspicion)?;
-    push_section(text, scenario, "lifeguard.", Section::Lifeguard)?;
-    push_section(text, scenario, "link.", Section::Link)?;
-    push_third(text, scenario)?;
+    push_section(text, scenario, preset, "swim.", Section::Swim)?;
+    push_section(text, scenario, preset, "suspicion.", Section::Suspicion)?;
+    push_section(text, scenario, preset, "lifeguard.", Section::Lifeguard)?;
+    push_section(text, scenario, preset, "link.", Section::Link)?;
+    push_third(text, scenario, preset)?;
     push_groups(text, scenario.groups())?;
     push_last(text, scenario)
 }
@@ -62,9 +103,9 @@ fn push_top(text: &mut String, scenario: &Scenario) -> Result<(), AllocError>
     ensures { OnOk result (string_bytes text.new ≡ string_bytes text.old ++ top_entries scenario.now) }
 {
     let version = version_number(scenario.version());
-    push_chip(text, "", "version", version, None)?;
-    push_chip(text, "", "seed", scenario.seed(), None)?;
-    push_chip(text, "", "end", scenario.end().ticks(), None)
+    push_chip(text, "", "version", version, false)?;
+    push_chip(text, "", "seed", scenario.seed(), false)?;
+    push_chip(text, "", "end", scenario.end().ticks(), false)
 }
 
 /// The number of a version, as a scenario's text has it.
@@ -79,24 +120,24 @@ fn version_number(version: Version) -> u64
 }
 
 /// Appends the keys of the tables that only version 3 has.
-fn push_third(text: &mut String, scenario: &Scenario) -> Result<(), AllocError>
-    ensures { OnOk result (string_bytes text.new ≡ string_bytes text.old ++ third_entries scenario.now scenario.now.version) }
+fn push_third(text: &mut String, scenario: &Scenario, preset: Preset) -> Result<(), AllocError>
+    ensures { OnOk result (string_bytes text.new ≡ string_bytes text.old ++ third_entries scenario.now preset scenario.now.version) }
 {
     match scenario.version() {
         Version::One | Version::Two => Ok(()),
         Version::Three => {
-            push_gossip(text, scenario)?;
-            push_section(text, scenario, "stream.", Section::Stream)
+            push_gossip(text, scenario, preset)?;
+            push_section(text, scenario, preset, "stream.", Section::Stream)
         }
     }
 }
 
 /// Appends the keys of how members gossip, where they do.
-fn push_gossip(text: &mut String, scenario: &Scenario) -> Result<(), AllocError>
-    ensures { OnOk result (string_bytes text.new ≡ string_bytes text.old ++ gossip_entries scenario.now scenario.now.gossip) }
+fn push_gossip(text: &mut String, scenario: &Scenario, preset: Preset) -> Result<(), AllocError>
+    ensures { OnOk result (string_bytes text.new ≡ string_bytes text.old ++ gossip_entries scenario.now preset scenario.now.gossip) }
 {
     match scenario.gossip() {
-        Some(_) => push_section(text, scenario, "gossip.", Section::Gossip),
+        Some(_) => push_section(text, scenario, preset, "gossip.", Section::Gossip),
         None => Ok(()),
     }
 }
@@ -105,32 +146,29 @@ fn push_gossip(text: &mut String, scenario: &Scenario) -> Result<(), AllocError>
 fn push_section(
     text: &mut String,
     scenario: &Scenario,
+    preset: Preset,
     prefix: &str,
     section: Section,
 ) -> Result<(), AllocError>
-    ensures { OnOk result (string_bytes text.new ≡ string_bytes text.old ++ section_entries scenario.now prefix.now section) }
+    ensures { OnOk result (string_bytes text.new ≡ string_bytes text.old ++ section_entries scenario.now preset prefix.now section) }
 {
-    push_rules(
-        text,
-        scenario,
-        prefix,
-        section,
-        section.rows(scenario.version()),
-    )
+    let rules = section.rows(scenario.version());
+    push_rules(text, scenario, preset, prefix, section, rules)
 }
 
 /// Appends the keys of these rules of a table.
 fn push_rules(
     text: &mut String,
     scenario: &Scenario,
+    preset: Preset,
     prefix: &str,
     section: Section,
     rules: &[KeyRule],
 ) -> Result<(), AllocError>
-    ensures { OnOk result (string_bytes text.new ≡ string_bytes text.old ++ flat_map (key_entry scenario.now prefix.now section) rules.now) }
+    ensures { OnOk result (string_bytes text.new ≡ string_bytes text.old ++ flat_map (key_entry scenario.now preset prefix.now section) rules.now) }
 {
     for rule in rules {
-        push_key(text, scenario, prefix, section, rule)?;
+        push_key(text, scenario, preset, prefix, section, rule)?;
     }
     Ok(())
 }
@@ -139,18 +177,20 @@ fn push_rules(
 fn push_key(
     text: &mut String,
     scenario: &Scenario,
+    preset: Preset,
     prefix: &str,
     section: Section,
     rule: &KeyRule,
 ) -> Result<(), AllocError>
-    ensures { OnOk result (string_bytes text.new ≡ string_bytes text.old ++ key_entry scenario.now prefix.now section rule.now) }
+    ensures { OnOk result (string_bytes text.new ≡ string_bytes text.old ++ key_entry scenario.now preset prefix.now section rule.now) }
 {
     push_entry(
         text,
         value_of(scenario, section, rule.key),
         switch_of(scenario, rule.key),
+        preset,
         prefix,
-        rule,
+        rule.key,
     )
 }
 
@@ -159,43 +199,24 @@ fn push_entry(
     text: &mut String,
     number: Option<u64>,
     is_on: Option<bool>,
+    preset: Preset,
     prefix: &str,
-    rule: &KeyRule,
+    key: FormatKey,
 ) -> Result<(), AllocError>
-    ensures { OnOk result (string_bytes text.new ≡ string_bytes text.old ++ entry_of number is_on prefix.now rule.now) }
+    ensures { OnOk result (string_bytes text.new ≡ string_bytes text.old ++ entry_of number is_on preset prefix.now key) }
 {
     if let Some(number) = number {
-        let usual = default_of(rule.absence);
-        return push_chip(text, prefix, rule.key.text(), number, usual);
+        let is_changed = is_other_number(number, usual(preset, key));
+        return push_chip(text, prefix, key.text(), number, is_changed);
     }
     if let Some(is_on) = is_on {
-        let is_changed = is_switched(is_on, rule.absence);
-        return push_switch(text, prefix, rule.key.text(), is_on, is_changed);
+        let is_changed = is_other_switch(is_on, usual_switch(preset, key));
+        return push_switch(text, prefix, key.text(), is_on, is_changed);
     }
     Ok(())
 }
 
-/// The value that holds where a key is missing, if there is one.
-fn default_of(absence: Absence) -> Option<u64>
-    ensures { result ≡ default_of absence }
-{
-    match absence {
-        Absence::Default(number) => Some(number),
-        _ => None,
-    }
-}
-
-/// Whether a switch isn't as where its key is missing.
-fn is_switched(is_on: bool, absence: Absence) -> bool
-    ensures { result ≡ is_switched is_on absence }
-{
-    match absence {
-        Absence::Off => is_on,
-        _ => !is_on,
-    }
-}
-
-/// Begins an entry; one that isn't as where its key is missing stands out.
+/// Begins an entry; one that isn't as in the nearest preset stands out.
 fn push_opening(text: &mut String, is_changed: bool) -> Result<(), AllocError>
     ensures { OnOk result (string_bytes text.new ≡ string_bytes text.old ++ chip_opening is_changed) }
 {
@@ -206,28 +227,18 @@ fn push_opening(text: &mut String, is_changed: bool) -> Result<(), AllocError>
     }
 }
 
-/// Whether a number isn't the default.
-fn is_changed(number: u64, default: Option<u64>) -> bool
-    ensures { result ≡ is_changed number default }
-{
-    match default {
-        Some(usual) => usual != number,
-        None => false,
-    }
-}
-
-/// Appends a key and its number; one that isn't the default stands out.
+/// Appends a key and its number; one that has changed stands out.
 #[tactic(auto, unfolding(crate::specs::Settings::chip))]
 fn push_chip(
     text: &mut String,
     prefix: &str,
     key: &str,
     number: u64,
-    default: Option<u64>,
+    is_changed: bool,
 ) -> Result<(), AllocError>
-    ensures { OnOk result (string_bytes text.new ≡ string_bytes text.old ++ chip prefix.now key.now number default) }
+    ensures { OnOk result (string_bytes text.new ≡ string_bytes text.old ++ chip prefix.now key.now number is_changed) }
 {
-    push_opening(text, is_changed(number, default))?;
+    push_opening(text, is_changed)?;
     text.push_str(prefix)?;
     text.push_str(key)?;
     text.push_str(" ")?;
@@ -235,7 +246,7 @@ fn push_chip(
     text.push_str("</li>")
 }
 
-/// Appends a switch; one that isn't as where its key is missing stands out.
+/// Appends a switch; one that has changed stands out.
 #[tactic(auto, unfolding(crate::specs::Settings::switch))]
 fn push_switch(
     text: &mut String,

@@ -1,6 +1,6 @@
 //! The values of the scenario's keys.
 ghost use Rattle.std.specs.Prelude.{◌≡◌};
-ghost use Rattle.run_settings.specs.Settings.{swim_value, suspicion_value, lifeguard_value, link_value, gossip_value, gossip_value_of, stream_value, value_of, switch_of};
+ghost use Rattle.run_settings.specs.Values.{swim_value, suspicion_value, lifeguard_value, link_value, gossip_value, gossip_value_of, stream_value, value_of, switch_of};
 
 use scenario::{Gossip, Lifeguard, Link, Scenario, Stream, Suspicion, Swim};
 use schema::{FormatKey, Section};

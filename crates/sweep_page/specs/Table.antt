@@ -1,13 +1,14 @@
 -- The table of all settings.
-use Rattle.std.specs.Prelude.{ℕ, Bool, if◌then◌else◌, List, [], ◌++◌, codes, length, slice_get, Option, None, Some}
+use Rattle.std.specs.Prelude.{ℕ, Bool, ◌==◌, if◌then◌else◌, List, [], ◌++◌, codes, encode_utf8, length, slice_get, Option, None, Some}
 use Rattle.std.specs.List.{flat_map, range_with_len}
 use Rattle.std.specs.Option.{option_map_or}
+use Rattle.std.specs.Str.{chars}
 use Rattle.sweep_plan.specs.Settings.{settings_of}
 use Rattle.sweep_plan.specs.Keys.{key_name}
 use Rattle.sweep_plan.specs.Sweep.{KeyValues}
 use Rattle.sweep_plan.specs.Values.{value_text}
 use Rattle.sweep_plan.specs.declared.choice.Choice.{Choice}
-use Rattle.drawing.specs.Escaped.{escaped, markup}
+use Rattle.drawing.specs.Escaped.{markup}
 use Rattle.drawing.specs.Shapes.{figure_opening, figure_end}
 use Rattle.figures.specs.declared.summary.SettingSummary.{SettingSummary}
 use Rattle.sweep_cells.specs.Cells.{cell, time_cell}
@@ -52,9 +53,13 @@ row time swept_keys place setting marked =
 unfoldable pub row_at : Option Tick → List KeyValues → List SettingSummary → List Bool → ℕ → List ℕ
 row_at time swept_keys settings front place = option_map_or (λ setting. row time swept_keys place setting (is_marked front place)) (slice_get settings place) []
 
+-- A character of a key's name; behind a dot the line may break. There is nothing to escape: names have small letters, digits, `_`, `-` and dots alone.
+abbrev pub name_char : ℕ → List ℕ
+name_char c = if c == 46 then codes ".<wbr>" else encode_utf8 c
+
 -- the name of a key over its column
 unfoldable pub key_head : KeyValues → List ℕ
-key_head swept = markup (codes "<th scope=\"col\">") ++ escaped (key_name swept.key) ++ markup (codes "</th>")
+key_head swept = markup (codes "<th scope=\"col\">") ++ flat_map name_char (chars (key_name swept.key)) ++ markup (codes "</th>")
 
 -- what its times are
 abbrev pub since_words : Option Tick → List ℕ

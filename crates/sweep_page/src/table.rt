@@ -1,13 +1,14 @@
 //! The table of all settings.
 ghost use Rattle.std.specs.Prelude.{◌≡◌, ◌<◌, ◌++◌, OnOk, length};
 ghost use Rattle.std.specs.List.{flat_map, range_with_len};
+ghost use Rattle.std.specs.Str.{chars};
 ghost use Rattle.std.specs.String.{string_bytes};
 ghost use Rattle.sweep_plan.specs.Sweep.{setting_count};
-ghost use Rattle.sweep_page.specs.Table.{share_cells, cost_cells, figure_cells, value_cell, value_cells, row_opening, row, row_at, key_head, since_words, table_words, figure_heads, table};
+ghost use Rattle.sweep_page.specs.Table.{share_cells, cost_cells, figure_cells, value_cell, value_cells, row_opening, row, row_at, name_char, key_head, since_words, table_words, figure_heads, table};
 
 use crate::front_points::is_marked;
 use base::Memory;
-use drawing::{close_figure, open_figure, push_escaped, push_markup};
+use drawing::{close_figure, open_figure, push_markup};
 use figures::SettingSummary;
 use std::alloc::{AllocError, Global};
 use sweep_cells::{
@@ -85,9 +86,30 @@ fn push_name(alloc: Global, text: &mut String, swept: &Swept) -> Result<(), Memo
 {
     let name = swept.key().name(alloc)?;
     push_markup(text, "<th scope=\"col\">")?;
-    push_escaped(text, name.as_str())?;
+    push_broken(text, name.as_str())?;
     push_markup(text, "</th>")?;
     Ok(())
+}
+
+/// Appends the name of a key; behind each of its dots the line may break.
+fn push_broken(text: &mut String, name: &str) -> Result<(), AllocError>
+    ensures { OnOk result (string_bytes text.new ≡ string_bytes text.old ++ flat_map name_char (chars name.now)) }
+{
+    for c in name.chars() {
+        push_name_char(text, c)?;
+    }
+    Ok(())
+}
+
+/// Appends a character of it.
+fn push_name_char(text: &mut String, c: char) -> Result<(), AllocError>
+    ensures { OnOk result (string_bytes text.new ≡ string_bytes text.old ++ name_char c) }
+{
+    if c == '.' {
+        text.push_str(".<wbr>")
+    } else {
+        text.push(c)
+    }
 }
 
 /// Appends the words over the figures.

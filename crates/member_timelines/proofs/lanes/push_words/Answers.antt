@@ -4,4 +4,4 @@ use Rattle.member_timelines.proofs.lanes.push_words.Goals as goal
 
 pub returns : goal.returns
 unfolding lane_words
-returns c = simp (c.in_ok-push_str-2.ensures.bytes, c.in_ok-push_legend_of.ensures, c.in_ok-push_str.ensures.bytes, append_assoc) refl
+returns c = simp (c.width.ensures.value, c.in_ok-push_column.ensures, c.in_ok-push_str-2.ensures.bytes, c.in_ok-push_legend_of.ensures, c.in_ok-push_str.ensures.bytes, append_assoc) refl

@@ -5,4 +5,4 @@ use Rattle.run_settings.proofs.settings.push_rules.Given as goal
 
 -- the keys of those so far
 abbrev pub invariant-loop-rule : goal.invariant-loop-rule
-invariant-loop-rule l = string_bytes l.text ≡ string_bytes l.initial.text ++ flat_map (key_entry l.scenario l.prefix l.section) (take l.rule-index l.rules)
+invariant-loop-rule l = string_bytes l.text ≡ string_bytes l.initial.text ++ flat_map (key_entry l.scenario l.preset l.prefix l.section) (take l.rule-index l.rules)
