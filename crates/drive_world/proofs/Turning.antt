@@ -181,10 +181,10 @@ unfolding line_of
 ends_in_feed s is_first k content = sym (append_assoc (head_text s is_first k content ++ payload_text (payload_of content)) (codes "}") (10 ∷ []))
 
 -- the line of an event without its line feed
-pub popped_feed : (line front event : List ℕ) → line ≡ front ++ 10 ∷ [] → event ≡ take (length line - 1) line → event ++ 10 ∷ [] ≡ line
-popped_feed line front event ends popped =
+pub popped_feed : (line front event : List ℕ) (count : ℕ) → count ≡ length line → line ≡ front ++ 10 ∷ [] → event ≡ take (count - 1) line → event ++ 10 ∷ [] ≡ line
+popped_feed line front event count counted_is ends popped =
     let long : length line ≡ length front + 1 = ap length ends ∙ length-append front (10 ∷ []) in
-    let shorter : length line - 1 ≡ length front = omega (arith, long) in
+    let shorter : count - 1 ≡ length front = omega (arith, counted_is, long) in
     ap (λ l. l ++ 10 ∷ []) (popped ∙ ap (λ n. take n line) shorter ∙ ap (take (length front)) ends ∙ take-append_seam front (10 ∷ [])) ∙ sym ends
 
 module _ (s : Setup) (least_delay : Option ℕ) (w : Held) (k : Key) (others : List Key) (content : Content) (place : ℕ) (first : w.waiting.keys.items ≡ k ∷ others)
