@@ -16,14 +16,13 @@ use Rattle.shards.specs.declared.shard.Shard.{Shard}
 use Rattle.shards.specs.Shards.{first_run, past_run}
 use Rattle.sweep.specs.Runs.{Made, AreMadeBetween, IsMadeAs, noted, runs_of}
 use Rattle.sweep.specs.Table.{made_line, noted_line, counts_revived}
-use Rattle.sweep.specs.Shards.{WritesShard, shard_header}
-use Rattle.sweep.specs.Resumed.{AreMadeBehind, IsBegun, IsLong, IsShort, RefusesBegun, WritesRest, runs_in}
+use Rattle.sweep.specs.Shards.{AreMadeBehind, WritesRest, shard_header}
+use Rattle.sweep.specs.Resumed.{IsBegun, IsLong, IsShort, RefusesBegun, runs_in}
 use Rattle.sweep.specs.Sums.{IsFed, key_of_text, sweep_key}
 use Rattle.sweep.specs.declared.summing.LineKey.{LineKey}
 use Rattle.sweep.specs.declared.begun.BegunFault.TheVariants as begun_fault
 use Rattle.sweep.proofs.Kept.{goes_behind, long_again, short_again}
 use Rattle.sweep.proofs.LinesOf.{all_fed, lines_counted}
-use Rattle.sweep.proofs.ShardCourse.{all_runs}
 use Rattle.table_rows.specs.Made.{IsTellable}
 use Rattle.table_rows.proofs.Beginnings.{one_begins_with_other}
 use Rattle.table_rows.proofs.Bytes.{lacks_both, lacks_cons}
@@ -92,7 +91,7 @@ module _ (revived : Bool) (key : List ℕ) where
 -- the first of some runs, and those behind them
 module _ (tree : Data) (sweep : Sweep) (first past runs : ℕ) (made later : List Made) (are : AreMadeBetween tree sweep first past made) (fit : first + runs ≤ past)
     (behind : AreMadeBetween tree sweep (first + runs) past later) where
-  pub both_made : AreMadeBetween tree sweep first past (take runs made ++ later)
+  both_made : AreMadeBetween tree sweep first past (take runs made ++ later)
   both_made =
       let all = drop first (runs_of sweep) in
       let count = past - first in
@@ -134,17 +133,24 @@ module _ (tree : Data) (mark : List ℕ) (sweep : Sweep) (p : Shard) (made : Lis
       let start : lines ++ (long.left ++ cut.rest) ≡ table = sym (append_assoc lines long.left cut.rest) ∙ ap (λ l. l ++ cut.rest) (sym long.begins.written) ∙ body in
       first_lines revived key long.begins.lines made (long.left ++ cut.rest) (all_fed own_key sweep first runs long.begins.lines long.begins.are) cut.told start
 
+  -- the first runs that were made, and those behind them, are the runs of the shard
+  both_left : (runs : ℕ) (later : List Made) → first + runs ≤ past_run p (run_count sweep) → AreMadeBehind tree sweep p runs later → AreMadeBehind tree sweep p 0 (take runs made ++ later)
+  both_left runs later few are =
+      let past = past_run p (run_count sweep) in
+      let same : first + runs ≡ first + 0 + runs = omega arith in
+      both_made tree sweep (first + 0) past runs made later cut.are (omega (arith, few)) (subst (λ n. AreMadeBetween tree sweep n past later) same are)
+
   pub going_on : (kept runs : ℕ) (new : Option (List ℕ)) → IsBegun tree mark sweep p text kept runs → WritesRest tree mark sweep p kept runs (Some (take kept text)) new
-      → WritesShard tree mark sweep p (Some []) new
+      → WritesRest tree mark sweep p 0 0 (Some []) new
   going_on kept runs new begun writes = by begun.stands
     where
       made_lines : Made → List ℕ
       made_lines = noted_line revived key
 
-      by : IsShort header text kept runs ⊎ Long kept runs → WritesShard tree mark sweep p (Some []) new
+      by : IsShort header text kept runs ⊎ Long kept runs → WritesRest tree mark sweep p 0 0 (Some []) new
       by (inl short) = record {
         made = writes.made;
-        are = all_runs tree sweep p writes.made (subst (λ n. AreMadeBehind tree sweep p n writes.made) short.no_run writes.are);
+        are = subst (λ n. AreMadeBehind tree sweep p n writes.made) short.no_run writes.are;
         written = goes_behind header text kept header (short_again header text kept short.rest short.written short.all) new (flat_map made_lines writes.made) writes.written;
       }
       by (inr long) =
@@ -158,7 +164,7 @@ module _ (tree : Data) (mark : List ℕ) (sweep : Sweep) (p : Shard) (made : Lis
           let again = long_again header text kept lines long.left (long.written ∙ ap (λ l. header ++ l) long.begins.written) long.stay in
           record {
             made = take runs made ++ writes.made;
-            are = both_made tree sweep first (past_run p (run_count sweep)) runs made writes.made cut.are begun.few writes.are;
+            are = both_left runs writes.made begun.few writes.are;
             written = subst (Appends (Some []) new) text_is (goes_behind header text kept (header ++ lines) again new (flat_map made_lines writes.made) writes.written);
           }
 

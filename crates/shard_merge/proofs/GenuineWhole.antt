@@ -16,7 +16,8 @@ use Rattle.sweep.specs.Table.{noted_line, counts_revived}
 use Rattle.sweep.specs.Summaries.{SumUp}
 use Rattle.sweep.specs.Shards.{shard_header}
 use Rattle.sweep.proofs.Steps.{zipped_long}
-use Rattle.sweep_until.specs.Until.{AreMadeUntil, IsMadeUntil, all_of}
+use Rattle.sweep_until.specs.Until.{AreMadeFrom, IsMadeUntil, all_of}
+use Rattle.sweep_until.proofs.ShardSettings.{all_settings_left}
 use Rattle.table_rows.specs.Lines.{Line, IsLine, notes_of, shard_line}
 use Rattle.table_rows.specs.Settings.{IsSetting, SumsUpLines, shard_setting}
 use Rattle.table_rows.specs.Made.{IsTellable}
@@ -96,7 +97,7 @@ module _ (texts : List (Vec ℕ Global)) (old new : Option (List ℕ)) (own : Sw
 
   -- ---- settings of as many runs as are enough
 
-  module _ (width of : ℕ) (made : List (List Made)) (wanted : sweep.until ≡ Some width) (makes : AreMadeUntil tree sweep width (setting_count sweep.swept_keys) made)
+  module _ (width of : ℕ) (made : List (List Made)) (wanted : sweep.until ≡ Some width) (makes : AreMadeFrom tree sweep width 0 (setting_count sweep.swept_keys) made)
       (told : All (All IsTellable) made) (genuine : AreShardsOfSettings tree texts mark sweep of made) where
     abbrev body_of_settings : Shard → List ℕ
     body_of_settings q = flat_map (noted_line revived key) (all_of (share_of (setting_count sweep.swept_keys) q made))
@@ -147,7 +148,7 @@ module _ (texts : List (Vec ℕ Global)) (old new : Option (List ℕ)) (own : Sw
       column = one_column texts old new own told_so settings mark revived sweep joins marked asked body_of_settings each_of_settings;
       makes = record {
         made = made;
-        are = makes;
+        are = all_settings_left tree sweep width made makes;
         written = whole_put texts old new own told_so settings mark revived sweep joins marked asked body_of_settings each_of_settings _ table_of_settings;
         told = sums_so revived key made settings (subst (λ own. AllZip SumsUpLines own settings) same_settings are_settings.holds.0);
       };

@@ -5,13 +5,14 @@ use Rattle.std.specs.declared.alloc.Global.{Global}
 use Rattle.toml.specs.Data.{Data}
 use Rattle.sweep_plan.specs.Sweep.{Sweep, setting_count, run_count, seed_count}
 use Rattle.shards.specs.declared.shard.Shard.{Shard}
-use Rattle.shards.specs.Shards.{IsShard}
+use Rattle.shards.specs.Shards.{IsShard, whole}
 use Rattle.figures.specs.declared.summary.SettingSummary.{SettingSummary}
 use Rattle.sweep.specs.Runs.{Made, noted}
 use Rattle.sweep.specs.Table.{counts_revived}
 use Rattle.sweep.specs.Summaries.{SumUp}
-use Rattle.sweep.specs.Shards.{AreMadeIn, shard_table, table_text}
-use Rattle.sweep_until.specs.Until.{MakesUntil, all_of}
+use Rattle.sweep.specs.Shards.{AreMadeBehind, shard_table}
+use Rattle.sweep_until.specs.Shards.{MakesUntil}
+use Rattle.sweep_until.specs.Until.{all_of}
 use Rattle.table_rows.specs.Made.{IsTellable}
 use Rattle.shard_merge.specs.Among.{IsAmongTexts}
 use Rattle.shard_merge.specs.Behind.{share_of}
@@ -28,7 +29,7 @@ AreShards tree texts mark sweep of made =
 -- the text is a beginning of a shard of the sweep, of these runs
 pub record IsCutShard (tree : Data) (mark : List ℕ) (sweep : Sweep) (p : Shard) (made : List Made) (text : List ℕ) : Type 0 where
   pub sound : IsShard p
-  pub are : AreMadeIn tree sweep p made
+  pub are : AreMadeBehind tree sweep p 0 made
   pub told : All IsTellable made
   pub rest : List ℕ
   pub written : text ++ rest ≡ shard_table (counts_revived tree) mark sweep p made
@@ -37,7 +38,7 @@ pub record IsCutShard (tree : Data) (mark : List ℕ) (sweep : Sweep) (p : Shard
 pub record IsWhole (tree : Data) (mark : List ℕ) (sweep : Sweep) (made : List Made) (old new : Option (List ℕ)) (read : Sweep) (revived : Bool) (settings : List SettingSummary) : Type 0 where
   pub same : read ≡ sweep
   pub column : revived ≡ counts_revived tree
-  pub written : Appends old new (table_text tree mark sweep made)
+  pub written : Appends old new (shard_table (counts_revived tree) mark sweep whole made)
   pub each : length settings ≡ setting_count sweep.swept_keys
   pub summed : SumUp (seed_count sweep.seeds) (map noted made) settings
 

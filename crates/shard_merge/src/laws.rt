@@ -5,11 +5,11 @@ ghost use Rattle.toml.specs.Data.{Data};
 ghost use Rattle.sweep_plan.specs.Sweep.{Sweep, setting_count, run_count};
 ghost use Rattle.sweep.specs.Runs.{Made, IsAskedFor};
 ghost use Rattle.figures.specs.declared.summary.SettingSummary.{SettingSummary};
-ghost use Rattle.sweep_until.specs.Until.{AreMadeUntil};
+ghost use Rattle.sweep_until.specs.Until.{AreMadeFrom};
 ghost use Rattle.shard_merge.specs.Joined.{IsMark, Joins};
 ghost use Rattle.shards.specs.declared.shard.Shard.{Shard};
-ghost use Rattle.sweep.specs.Shards.{WritesShard};
-ghost use Rattle.sweep.specs.Resumed.{IsBegun, RefusesBegun, WritesRest};
+ghost use Rattle.sweep.specs.Shards.{WritesRest};
+ghost use Rattle.sweep.specs.Resumed.{IsBegun, RefusesBegun};
 ghost use Rattle.sweep.specs.declared.begun.BegunFault.TheVariants as begun_fault;
 ghost use Rattle.table_rows.specs.Made.{IsTellable};
 ghost use Rattle.shard_merge.specs.Genuine.{AreAll, AreShards, AreShardsOfSettings, IsAgain, IsCutShard, IsWhole, IsWholeUntil};
@@ -28,7 +28,7 @@ pub fn all_shards_are_the_whole()
 pub fn all_shards_of_settings_are_the_whole()
     ensures { (texts : List (Vec ℕ Global)) (old new : Option (List ℕ)) (read : Sweep) (revived : Bool) (settings : List SettingSummary) (mark : List ℕ) (tree : Data) (sweep : Sweep) (width of : ℕ)
         (made : List (List Made)) → Joins texts old new read revived settings → IsMark mark → IsAskedFor sweep → sweep.until ≡ Some width
-        → AreMadeUntil tree sweep width (setting_count sweep.swept_keys) made → All (All IsTellable) made
+        → AreMadeFrom tree sweep width 0 (setting_count sweep.swept_keys) made → All (All IsTellable) made
         → AreShardsOfSettings tree texts mark sweep of made → IsWholeUntil tree mark sweep width old new read revived settings }
 {}
 
@@ -37,7 +37,7 @@ pub fn all_shards_of_settings_are_the_whole()
 pub fn a_cut_shard_goes_on()
     ensures goes_on { (tree : Data) (mark : List ℕ) (sweep : Sweep) (p : Shard) (made : List Made) (text : List ℕ) (kept runs : ℕ) (new : Option (List ℕ))
         → IsCutShard tree mark sweep p made text → IsBegun tree mark sweep p text kept runs → WritesRest tree mark sweep p kept runs (Some (take kept text)) new
-        → WritesShard tree mark sweep p (Some []) new }
+        → WritesRest tree mark sweep p 0 0 (Some []) new }
     ensures taken { (tree : Data) (mark : List ℕ) (sweep : Sweep) (p : Shard) (made : List Made) (text : List ℕ)
         → IsCutShard tree mark sweep p made text → ¬ (RefusesBegun tree mark sweep p text begun_fault.Other) }
 {}

@@ -18,11 +18,11 @@ use Rattle.shards.specs.declared.shard.Shard.{Shard}
 use Rattle.shards.specs.Shards.{IsShard, whole}
 use Rattle.shards.proofs.Whole.{whole_is_shard}
 use Rattle.sweep.specs.Runs.{IsAskedFor, Made, noted}
-use Rattle.sweep.specs.Shards.{shard_header, shard_table, table_text}
+use Rattle.sweep.specs.Shards.{shard_header, shard_table}
 use Rattle.sweep.specs.Sums.{sweep_key}
 use Rattle.sweep.specs.Summaries.{SumUp}
 use Rattle.sweep.specs.Table.{counts_revived, made_line, noted_line}
-use Rattle.sweep_until.specs.Until.{AreMadeUntil, all_of}
+use Rattle.sweep_until.specs.Until.{AreMadeFrom, all_of}
 use Rattle.table_rows.specs.Lines.{IsLine, Line, notes_of, shard_line}
 use Rattle.table_rows.specs.Made.{IsTellable}
 use Rattle.table_rows.proofs.Items.{same_items}
@@ -256,7 +256,7 @@ module _ (texts : List (Vec ℕ Global)) (tree : Data) (mark : List ℕ) (sweep 
     seeds_are : its.seeds ≡ all
     seeds_are = same_Some its.seeds all (sym (ap (λ (s : Sweep). s.seeds) sweep_is) ∙ seeded)
 
-    whole_text : the_text ≡ table_text tree mark sweep made
+    whole_text : the_text ≡ shard_table (counts_revived tree) mark sweep whole made
     whole_text =
         its.written ∙ ap (λ r. shard_header rev mark (with_seeds sweep r) whole ++ runs_text r) seeds_are
         ∙ (λ i. shard_header rev mark (sym is_with i) whole ++ flat_map (noted_line rev (sweep_key mark (sym is_with i))) (part_all count each all.first made long all refl (sym its_each) i))
@@ -323,7 +323,7 @@ whole_of_shards texts old new own told settings mark tree sweep of made (inr joi
     (λ text among. (let its = genuine text among in (its.0, its.1, its.3))))
 
 pub whole_of_setting_shards : (texts : List (Vec ℕ Global)) (old new : Option (List ℕ)) (own : Sweep) (told : Bool) (settings : List SettingSummary) (mark : List ℕ) (tree : Data) (sweep : Sweep) (width of : ℕ)
-    (made : List (List Made)) → Joins texts old new own told settings → IsMark mark → IsAskedFor sweep → sweep.until ≡ Some width → AreMadeUntil tree sweep width (setting_count sweep.swept_keys) made
+    (made : List (List Made)) → Joins texts old new own told settings → IsMark mark → IsAskedFor sweep → sweep.until ≡ Some width → AreMadeFrom tree sweep width 0 (setting_count sweep.swept_keys) made
     → All (All IsTellable) made → AreShardsOfSettings tree texts mark sweep of made → IsWholeUntil tree mark sweep width old new own told settings
 whole_of_setting_shards texts old new own told settings mark tree sweep width of made (inl shards) marked asked wanted makes tellable genuine =
     whole_of_settings texts old new own told settings mark tree sweep shards.1 marked asked width of made wanted makes tellable genuine

@@ -4,9 +4,9 @@ ghost use Rattle.std.specs.declared.alloc.Global.{Global};
 ghost use Rattle.toml.specs.Data.{Data};
 ghost use Rattle.sweep_plan.specs.Sweep.{Sweep, setting_count, run_count};
 ghost use Rattle.sweep_plan.specs.declared.seeds.Seeds.{Seeds};
-ghost use Rattle.sweep.specs.Runs.{Made, AreMade, IsAskedFor};
+ghost use Rattle.sweep.specs.Runs.{Made, AreMadeBetween, IsAskedFor};
 ghost use Rattle.figures.specs.declared.summary.SettingSummary.{SettingSummary};
-ghost use Rattle.sweep_until.specs.Until.{AreMadeUntil};
+ghost use Rattle.sweep_until.specs.Until.{AreMadeFrom};
 ghost use Rattle.table_rows.specs.Made.{IsTellable};
 ghost use Rattle.shard_merge.specs.Joined.{IsMark};
 ghost use Rattle.shard_merge.specs.Genuine.{AreAll, AreShards, AreShardsOfSettings, IsAgain, IsWhole, IsWholeUntil};
@@ -25,7 +25,7 @@ pub fn tables_of_all_seeds_are_the_whole()
 /// The runs of a sweep that have the seeds of a range are those that the sweep with these seeds asks for.
 pub fn runs_with_seeds_are_those_of_their_sweep()
     ensures { (tree : Data) (sweep : Sweep) (all r : Seeds) (made : List Made) → sweep ≡ with_seeds sweep all → all.first ≤ r.first → r.first ≤ r.last → r.last ≤ all.last
-        → AreMade tree sweep made → AreMade tree (with_seeds sweep r) (runs_with sweep all made r) }
+        → AreMadeBetween tree sweep 0 (run_count sweep) made → AreMadeBetween tree (with_seeds sweep r) 0 (run_count (with_seeds sweep r)) (runs_with sweep all made r) }
 {}
 
 /// Where each of the texts is some shard of a sweep of which each setting runs with each seed, they are put together to the whole.
@@ -39,7 +39,7 @@ pub fn all_shards_are_the_whole()
 pub fn all_shards_of_settings_are_the_whole()
     ensures { (texts : List (Vec ℕ Global)) (old new : Option (List ℕ)) (read : Sweep) (revived : Bool) (settings : List SettingSummary) (mark : List ℕ) (tree : Data) (sweep : Sweep) (width of : ℕ)
         (made : List (List Made)) → Joins texts old new read revived settings → IsMark mark → IsAskedFor sweep → sweep.until ≡ Some width
-        → AreMadeUntil tree sweep width (setting_count sweep.swept_keys) made → All (All IsTellable) made
+        → AreMadeFrom tree sweep width 0 (setting_count sweep.swept_keys) made → All (All IsTellable) made
         → AreShardsOfSettings tree texts mark sweep of made → IsWholeUntil tree mark sweep width old new read revived settings }
 {}
 

@@ -11,7 +11,7 @@ ghost use Rattle.table_rows.specs.Made.{IsTellable};
 ghost use Rattle.table_rows.specs.Open.{HasRowOf};
 ghost use Rattle.figures.specs.Notes.{Note};
 ghost use Rattle.shards.specs.declared.shard.Shard.{Shard};
-ghost use Rattle.sweep_until.specs.Shards.{WritesShardUntil, WritesRestUntil};
+ghost use Rattle.sweep_until.specs.Shards.{WritesRestUntil};
 ghost use Rattle.sweep.specs.declared.begun.BegunFault.TheVariants as begun_fault;
 ghost use Rattle.table_rows.specs.Begun.{IsBegunSettings, RefusesBegunSettings};
 ghost use Rattle.table_rows.specs.Cut.{IsCutShardOfSettings};
@@ -32,7 +32,7 @@ pub fn a_written_line_is_its_runs()
 pub fn a_cut_shard_of_settings_goes_on()
     ensures goes_on { (tree : Data) (mark : List ℕ) (sweep : Sweep) (width : ℕ) (p : Shard) (made : List (List Made)) (text : List ℕ) (kept settings : ℕ) (before : List Note) (new : Option (List ℕ))
         → IsCutShardOfSettings tree mark sweep width p made text → IsBegunSettings tree mark sweep width p text kept settings before
-        → WritesRestUntil tree mark sweep p kept settings before (Some (take kept text)) new → WritesShardUntil tree mark sweep p (Some []) new }
+        → WritesRestUntil tree mark sweep p kept settings before (Some (take kept text)) new → WritesRestUntil tree mark sweep p 0 0 [] (Some []) new }
     ensures taken { (tree : Data) (mark : List ℕ) (sweep : Sweep) (width : ℕ) (p : Shard) (made : List (List Made)) (text : List ℕ)
         → IsCutShardOfSettings tree mark sweep width p made text → ¬ (RefusesBegunSettings tree mark sweep p text begun_fault.Other) }
 {}

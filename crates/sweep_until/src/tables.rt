@@ -1,21 +1,21 @@
-//! The table of a shard, which is one of whole settings.
+//! The table of a sweep or of a shard of it, which is one of whole settings, from its beginning or behind what stands of it.
 ghost use Rattle.std.specs.Prelude.{◌≡◌, ◌≢◌, ◌<◌, ◌≤◌, ◌^◌, ◌+◌, ◌-◌, [], Some, is_some, true, OnOk, OnErr, IfErr};
 ghost use Rattle.toml.specs.View.{view};
 ghost use Rattle.run_output.specs.Written.{sink_failures};
-ghost use Rattle.shards.specs.Shards.{IsShard};
+ghost use Rattle.shards.specs.Shards.{IsShard, whole};
 ghost use Rattle.sweep.specs.Judged.{AreAccepted};
 ghost use Rattle.sweep.specs.Runs.{IsAskedFor};
 ghost use Rattle.sweep.specs.Table.{HasCause, counts_revived};
 ghost use Rattle.sweep.specs.Shards.{shard_header};
 ghost use Rattle.sweep.specs.Sums.{sweep_key};
 ghost use Rattle.sweep_plan.specs.Sweep.{seed_count};
-ghost use Rattle.sweep_until.specs.Shards.{BeginsShardUntil, BeginsRestUntil, CanGoOn, WritesShardUntil, WritesRestUntil, first_setting, settings_in, rest_settings};
+ghost use Rattle.sweep_until.specs.Shards.{BeginsRestUntil, BeginsUntil, CanGoOn, MakesUntil, WritesRestUntil, first_setting, settings_in, rest_settings};
 ghost use Rattle.sweep_until.specs.Until.{AreTooFew, BeginsSettings, BeginsWide, FinishesSetting, HasSettings, setting_course};
 
 use crate::parts::ShardProgress;
 use crate::until::{make_setting, make_settings};
 use base::Fault;
-use figures::{RunMetadata, SettingSummary};
+use figures::SettingSummary;
 use run_output::flush;
 use scenario::Workers;
 use sequential_run::{a_run_exists, the_run_is_one};
@@ -23,7 +23,7 @@ use shards::Shard;
 use std::alloc::Global;
 use std::marker::Sync;
 use std::thread::Threads;
-use sweep::{Progress, counts_revived, sweep_key, write_front_behind};
+use sweep::{Begun, Progress, counts_revived, sweep_key, write_front_behind};
 use sweep_plan::Plan;
 use toml::Value;
 use trace::Sink;
@@ -31,65 +31,72 @@ use trace::Sink;
 /// The widest that an interval may be, in hundredths.
 const WIDEST: u64 = 100;
 
-/// Makes the runs of the settings of a shard of a sweep whose settings have as many runs as make their intervals narrow
-/// enough, and writes its table: a header, ahead of which stands the shard's name, and a line for each run, each with
-/// its checksum and what its setting keeps of it before it; at the end the table is flushed. A shard is one of whole
-/// settings, so how many runs it has depends on these alone. `mark` tells which scenario's text is meant. The plan must
-/// have a width. All else is as in `sweep_until`; what is told of progress is that of the shard's runs.
-pub fn write_shard_until<S: Sink, P: Progress>(
+/// Makes all runs of a sweep whose settings have as many runs as make their intervals at most so many hundredths wide, and
+/// writes their table: that of its only shard, as `write_table_until` does with nothing made before. Returns the summary of
+/// each setting, in their order.
+pub fn sweep_until<S: Sink, P: Progress>(
     rt: &(impl Threads + Sync),
     alloc: Global,
     plan: &Plan,
-    shard: Shard,
     mark: &str,
+    width: u64,
     document: &Value,
     workers: Workers,
     progress: &mut P,
     table: &mut S,
-) -> Result<(), Fault>
+) -> Result<Vec<SettingSummary>, Fault>
     requires asked { IsAskedFor plan.now }
     requires judged { AreAccepted (view document.now) plan.now }
-    requires shard { IsShard shard }
-    requires wanted { is_some plan.now.until ≡ true }
+    requires most { width ≤ 100 }
     requires countable { S.failed table.old < 2 ^ 63 }
 
-    // How many workers there are doesn't count.
-    ensures whole { OnOk result (WritesShardUntil (view document.now) mark.now plan.now shard (S.held table.old) (S.held table.new)) }
-    ensures part { OnErr result (BeginsShardUntil (view document.now) mark.now plan.now shard (S.held table.old) (S.held table.new)) }
+    // How many workers there are doesn't count: the table and the summaries are the same.
+    ensures whole { IfOk result (λ settings. MakesUntil (view document.now) mark.now plan.now width (S.held table.old) (S.held table.new) settings.items) }
+    ensures part { OnErr result (BeginsUntil (view document.now) mark.now plan.now width (S.held table.old) (S.held table.new)) }
 
     // No fault comes without its cause.
     ensures causes { IfErr result (HasCause (view document.now) plan.now) }
     ensures failures { S.failed table.new ≡ S.failed table.old + sink_failures result }
 {
-    write_rest_until(
+    let mut settings = Vec::new(alloc);
+    write_settings(
         rt,
         alloc,
         plan,
-        shard,
+        Shard::whole(),
         mark,
+        width,
         0,
         0,
-        &[],
         document,
         workers,
         progress,
+        &mut settings,
         table,
-    )
+    )?;
+    Ok(settings)
 }
 
-/// Makes the runs of a shard that aren't made yet, and writes its table behind the bytes that stay of it: what these lack of the
-/// first line, and the lines of the runs that are left; at the end the table is flushed. So many settings are made, and the runs of
-/// the next one whose metadata is in `started`: that one goes on behind these, up to where it ends in a shard that is made at once. All
-/// else is as in `write_shard_until`.
-pub fn write_rest_until<S: Sink, P: Progress>(
+/// Makes the runs of a shard of a sweep that aren't made yet, of each setting with more and more of the seeds, in rising
+/// order, until the 95 % interval of the share of its runs with a false death, by Wilson, is as narrow as the plan asks, or
+/// with all seeds; and writes the shard's table behind the bytes that stay of it: what these lack of the first line, which is
+/// the shard's name and the header, and a line for each run that is left, with its checksum and what its setting keeps of it
+/// before it; at the end it is flushed. So many settings are made, and the first runs of the next one: that one goes on behind
+/// these, up to where it ends in a shard that is made at once. How many runs a setting has depends on its own runs alone. The
+/// plan must have a width. `mark` is that of the scenario's text. Runs of a setting are made some at a time, as many side by
+/// side as there are workers; what was made beyond the last run that is wanted is thrown away. Each time `progress` gets how
+/// many of the shard's runs were made, those that are left out among them. Each document must have been judged to be
+/// accepted. After a fault the table has got a beginning of that.
+///
+/// Faults: `Memory`; `CounterOverflow` where a counter of some run, or a count of its tallies, would pass 2^63; `Write` where
+/// the sink failed.
+pub fn write_table_until<S: Sink, P: Progress>(
     rt: &(impl Threads + Sync),
     alloc: Global,
     plan: &Plan,
     shard: Shard,
     mark: &str,
-    kept: usize,
-    made: usize,
-    started: &[RunMetadata],
+    begun: &Begun,
     document: &Value,
     workers: Workers,
     progress: &mut P,
@@ -99,17 +106,21 @@ pub fn write_rest_until<S: Sink, P: Progress>(
     requires judged { AreAccepted (view document.now) plan.now }
     requires shard { IsShard shard }
     requires wanted { is_some plan.now.until ≡ true }
-    requires begun { CanGoOn plan.now shard (shard_header (counts_revived (view document.now)) mark.now plan.now shard) kept made started.now }
+    requires begun { CanGoOn plan.now shard (shard_header (counts_revived (view document.now)) mark.now plan.now shard) begun.now.kept begun.now.count begun.now.started.items }
     requires countable { S.failed table.old < 2 ^ 63 }
-    ensures whole { OnOk result (WritesRestUntil (view document.now) mark.now plan.now shard kept made started.now
+
+    // How many workers there are doesn't count.
+    ensures whole { OnOk result (WritesRestUntil (view document.now) mark.now plan.now shard begun.now.kept begun.now.count begun.now.started.items
         (S.held table.old) (S.held table.new)) }
-    ensures part { OnErr result (BeginsRestUntil (view document.now) mark.now plan.now shard kept made started.now
+    ensures part { OnErr result (BeginsRestUntil (view document.now) mark.now plan.now shard begun.now.kept begun.now.count begun.now.started.items
         (S.held table.old) (S.held table.new)) }
+
+    // No fault comes without its cause.
     ensures causes { IfErr result (HasCause (view document.now) plan.now) }
     ensures failures { S.failed table.new ≡ S.failed table.old + sink_failures result }
 {
     let width = width_of(plan);
-    if started.is_empty() {
+    if begun.started.is_empty() {
         let mut settings = Vec::new(alloc);
         return write_settings(
             rt,
@@ -118,8 +129,8 @@ pub fn write_rest_until<S: Sink, P: Progress>(
             shard,
             mark,
             width,
-            kept,
-            made,
+            begun.kept,
+            begun.count,
             document,
             workers,
             progress,
@@ -128,8 +139,7 @@ pub fn write_rest_until<S: Sink, P: Progress>(
         );
     }
     write_open(
-        rt, alloc, plan, shard, mark, width, kept, made, started, document, workers, progress,
-        table,
+        rt, alloc, plan, shard, mark, width, begun, document, workers, progress, table,
     )
 }
 
@@ -141,9 +151,7 @@ fn write_open<S: Sink, P: Progress>(
     shard: Shard,
     mark: &str,
     width: u64,
-    kept: usize,
-    made: usize,
-    started: &[RunMetadata],
+    begun: &Begun,
     document: &Value,
     workers: Workers,
     progress: &mut P,
@@ -153,12 +161,12 @@ fn write_open<S: Sink, P: Progress>(
     requires judged { AreAccepted (view document.now) plan.now }
     requires shard { IsShard shard }
     requires wanted { plan.now.until ≡ Some width }
-    requires begun { CanGoOn plan.now shard (shard_header (counts_revived (view document.now)) mark.now plan.now shard) kept made started.now }
-    requires some { started.now ≢ [] }
+    requires begun { CanGoOn plan.now shard (shard_header (counts_revived (view document.now)) mark.now plan.now shard) begun.now.kept begun.now.count begun.now.started.items }
+    requires some { begun.now.started.items ≢ [] }
     requires countable { S.failed table.old < 2 ^ 63 }
-    ensures whole { OnOk result (WritesRestUntil (view document.now) mark.now plan.now shard kept made started.now
+    ensures whole { OnOk result (WritesRestUntil (view document.now) mark.now plan.now shard begun.now.kept begun.now.count begun.now.started.items
         (S.held table.old) (S.held table.new)) }
-    ensures part { OnErr result (BeginsRestUntil (view document.now) mark.now plan.now shard kept made started.now
+    ensures part { OnErr result (BeginsRestUntil (view document.now) mark.now plan.now shard begun.now.kept begun.now.count begun.now.started.items
         (S.held table.old) (S.held table.new)) }
     ensures causes { IfErr result (HasCause (view document.now) plan.now) }
     ensures failures { S.failed table.new ≡ S.failed table.old + sink_failures result }
@@ -167,7 +175,7 @@ fn write_open<S: Sink, P: Progress>(
     the_run_is_one();
     let mut settings = Vec::new(alloc);
     finish_setting(
-        rt, alloc, plan, shard, mark, width, made, started, document, workers, progress, table,
+        rt, alloc, plan, shard, mark, width, begun, document, workers, progress, table,
     )?;
     write_settings(
         rt,
@@ -176,8 +184,8 @@ fn write_open<S: Sink, P: Progress>(
         shard,
         mark,
         width,
-        kept,
-        made + 1,
+        begun.kept,
+        begun.count + 1,
         document,
         workers,
         progress,
@@ -194,8 +202,7 @@ fn finish_setting<S: Sink, P: Progress>(
     shard: Shard,
     mark: &str,
     width: u64,
-    made: usize,
-    started: &[RunMetadata],
+    begun: &Begun,
     document: &Value,
     workers: Workers,
     progress: &mut P,
@@ -205,19 +212,20 @@ fn finish_setting<S: Sink, P: Progress>(
     requires judged { AreAccepted (view document.now) plan.now }
     requires shard { IsShard shard }
     requires most { width ≤ 100 }
-    requires some { made < settings_in plan.now shard }
-    requires open_yet { AreTooFew width (seed_count plan.now.seeds) started.now }
+    requires some { begun.now.count < settings_in plan.now shard }
+    requires open_yet { AreTooFew width (seed_count plan.now.seeds) begun.now.started.items }
     requires countable { S.failed table.old < 2 ^ 63 }
-    ensures whole { OnOk result (FinishesSetting (view document.now) plan.now (sweep_key mark.now plan.now) width (first_setting plan.now shard + made) started.now
+    ensures whole { OnOk result (FinishesSetting (view document.now) plan.now (sweep_key mark.now plan.now) width (first_setting plan.now shard + begun.now.count) begun.now.started.items
         (S.held table.old) (S.held table.new)) }
-    ensures part { OnErr result (BeginsWide (view document.now) plan.now width started.now
-        (setting_course plan.now (sweep_key mark.now plan.now) (first_setting plan.now shard + made) started.now (S.held table.old)) (S.held table.new)) }
+    ensures part { OnErr result (BeginsWide (view document.now) plan.now width begun.now.started.items
+        (setting_course plan.now (sweep_key mark.now plan.now) (first_setting plan.now shard + begun.now.count) begun.now.started.items (S.held table.old)) (S.held table.new)) }
     ensures causes { IfErr result (HasCause (view document.now) plan.now) }
     ensures failures { S.failed table.new ≡ S.failed table.old + sink_failures result }
 {
     let count = plan.settings();
     let first = shard.first(count);
-    let number = first + made;
+    let number = first + begun.count;
+    let started = begun.started.as_slice();
     let key = sweep_key(alloc, plan, mark)?;
     let mut part = ShardProgress {
         whole: progress,
@@ -232,7 +240,7 @@ fn finish_setting<S: Sink, P: Progress>(
 
 /// Writes the table of a shard behind so many bytes and settings, where the intervals are to be so many hundredths wide at most, and
 /// adds what is told of each setting that is made.
-pub(crate) fn write_settings<S: Sink, P: Progress>(
+fn write_settings<S: Sink, P: Progress>(
     rt: &(impl Threads + Sync),
     alloc: Global,
     plan: &Plan,

@@ -13,7 +13,7 @@ use Rattle.sweep_until.specs.Until.{HasSettings}
 use Rattle.sweep_until.specs.Shards.{settings_in, first_setting, rest_settings}
 use Rattle.sweep_until.proofs.Settings.{begins_settings, begins_front, settings_kept, no_setting}
 use Rattle.sweep_until.proofs.ShardSettings.{settings_within, few_settings, rest_within}
-use Rattle.sweep_until.proofs.setting_shards.write_settings.Goals as goal
+use Rattle.sweep_until.proofs.tables.write_settings.Goals as goal
 
 pub first-first-requires-clause-few : goal.first-first-requires-clause-few
 first-first-requires-clause-few g c = omega (arith, few_settings c.args.plan.now c.requires.asked, c.settings-count.ensures)

@@ -7,7 +7,7 @@ use Rattle.sweep_until.specs.Shards.{first_setting}
 use Rattle.sweep_until.specs.Until.{BeginsWide, MakesSetting, setting_course}
 use Rattle.sweep_until.proofs.Settings.{setting_waits}
 use Rattle.sweep_until.proofs.ShardSettings.{few_settings, settings_within}
-use Rattle.sweep_until.proofs.setting_shards.finish_setting.Goals as goal
+use Rattle.sweep_until.proofs.tables.finish_setting.Goals as goal
 
 pub first-first-requires-clause-few : goal.first-first-requires-clause-few
 first-first-requires-clause-few g c = omega (arith, few_settings c.args.plan.now c.requires.asked, c.settings-count.ensures)
@@ -29,33 +29,33 @@ pub returns-in_err-key-clause-part : goal.returns-in_err-key-clause-part
 returns-in_err-key-clause-part g c =
     let plan = c.args.plan.now in
     on_err c.from_residual.result
-    (setting_waits (view c.args.document.now) plan (sweep_key c.args.mark.now plan) c.args.width c.args.started.now (first_setting plan c.args.shard + c.args.made)
+    (setting_waits (view c.args.document.now) plan (sweep_key c.args.mark.now plan) c.args.width c.args.begun.now.started.items (first_setting plan c.args.shard + c.args.begun.now.count)
     (g.S.Sink.held c.args.table.now) c.requires.open_yet)
 
 pub returns-in_err-make_setting-clause-part : goal.returns-in_err-make_setting-clause-part
 returns-in_err-make_setting-clause-part g c =
     let tree = view c.args.document.now in
     let plan = c.args.plan.now in
-    let before = c.args.started.now in
+    let before = c.args.begun.now.started.items in
     let old = g.S.Sink.held c.args.table.now in
     let new = g.S.Sink.held c.make_setting.new.table in
-    let number : c.first-first.result + c.args.made ≡ first_setting plan c.args.shard + c.args.made =
-    ap (λ n. n + c.args.made) (c.first-first.ensures.first ∙ ap (first_run c.args.shard) c.settings-count.ensures) in
+    let number : c.first-first.result + c.args.begun.now.count ≡ first_setting plan c.args.shard + c.args.begun.now.count =
+    ap (λ n. n + c.args.begun.now.count) (c.first-first.ensures.first ∙ ap (first_run c.args.shard) c.settings-count.ensures) in
     on_err c.from_residual-in_err-make_setting.result
     (subst (λ n. BeginsWide tree plan c.args.width before (setting_course plan (sweep_key c.args.mark.now plan) n before old) new) number
-    (subst (λ k. BeginsWide tree plan c.args.width before (setting_course plan k (c.first-first.result + c.args.made) before old) new) c.in_ok-key.ensures c.in_err-make_setting.ensures.part))
+    (subst (λ k. BeginsWide tree plan c.args.width before (setting_course plan k (c.first-first.result + c.args.begun.now.count) before old) new) c.in_ok-key.ensures c.in_err-make_setting.ensures.part))
 
 pub returns-clause-whole : goal.returns-clause-whole
 returns-clause-whole g c =
     let tree = view c.args.document.now in
     let plan = c.args.plan.now in
-    let before = c.args.started.now in
+    let before = c.args.begun.now.started.items in
     let old = g.S.Sink.held c.args.table.now in
     let new = g.S.Sink.held c.make_setting.new.table in
     let setting = c.in_ok-make_setting.field-0 in
-    let number : c.first-first.result + c.args.made ≡ first_setting plan c.args.shard + c.args.made =
-    ap (λ n. n + c.args.made) (c.first-first.ensures.first ∙ ap (first_run c.args.shard) c.settings-count.ensures) in (
+    let number : c.first-first.result + c.args.begun.now.count ≡ first_setting plan c.args.shard + c.args.begun.now.count =
+    ap (λ n. n + c.args.begun.now.count) (c.first-first.ensures.first ∙ ap (first_run c.args.shard) c.settings-count.ensures) in (
       setting,
       subst (λ n. MakesSetting tree plan (sweep_key c.args.mark.now plan) c.args.width n before old new setting) number
-          (subst (λ k. MakesSetting tree plan k c.args.width (c.first-first.result + c.args.made) before old new setting) c.in_ok-key.ensures c.in_ok-make_setting.ensures.whole),
+          (subst (λ k. MakesSetting tree plan k c.args.width (c.first-first.result + c.args.begun.now.count) before old new setting) c.in_ok-key.ensures c.in_ok-make_setting.ensures.whole),
     )

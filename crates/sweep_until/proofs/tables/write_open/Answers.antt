@@ -4,7 +4,7 @@ use Rattle.run_output.proofs.Faults.{on_err}
 use Rattle.sweep.proofs.Handing.{on_err_then, on_ok_then}
 use Rattle.sweep_until.proofs.Behind.{is_there, rest_begins, rest_made, rest_waits}
 use Rattle.sweep_until.proofs.ShardSettings.{a_width, few_settings, settings_within}
-use Rattle.sweep_until.proofs.setting_shards.write_open.Goals as goal
+use Rattle.sweep_until.proofs.tables.write_open.Goals as goal
 
 pub finish_setting-requires-clause-most : goal.finish_setting-requires-clause-most
 finish_setting-requires-clause-most g c _ _ = a_width c.args.plan.now c.args.width c.requires.asked c.requires.wanted
@@ -30,7 +30,7 @@ returns-in_err-finish_setting-clause-part g c =
     let plan = c.args.plan.now in
     let there = is_there c.requires.begun c.requires.some in
     on_err c.from_residual.result
-    (rest_waits (view c.args.document.now) plan c.args.mark.now c.args.shard c.args.kept c.args.made c.args.started.now c.args.width c.requires.wanted c.requires.some there.0 there.1
+    (rest_waits (view c.args.document.now) plan c.args.mark.now c.args.shard c.args.begun.now.kept c.args.begun.now.count c.args.begun.now.started.items c.args.width c.requires.wanted c.requires.some there.0 there.1
     c.the_run_is_one.ensures c.a_run_exists.ensures c.requires.judged (settings_within plan c.args.shard c.requires.shard) (g.S.Sink.held c.args.table.now) (g.S.Sink.held c.finish_setting.new.table)
     c.in_err-finish_setting.ensures.part)
 
@@ -39,7 +39,7 @@ returns-clause-whole g c =
     let plan = c.args.plan.now in
     let there = is_there c.requires.begun c.requires.some in
     on_ok_then _ _ c.write_settings.result c.write_settings.ensures.whole
-    (rest_made (view c.args.document.now) plan c.args.mark.now c.args.shard c.args.kept c.args.made c.args.started.now c.args.width c.requires.wanted c.requires.some there.0 there.1
+    (rest_made (view c.args.document.now) plan c.args.mark.now c.args.shard c.args.begun.now.kept c.args.begun.now.count c.args.begun.now.started.items c.args.width c.requires.wanted c.requires.some there.0 there.1
     (g.S.Sink.held c.args.table.now) (g.S.Sink.held c.finish_setting.new.table) (g.S.Sink.held c.write_settings.new.table) c.in_ok-finish_setting.ensures.whole c.write_settings.new.settings.items)
 
 pub returns-clause-part : goal.returns-clause-part
@@ -47,5 +47,5 @@ returns-clause-part g c =
     let plan = c.args.plan.now in
     let there = is_there c.requires.begun c.requires.some in
     on_err_then _ _ c.write_settings.result c.write_settings.ensures.part
-    (rest_begins (view c.args.document.now) plan c.args.mark.now c.args.shard c.args.kept c.args.made c.args.started.now c.args.width c.requires.wanted c.requires.some there.0 there.1
+    (rest_begins (view c.args.document.now) plan c.args.mark.now c.args.shard c.args.begun.now.kept c.args.begun.now.count c.args.begun.now.started.items c.args.width c.requires.wanted c.requires.some there.0 there.1
     (g.S.Sink.held c.args.table.now) (g.S.Sink.held c.finish_setting.new.table) (g.S.Sink.held c.write_settings.new.table) c.in_ok-finish_setting.ensures.whole)
