@@ -5,7 +5,6 @@ use Rattle.std.proofs.lemmas.Result.{IfErr-weaker}
 use Rattle.toml.specs.Data.{Data}
 use Rattle.files.specs.Files.{AreThreeFiles, Making}
 use Rattle.trace.proofs.Beginnings.{beginning-whole}
-use Rattle.shards.specs.Shards.{whole}
 use Rattle.figures.specs.declared.summary.SettingSummary.{SettingSummary}
 use Rattle.command_line.specs.declared.words.SweepWords.{SweepWords}
 use Rattle.command_line.specs.declared.failure.Failure.{Failure}
@@ -56,5 +55,5 @@ module _ (tree : Data) (mark : List ℕ) (sweep : SweepWords) (release : List �
   page_broke settings all same makes begins = by (subst (λ (l : List SettingSummary). BeginsPage sweep release l page_old page_new) same begins)
     where
       by : BeginsPage sweep release settings page_old page_new → BeginsPaged tree mark sweep old new page_old page_new
-      by (inl keeps) = record { made = makes.made; are = makes.are; written = inl (beginning-whole old new (runs_table sweep.plan.until tree mark sweep.plan whole makes.made) makes.written, keeps) }
-      by (inr some) = record { made = makes.made; are = makes.are; written = inr (makes.written, (some.0, (release, settings, makes.told, some.1), some.2)) }
+      by (inl keeps) = record { made = makes.made; are = makes.are; written = inl (beginning-whole old new (runs_table sweep.plan.until tree mark sweep.plan makes.made) makes.written, keeps) }
+      by (inr some) = record { made = makes.made; are = makes.are; written = inr (makes.written, (some.0, (release, settings, makes.summed, some.1), some.2)) }

@@ -90,12 +90,12 @@ fn fill_both<T: Write, U: Write, P: Write>(
     let mut page = Put::new(page);
     if words.progress {
         let mut lines = RunLines { out: progress };
-        let outcome = tell_both(
+        let outcome = write_both(
             rt, alloc, release, words, prepared, &mut lines, &mut table, &mut page,
         );
         return (table, page, outcome);
     }
-    let outcome = tell_both(
+    let outcome = write_both(
         rt,
         alloc,
         release,
@@ -110,7 +110,7 @@ fn fill_both<T: Write, U: Write, P: Write>(
 
 /// Makes the runs, writes their table and then a page of their settings, and answers what is told of the
 /// settings.
-fn tell_both<S: Sink, U: Sink, P: Progress>(
+fn write_both<S: Sink, U: Sink, P: Progress>(
     rt: &(impl Threads + Sync),
     alloc: Global,
     release: &Release<'_>,

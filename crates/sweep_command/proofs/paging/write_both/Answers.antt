@@ -1,4 +1,4 @@
--- the table, what is told of the settings, and their page
+-- the table, the text of the settings, and their page
 use Rattle.std.proofs.Common.{List, subst, sym, inl}
 use Rattle.std.specs.Prelude.{All}
 use Rattle.goals.specs.Wants.{HasFewRuns}
@@ -8,9 +8,9 @@ use Rattle.scenario_files.proofs.Held.{handed_on, on_err_of}
 use Rattle.sweep_command.specs.Outcomes.{WritesPage}
 use Rattle.sweep_command.proofs.Few.{few_runs_each}
 use Rattle.sweep_command.proofs.Paged.{page_broke, table_broke}
-use Rattle.sweep_command.proofs.Told.{told_as}
+use Rattle.sweep_command.proofs.Printed.{printed_as}
 use Rattle.sweep_command.proofs.Tables.{marked_begins, marked_makes}
-use Rattle.sweep_command.proofs.paging.tell_both.Goals as goal
+use Rattle.sweep_command.proofs.paging.write_both.Goals as goal
 
 pub settings_printed-requires-clause-few : goal.settings_printed-requires-clause-few
 settings_printed-requires-clause-few g c = subst (All HasFewRuns) (sym c.deref-2.ensures.value) (few_runs_each _ _ _ _ _ _ _ c.requires.asked c.in_ok-settings.ensures.whole)
@@ -22,7 +22,7 @@ pub returns-clause-whole : goal.returns-clause-whole
 returns-clause-whole g c = record {
   settings = c.in_ok-settings.settings.items;
   makes = marked_makes _ _ _ _ _ _ _ _ c.as_str-mark.ensures.value c.in_ok-settings.ensures.whole;
-  text = told_as _ _ _ _ _ _ _ _ _ c.counts_revived-revived.ensures c.deref.ensures.value c.deref-2.ensures.value c.in_ok-lines.ensures;
+  text = printed_as _ _ _ _ _ _ _ _ _ c.counts_revived-revived.ensures c.deref.ensures.value c.deref-2.ensures.value c.in_ok-lines.ensures;
   paged = subst (λ (l : List SettingSummary). WritesPage c.args.words.now c.args.release.now.version.now l (g.U.Sink.held c.args.page.now) (g.U.Sink.held c.write_page.new.out)) c.deref-3.ensures.value c.in_ok-write_page.ensures.whole;
 }
 
