@@ -23,7 +23,7 @@ use Rattle.sweep.specs.declared.summing.LineKey.{LineKey}
 use Rattle.sweep.specs.declared.begun.BegunFault.TheVariants as begun_fault
 use Rattle.sweep.proofs.Kept.{goes_behind, long_again, short_again}
 use Rattle.sweep.proofs.LinesOf.{all_fed, lines_counted}
-use Rattle.table_rows.specs.Made.{IsTellable}
+use Rattle.table_rows.specs.Made.{FitsLine}
 use Rattle.table_rows.proofs.Beginnings.{one_begins_with_other}
 use Rattle.table_rows.proofs.Bytes.{lacks_both, lacks_cons}
 use Rattle.figures.proofs.SameNotes.{note_lacks}
@@ -60,31 +60,31 @@ module _ (revived : Bool) (key : List ℕ) where
       sym (line_in_shard revived key m) ∙ ap (λ x. l.sum ++ 32 ∷ x) (sym (append_assoc (note_text (noted m)) (44 ∷ l.body) (10 ∷ [])))
       ∙ sym (append_assoc l.sum (32 ∷ (note_text (noted m) ++ 44 ∷ l.body)) (10 ∷ []))
 
-  body_lacks : (m : Made) → IsTellable m → Lacks 10 (body_of m)
-  body_lacks m told =
+  body_lacks : (m : Made) → FitsLine m → Lacks 10 (body_of m)
+  body_lacks m fits =
       let l = line_from revived key m in
-      let told_line = lacks_both 10 (note_text (noted m)) (44 ∷ l.body) (note_lacks 10 (lit< tt) refl (noted m) told.note) (lacks_cons 10 44 l.body refl (line_sound revived key m told).one) in
-      lacks_both 10 l.sum (32 ∷ (note_text (noted m) ++ 44 ∷ l.body)) (sum_no_feed key (note_cell (noted m) ++ made_line revived m)) (lacks_cons 10 32 (note_text (noted m) ++ 44 ∷ l.body) refl told_line)
+      let lacks_it = lacks_both 10 (note_text (noted m)) (44 ∷ l.body) (note_lacks 10 (lit< tt) refl (noted m) fits.note) (lacks_cons 10 44 l.body refl (line_sound revived key m fits).one) in
+      lacks_both 10 l.sum (32 ∷ (note_text (noted m) ++ 44 ∷ l.body)) (sum_no_feed key (note_cell (noted m) ++ made_line revived m)) (lacks_cons 10 32 (note_text (noted m) ++ 44 ∷ l.body) refl lacks_it)
 
   no_text : (b x : List ℕ) → (b ++ 10 ∷ []) ++ x ≡ [] → ⊥
   no_text [] x same = cc
   no_text (c ∷ b) x same = cc
 
-  first_lines : (lines : List (List ℕ)) (made : List Made) (x : List ℕ) → All IsFed lines → All IsTellable made → joined lines ++ x ≡ flat_map line made
+  first_lines : (lines : List (List ℕ)) (made : List Made) (x : List ℕ) → All IsFed lines → All FitsLine made → joined lines ++ x ≡ flat_map line made
       → AreFirst revived key lines made
-  first_lines [] made x fed told same = record { fit = omega arith; same = refl }
-  first_lines (one ∷ lines) [] x fed told same =
+  first_lines [] made x fed fits same = record { fit = omega arith; same = refl }
+  first_lines (one ∷ lines) [] x fed fits same =
       let its = All-head IsFed one lines fed in
       absurd (no_text its.body (joined lines ++ x) (ap (λ l. l ++ (joined lines ++ x)) (sym its.fed) ∙ sym (append_assoc one (joined lines) x) ∙ same))
-  first_lines (one ∷ lines) (m ∷ made) x fed told same =
+  first_lines (one ∷ lines) (m ∷ made) x fed fits same =
       let its = All-head IsFed one lines fed in
       let left : joined (one ∷ lines) ++ x ≡ its.body ++ 10 ∷ (joined lines ++ x) =
       append_assoc one (joined lines) x ∙ ap (λ l. l ++ (joined lines ++ x)) its.fed ∙ append_assoc its.body (10 ∷ []) (joined lines ++ x) in
       let right : flat_map line (m ∷ made) ≡ body_of m ++ 10 ∷ flat_map line made =
       ap (λ l. l ++ flat_map line made) (line_cut m) ∙ append_assoc (body_of m) (10 ∷ []) (flat_map line made) in
       let cut = cut_once 10 its.body (body_of m) (joined lines ++ x) (flat_map line made) its.one
-      (body_lacks m (All-head IsTellable m made told)) (sym left ∙ same ∙ right) in
-      let more = first_lines lines made x (All-tail IsFed one lines fed) (All-tail IsTellable m made told) cut.1 in
+      (body_lacks m (All-head FitsLine m made fits)) (sym left ∙ same ∙ right) in
+      let more = first_lines lines made x (All-tail IsFed one lines fed) (All-tail FitsLine m made fits) cut.1 in
       let here : one ≡ line m = its.fed ∙ ap (λ l. l ++ 10 ∷ []) cut.0 ∙ sym (line_cut m) in
       record { fit = omega (arith, more.fit); same = (λ i. here i ++ more.same i) }
 
@@ -131,7 +131,7 @@ module _ (tree : Data) (mark : List ℕ) (sweep : Sweep) (p : Shard) (made : Lis
       let body : long.rest ++ cut.rest ≡ table =
       append_cancel_left header (long.rest ++ cut.rest) table (sym (append_assoc header long.rest cut.rest) ∙ ap (λ l. l ++ cut.rest) (sym long.written) ∙ cut.written) in
       let start : lines ++ (long.left ++ cut.rest) ≡ table = sym (append_assoc lines long.left cut.rest) ∙ ap (λ l. l ++ cut.rest) (sym long.begins.written) ∙ body in
-      first_lines revived key long.begins.lines made (long.left ++ cut.rest) (all_fed own_key sweep first runs long.begins.lines long.begins.are) cut.told start
+      first_lines revived key long.begins.lines made (long.left ++ cut.rest) (all_fed own_key sweep first runs long.begins.lines long.begins.are) cut.fits start
 
   -- the first runs that were made, and those behind them, are the runs of the shard
   both_left : (runs : ℕ) (later : List Made) → first + runs ≤ past_run p (run_count sweep) → AreMadeBehind tree sweep p runs later → AreMadeBehind tree sweep p 0 (take runs made ++ later)

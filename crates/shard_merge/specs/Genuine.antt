@@ -13,7 +13,7 @@ use Rattle.sweep.specs.Summaries.{SumUp}
 use Rattle.sweep.specs.Shards.{AreMadeBehind, shard_table}
 use Rattle.sweep_until.specs.Shards.{MakesUntil}
 use Rattle.sweep_until.specs.Until.{all_of}
-use Rattle.table_rows.specs.Made.{IsTellable}
+use Rattle.table_rows.specs.Made.{FitsLine}
 use Rattle.shard_merge.specs.Among.{IsAmongTexts}
 use Rattle.shard_merge.specs.Behind.{share_of}
 
@@ -30,11 +30,11 @@ AreShards tree texts mark sweep of made =
 pub record IsCutShard (tree : Data) (mark : List ℕ) (sweep : Sweep) (p : Shard) (made : List Made) (text : List ℕ) : Type 0 where
   pub sound : IsShard p
   pub are : AreMadeBehind tree sweep p 0 made
-  pub told : All IsTellable made
+  pub fits : All FitsLine made
   pub rest : List ℕ
   pub written : text ++ rest ≡ shard_table (counts_revived tree) mark sweep p made
 
--- the table of the whole sweep was appended, what was read is this sweep and whether its tables tell of members taken for alive again, and each setting is summed up
+-- the table of the whole sweep was appended, what was read is this sweep and whether its tables count members taken for alive again, and each setting is summed up
 pub record IsWhole (tree : Data) (mark : List ℕ) (sweep : Sweep) (made : List Made) (old new : Option (List ℕ)) (read : Sweep) (revived : Bool) (settings : List SettingSummary) : Type 0 where
   pub same : read ≡ sweep
   pub column : revived ≡ counts_revived tree
@@ -53,7 +53,7 @@ abbrev pub AreShardsOfSettings : Data → List (Vec ℕ Global) → List ℕ →
 AreShardsOfSettings tree texts mark sweep of made =
     (text : List ℕ) → IsAmongTexts texts text → (p : Shard) × IsShard p × (p.of ≡ of) × IsSettingsText tree mark sweep made text p
 
--- what was read is this sweep and whether its tables tell of members taken for alive again, and the whole was made as if in one go
+-- what was read is this sweep and whether its tables count members taken for alive again, and the whole was made as if in one go
 pub record IsWholeUntil (tree : Data) (mark : List ℕ) (sweep : Sweep) (width : ℕ) (old new : Option (List ℕ)) (read : Sweep) (revived : Bool) (settings : List SettingSummary) : Type 0 where
   pub same : read ≡ sweep
   pub column : revived ≡ counts_revived tree
@@ -65,8 +65,8 @@ pub record IsWholeUntil (tree : Data) (mark : List ℕ) (sweep : Sweep) (width :
 abbrev pub AreAll : List (Vec ℕ Global) → List ℕ → Type 0
 AreAll texts text = (other : List ℕ) → IsAmongTexts texts other → other ≡ text
 
--- what was put is this table, and what was read is this sweep, and whether its tables tell of members taken for alive again
-pub record IsAgain (table : List ℕ) (sweep : Sweep) (revived : Bool) (put : List ℕ) (read : Sweep) (told : Bool) : Type 0 where
+-- what was put is this table, and what was read is this sweep, and whether its tables count members taken for alive again
+pub record IsAgain (table : List ℕ) (sweep : Sweep) (revived : Bool) (put : List ℕ) (read : Sweep) (revived_too : Bool) : Type 0 where
   pub same_table : put ≡ table
   pub same_sweep : read ≡ sweep
-  pub column : told ≡ revived
+  pub column : revived_too ≡ revived

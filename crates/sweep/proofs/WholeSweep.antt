@@ -36,6 +36,6 @@ module _ (tree : Data) (sweep : Sweep) where
       let long : length (map noted made) ≡ run_count sweep =
       length-map made noted ∙ sym (zipped_long (IsMadeAs tree) (runs_of sweep) made all) ∙ runs_counted sweep in
       record {
-        makes = record { writes = makes.writes; gathered = makes.gathered.told };
+        makes = record { writes = makes.writes; gathered = makes.gathered.summed };
         all = all_through sweep (map noted made) gathering long makes.gathered;
       }

@@ -1,4 +1,4 @@
--- What is told of the settings of a sweep: of each, the summary of its runs.
+-- The settings of a sweep, each with the summary of its runs.
 use Rattle.std.specs.Prelude.{◌≡◌, ◌≤◌, ℕ, ◌*◌, Option, Some, List, length, map, take, drop, slice_get}
 use Rattle.toml.specs.Data.{Data}
 use Rattle.sweep_plan.specs.Sweep.{Sweep, setting_count, seed_count}
@@ -37,7 +37,7 @@ pub record MakesAll (tree : Data) (mark : List ℕ) (sweep : Sweep) (old new : O
 pub record IsGathered (each : ℕ) (notes : List Note) (gathering : Gathering) : Type 0 where
   pub size : gathering.each ≡ each
   pub through : length gathering.summaries.items * each ≤ length notes
-  pub told : SumUp each notes gathering.summaries.items
+  pub summed : SumUp each notes gathering.summaries.items
   pub kept : AreFiguresOf gathering.figures (drop (length gathering.summaries.items * each) notes)
 
 -- the summaries of the settings that are through

@@ -30,8 +30,8 @@ const LOT: LotSize = LotSize {
     runs: 256,
 };
 
-/// Makes the runs from one number to before another, writes their lines, and gathers what is told of them. Those before
-/// it, from `first` on, count as made where it is told how many were. `key` is that of the lines' checksums.
+/// Makes the runs from one number to before another, writes their lines, and gathers what their settings keep of them.
+/// Those before it, from `first` on, count as made in what `progress` gets. `key` is that of the lines' checksums.
 pub(crate) fn make_runs<S: Sink, P: Progress, G: Gather>(
     rt: &(impl Threads + Sync),
     alloc: Global,
@@ -82,7 +82,7 @@ pub(crate) fn make_runs<S: Sink, P: Progress, G: Gather>(
 }
 
 /// Makes the runs from one number to before another, which are those of these shares, side by side, writes their lines, and
-/// gathers what is told of them.
+/// gathers what their settings keep of them.
 fn make_some<S: Sink, G: Gather>(
     rt: &(impl Threads + Sync),
     alloc: Global,

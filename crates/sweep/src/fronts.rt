@@ -57,7 +57,7 @@ pub(crate) fn front_of(
     }
 }
 
-/// Puts the first line of a shard: its name, and the header of the sweep's table. Whether that tells of members that
+/// Puts the first line of a shard: its name, and the header of the sweep's table. Whether that counts members that
 /// were taken for alive again is given.
 pub fn write_front<S: Sink>(
     alloc: Global,

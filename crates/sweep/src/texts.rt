@@ -14,7 +14,7 @@ use sweep_plan::{Plan, Swept};
 
 /// The text of the settings of a sweep: a header, and for each setting a line with the values of the keys that are set, its
 /// figures and a mark, `*` where no other setting beats it, in aligned columns. There must be a summary for each setting, in
-/// their order. Whether it has the column of members that were taken for alive again is given.
+/// their order. Whether it counts members that were taken for alive again is given.
 pub fn lines_of_settings(
     alloc: Global,
     plan: &Plan,

@@ -12,7 +12,7 @@ use std::alloc::Global;
 use sweep_plan::{Choice, Swept};
 use trace::{Put, Sink, WriteError};
 
-/// Puts the first line of the table, with the names of the keys that are set. Whether it tells of members
+/// Puts the first line of the table, with the names of the keys that are set. Whether it counts members
 /// that were taken for alive again is given.
 pub(crate) fn write_names<S: Sink>(
     alloc: Global,
@@ -30,8 +30,8 @@ pub(crate) fn write_names<S: Sink>(
     write_header(alloc, &keys, revived, table)
 }
 
-/// The line of a run, with the values of its setting, and with its note before it; whether it tells of
-/// members that were taken for alive again is given.
+/// The line of a run, with the values of its setting, and with its note before it; whether it
+/// counts members that were taken for alive again is given.
 pub(crate) fn line_of(
     alloc: Global,
     setting: &[Choice],

@@ -59,8 +59,8 @@ module _ (sweep : SweepWords) (start made between end : Shelf) (page : Text) (ap
         text : List ℕ
         text = runs_table sweep.plan.until tree mark sweep.plan begins.made
 
-        by : (AppendsBeginning old new text × Keeps page_old page_new) ⊎ (Appends old new text × ((told : List ℕ) × IsPageOfRuns sweep begins.made told × AppendsBeginning page_old page_new told))
+        by : (AppendsBeginning old new text × Keeps page_old page_new) ⊎ (Appends old new text × ((page_text : List ℕ) × IsPageOfRuns sweep begins.made page_text × AppendsBeginning page_old page_new page_text))
             → (HoldsBeginning (start sweep.table.now) (end sweep.table.now) text × HoldsNow (start page) (end page) [])
-            ⊎ (HoldsNow (start sweep.table.now) (end sweep.table.now) text × ((told : List ℕ) × IsPageOfRuns sweep begins.made told × HoldsBeginning (start page) (end page) told))
+            ⊎ (HoldsNow (start sweep.table.now) (end sweep.table.now) text × ((page_text : List ℕ) × IsPageOfRuns sweep begins.made page_text × HoldsBeginning (start page) (end page) page_text))
         by (inl none) = inl (table_begins text none.0, page_holds [] (Appends-none page_old page_new none.1))
         by (inr some) = inr (table_holds text some.0, (some.1.0, some.1.1, page_begins some.1.0 some.1.2))

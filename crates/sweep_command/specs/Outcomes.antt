@@ -35,7 +35,7 @@ use Rattle.scenario_files.specs.Shelves.{Shelf, word_given, IsRefused, IsUnread,
 use Rattle.scenario_files.specs.Loading.{HasDocument, HasMarkedDocument, HasNoDocument}
 use Rattle.sweep_command.specs.Runs.{RunsBy, Standing, AreBegun, AreRuns, AreRunsBehind, AreSummedUp, BeginsAllRuns, BeginsRuns, FitShard, MakesRuns, RefusesTable, WritesRuns, nothing, rest_table, runs_table}
 
--- the words ask for a sweep that tells how far it has come
+-- the words ask for a sweep that prints how far it has come
 abbrev pub AsksForProgress : List Text → Type 0
 AsksForProgress words = (sweep : SweepWords) × AsksForSweep words sweep × (sweep.progress ≡ true)
 
@@ -55,14 +55,14 @@ pub record PassesSweepChecks (before : Shelf) (sweep : SweepWords) (workers : �
   pub there : missing_of tree sweep.plan.swept_keys ≡ None
   pub accepted : AreAccepted tree sweep.plan
 
--- this is what is told of all settings, by the summaries of their runs
+-- this is the text of all settings, by the summaries of their runs
 pub record AreLinesOf (tree : Data) (sweep : SweepWords) (made : RunsBy sweep.plan.until) (lines : List ℕ) : Type 0 where
   pub settings : List SettingSummary
   pub all : length settings ≡ setting_count sweep.plan.swept_keys
   pub summed : AreSummedUp sweep.plan.until sweep.plan made settings
   pub text : TellsSettings sweep.jsonl (counts_revived tree) sweep.plan sweep.wants.items settings lines
 
--- all runs were made and their table was appended to what was held, and this is what is told of their settings
+-- all runs were made and their table was appended to what was held, and this is the text of their settings
 pub record MakesLines (tree : Data) (mark : List ℕ) (sweep : SweepWords) (old new : Option (List ℕ)) (lines : List ℕ) : Type 0 where
   pub settings : List SettingSummary
   pub makes : MakesRuns sweep.plan.until tree mark sweep.plan old new settings
@@ -99,7 +99,7 @@ pub record StoresRuns (resume : Bool) (tree : Data) (mark : List ℕ) (sweep : S
 abbrev pub StoresTable : Data → List ℕ → SweepWords → Shelf → Shelf → List ℕ → Type 0
 StoresTable tree mark sweep before after lines = (stores : StoresRuns false tree mark sweep whole before after) × AreLinesOf tree sweep stores.made lines
 
--- All runs were made, and this is what is told of their settings: the file of the table holds that, the file of this name a page of the settings, and no
+-- All runs were made, and this is the text of their settings: the file of the table holds that, the file of this name a page of the settings, and no
 -- other file has changed.
 pub record StoresPaged (tree : Data) (mark : List ℕ) (sweep : SweepWords) (release : List ℕ) (page : Text) (before after : Shelf) (lines : List ℕ) : Type 0 where
   pub made : RunsBy sweep.plan.until
@@ -139,7 +139,7 @@ pub record BeginsPaged (tree : Data) (mark : List ℕ) (sweep : SweepWords) (old
   pub written : (AppendsBeginning old new (runs_table sweep.plan.until tree mark sweep.plan made) × Keeps page_old page_new)
       ⊎ (Appends old new (runs_table sweep.plan.until tree mark sweep.plan made) × ((text : List ℕ) × IsPageOfRuns sweep made text × AppendsBeginning page_old page_new text))
 
--- what is asked for was stored, where no page is: the whole, and this is what is told of its settings; or a shard, of which nothing is told
+-- what is asked for was stored, where no page is: the whole, and this is the text of its settings; or a shard, of which there is none
 abbrev pub StoresPlain : Option Shard → Data → List ℕ → SweepWords → Shelf → Shelf → List ℕ → Type 0
 StoresPlain None tree mark sweep before after lines = StoresTable tree mark sweep before after lines
 StoresPlain (Some p) tree mark sweep before after lines = StoresRuns sweep.resume tree mark sweep p before after × (lines ≡ [])
@@ -182,7 +182,7 @@ GoesOn tree mark sweep known kept stands = GoesOnWith (shard_resumed sweep.resum
 abbrev pub FitAsked : Data → List ℕ → SweepWords → Option Shard → ℕ → Standing → Type 0
 FitAsked tree mark sweep asked kept stands = ForSome asked (λ p. FitShard sweep.plan.until sweep.plan p (shard_header (counts_revived tree) mark sweep.plan p) kept stands)
 
--- the sweep passed its checks and was done, and this is what is told of its settings, where it is a whole one
+-- the sweep passed its checks and was done, and this is the text of its settings, where it is a whole one
 pub record SweepsAll (release : List ℕ) (before after : Shelf) (making : Making) (sweep : SweepWords) (lines : List ℕ) : Type 0 where
   pub workers : ℕ
   pub tree : Data
@@ -219,7 +219,7 @@ FailsSweepCheck before sweep failure =
     ⊎ ((workers : ℕ) × (tree : Data) × MakeRuns (word_given sweep.workers) workers × HasDocument (before sweep.file.now) (Some tree)
     × (missing_of tree sweep.plan.swept_keys ≡ None) × RefusesSetting tree sweep.plan failure)))
 
--- a text is no beginning of the shard's table, or its lines have no checksums, and it is told by the name of its file
+-- a text is no beginning of the shard's table, or its lines have no checksums, and the failure names its file
 abbrev pub IsOther : Data → List ℕ → SweepWords → Shard → List ℕ → ShardFault → Type 0
 IsOther tree mark sweep p text (shard.Other name) = (name.now ≡ sweep.table.now) × RefusesTable sweep.plan.until tree mark sweep.plan p text begun_fault.Other
 IsOther tree mark sweep p text (shard.Older name) = (name.now ≡ sweep.table.now) × RefusesTable sweep.plan.until tree mark sweep.plan p text begun_fault.Older

@@ -86,7 +86,7 @@ pub record HasSettings (tree : Data) (sweep : Sweep) (width : ℕ) (stretch : St
   pub made : List (List Made)
   pub are : AreMadeFrom tree sweep width stretch.first number made
   pub written : Appends old new (stretch_text tree stretch made)
-  pub told : AllZip SumsUp made settings
+  pub summed : AllZip SumsUp made settings
 
 -- a beginning of the lines of all these settings was appended
 pub record BeginsSettings (tree : Data) (sweep : Sweep) (width : ℕ) (stretch : Stretch) (old new : Option (List ℕ)) : Type 0 where
@@ -129,8 +129,8 @@ pub record MakesSetting (tree : Data) (sweep : Sweep) (key : List ℕ) (width nu
   pub made : List Made
   pub are : IsMadeBehind tree sweep width number before made
   pub written : Appends old new (flat_map (noted_line (counts_revived tree) key) made)
-  pub told : IsSummaryOf setting (before ++ map noted made)
+  pub summed : IsSummaryOf setting (before ++ map noted made)
 
--- they were, whatever is told of them
+-- they were, whatever their summary
 abbrev pub FinishesSetting : Data → Sweep → List ℕ → ℕ → ℕ → List Note → Option (List ℕ) → Option (List ℕ) → Type 0
 FinishesSetting tree sweep key width number before old new = (setting : SettingSummary) × MakesSetting tree sweep key width number before old new setting

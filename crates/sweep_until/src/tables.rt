@@ -239,7 +239,7 @@ fn finish_setting<S: Sink, P: Progress>(
 }
 
 /// Writes the table of a shard behind so many bytes and settings, where the intervals are to be so many hundredths wide at most, and
-/// adds what is told of each setting that is made.
+/// adds the summary of each setting that is made.
 fn write_settings<S: Sink, P: Progress>(
     rt: &(impl Threads + Sync),
     alloc: Global,

@@ -31,7 +31,7 @@ const LOT: LotSize = LotSize {
     runs: 32,
 };
 
-/// Makes the runs of the settings from one number to before another, writes their lines, and adds what is told of each. `key` is
+/// Makes the runs of the settings from one number to before another, writes their lines, and adds the summary of each. `key` is
 /// that of the lines' checksums.
 pub(crate) fn make_settings<S: Sink, P: Progress>(
     rt: &(impl Threads + Sync),
@@ -83,7 +83,7 @@ pub(crate) fn make_settings<S: Sink, P: Progress>(
     Ok(())
 }
 
-/// Adds what is told of a setting.
+/// Adds the summary of a setting.
 pub(crate) fn push_setting(
     settings: &mut Vec<SettingSummary>,
     setting: SettingSummary,
@@ -95,7 +95,7 @@ pub(crate) fn push_setting(
 }
 
 /// Makes the runs of the setting of this number, behind those that were made of it before, which are too few; writes their lines, and
-/// gives what is told of the setting.
+/// returns the summary of the setting.
 pub(crate) fn make_setting<S: Sink, P: Progress>(
     rt: &(impl Threads + Sync),
     alloc: Global,
@@ -193,7 +193,7 @@ fn make_runs_of<S: Sink, P: Progress>(
             return Ok(());
         }
         next = reached;
-        // the last of a setting are told by whoever makes it
+        // the caller reports the last of a setting
         if next < past {
             progress.runs_made(next, all);
         }

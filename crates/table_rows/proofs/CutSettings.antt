@@ -26,7 +26,7 @@ use Rattle.sweep_until.specs.Until.{AreEnough, AreMadeBehind, AreMadeFrom, AreMa
 use Rattle.sweep_until.proofs.ShardSettings.{all_left, all_of_shard}
 use Rattle.table_rows.specs.Settings.{IsSetting, shard_setting}
 use Rattle.table_rows.specs.Lines.{Line, notes_of}
-use Rattle.table_rows.specs.Made.{IsTellable}
+use Rattle.table_rows.specs.Made.{FitsLine}
 use Rattle.table_rows.specs.Open.{BeginsWithOpen}
 use Rattle.table_rows.proofs.Beginnings.{one_begins_with_other}
 use Rattle.table_rows.proofs.Items.{cut_items, none_left}
@@ -99,7 +99,7 @@ module _ (tree : Data) (mark : List ℕ) (sweep : Sweep) (width : ℕ) (p : Shar
   cut_are = all_of_shard tree sweep width p made cut.are
 
   true_sound : All (IsSetting width each) true_settings
-  true_sound = settings_sound revived key tree sweep width (range_with_len (first_setting sweep p) (settings_in sweep p)) made cut_are cut.told
+  true_sound = settings_sound revived key tree sweep width (range_with_len (first_setting sweep p) (settings_in sweep p)) made cut_are cut.fits
 
   count_true : length true_settings ≡ settings_in sweep p
   count_true =
@@ -166,8 +166,8 @@ module _ (tree : Data) (mark : List ℕ) (sweep : Sweep) (width : ℕ) (p : Shar
     rest_are : AreMadeFrom tree sweep width (first_setting sweep p + settings) (settings_in sweep p - settings) rest_made
     rest_are = later_made tree sweep width (first_setting sweep p) (settings_in sweep p) settings made few cut_are
 
-    rest_told : All (All IsTellable) rest_made
-    rest_told = All-drop (All IsTellable) settings made cut.told
+    rest_fit : All (All FitsLine) rest_made
+    rest_fit = All-drop (All FitsLine) settings made cut.fits
 
     abbrev one_first : ℕ
     one_first = first_setting sweep p + settings
@@ -180,15 +180,15 @@ module _ (tree : Data) (mark : List ℕ) (sweep : Sweep) (width : ℕ) (p : Shar
           sym (append_assoc (shard_setting b.lines) (it.after ++ it.unread) cut.rest)
           ∙ ap (λ l. l ++ cut.rest) (sym (append_assoc (shard_setting b.lines) it.after it.unread) ∙ ap (λ l. l ++ it.unread) (sym b.written))
 
-      its_first : (one : List Made) (others : List (List Made)) → rest_made ≡ one ∷ others → IsMadeUntil tree sweep width one_first one → All IsTellable one
+      its_first : (one : List Made) (others : List (List Made)) → rest_made ≡ one ∷ others → IsMadeUntil tree sweep width one_first one → All FitsLine one
           → (length before ≤ length one) × (map noted (take (length before) one) ≡ before) × (shard_setting b.lines ≡ flat_map (noted_line revived key) (take (length before) one))
-      its_first one others is made_one told =
+      its_first one others is made_one fits =
           let whole = setting_from revived key one in
           let there : shard_setting b.lines ++ ((it.after ++ it.unread) ++ cut.rest) ≡ shard_setting whole ++ (flat_map shard_setting (settings_from revived key others) ++ []) =
           tail_text ∙ split.2 ∙ ap (λ l. flat_map shard_setting l ++ []) (rest_lines ∙ ap (settings_from revived key) is)
           ∙ append_assoc (shard_setting whole) (flat_map shard_setting (settings_from revived key others)) [] in
           let enough : AreEnough width each (notes_of whole) = subst (AreEnough width each) (sym (setting_noted revived key one)) made_one.enough in
-          let tail = begin_setting width each b.lines whole b.are.few enough _ _ b.are.sound (lines_sound revived key one told) there in
+          let tail = begin_setting width each b.lines whole b.are.few enough _ _ b.are.sound (lines_sound revived key one fits) there in
           let size : length b.lines ≡ length before = sym (length-map b.lines (λ (l : Line). l.note)) ∙ ap length b.noted in
           let lines : b.lines ≡ setting_from revived key (take (length before) one) =
           sym (ap (take (length before)) tail.1 ∙ take_at b.lines tail.0 (length before) size) ∙ take-map (line_from revived key) (length before) one in
@@ -238,9 +238,9 @@ module _ (tree : Data) (mark : List ℕ) (sweep : Sweep) (width : ℕ) (p : Shar
     module _ (it : AreSettingsBehind own_key sweep width (first_setting sweep p) (settings_in sweep p) header text kept settings before)
         (b : BeginsWithOpen own_key sweep width (first_setting sweep p + settings) it.left it.after before) where
       open_again : (one : List Made) (others : List (List Made)) → drop settings made ≡ one ∷ others → AreMadeWithFirst tree sweep width (first_setting sweep p + settings) (settings_in sweep p - settings) before writes.made
-          → IsMadeUntil tree sweep width (first_setting sweep p + settings) one → All IsTellable one → WritesRestUntil tree mark sweep p 0 0 [] (Some []) new
-      open_again one others left goes made_one told =
-          let its = its_first kept settings before it is.few b one others left made_one told in
+          → IsMadeUntil tree sweep width (first_setting sweep p + settings) one → All FitsLine one → WritesRestUntil tree mark sweep p 0 0 [] (Some []) new
+      open_again one others left goes made_one fits =
+          let its = its_first kept settings before it is.few b one others left made_one fits in
           let own = flat_map shard_setting it.begins.settings in
           let opened = shard_setting b.lines in
           let whole : it.rest ≡ (own ++ opened) ++ (it.after ++ it.unread) =
@@ -269,14 +269,14 @@ module _ (tree : Data) (mark : List ℕ) (sweep : Sweep) (width : ℕ) (p : Shar
           (long_again header text kept (own ++ opened) (it.after ++ it.unread) (it.written ∙ ap (λ l. header ++ l) whole) it.stay)
 
       one_there : AreMadeWithFirst tree sweep width (first_setting sweep p + settings) (settings_in sweep p - settings) before writes.made → WritesRestUntil tree mark sweep p 0 0 [] (Some []) new
-      one_there goes = by (drop settings made) refl (settings_in sweep p - settings) refl (rest_are kept settings before it is.few) (rest_told kept settings before it is.few)
+      one_there goes = by (drop settings made) refl (settings_in sweep p - settings) refl (rest_are kept settings before it is.few) (rest_fit kept settings before it is.few)
         where
           by : (rest : List (List Made)) → drop settings made ≡ rest → (count : ℕ) → settings_in sweep p - settings ≡ count → AreMadeFrom tree sweep width (first_setting sweep p + settings) count rest
-              → All (All IsTellable) rest → WritesRestUntil tree mark sweep p 0 0 [] (Some []) new
-          by [] left zero none are told = absurd (omega (arith, goes.some, none))
-          by [] left (suc count) some are told = absurd are
-          by (one ∷ others) left zero none are told = absurd are
-          by (one ∷ others) left (suc count) some are told = open_again one others left goes are.0 (All-head (All IsTellable) one others told)
+              → All (All FitsLine) rest → WritesRestUntil tree mark sweep p 0 0 [] (Some []) new
+          by [] left zero none are fits = absurd (omega (arith, goes.some, none))
+          by [] left (suc count) some are fits = absurd are
+          by (one ∷ others) left zero none are fits = absurd are
+          by (one ∷ others) left (suc count) some are fits = open_again one others left goes are.0 (All-head (All FitsLine) one others fits)
 
     -- without metadata no line of the next setting stands there
     none_open : (it : AreSettingsBehind own_key sweep width (first_setting sweep p) (settings_in sweep p) header text kept settings before)

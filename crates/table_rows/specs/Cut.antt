@@ -2,7 +2,7 @@
 use Rattle.std.specs.Prelude.{◌≡◌, ℕ, List, [], ◌++◌, All, Some}
 use Rattle.toml.specs.Data.{Data}
 use Rattle.sweep_plan.specs.Sweep.{Sweep}
-use Rattle.table_rows.specs.Made.{IsTellable}
+use Rattle.table_rows.specs.Made.{FitsLine}
 use Rattle.shards.specs.declared.shard.Shard.{Shard}
 use Rattle.sweep.specs.Shards.{shard_table}
 use Rattle.sweep.specs.Runs.{IsAskedFor, Made}
@@ -15,6 +15,6 @@ pub record IsCutShardOfSettings (tree : Data) (mark : List ℕ) (sweep : Sweep) 
   pub asked : IsAskedFor sweep
   pub wanted : sweep.until ≡ Some width
   pub are : AreSettingsBehind tree sweep width p 0 [] made
-  pub told : All (All IsTellable) made
+  pub fits : All (All FitsLine) made
   pub rest : List ℕ
   pub written : text ++ rest ≡ shard_table (counts_revived tree) mark sweep p (all_of made)

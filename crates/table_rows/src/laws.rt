@@ -7,7 +7,7 @@ ghost use Rattle.sweep.specs.Runs.{IsMadeAs, IsRunAt, Made, Planned};
 ghost use Rattle.sweep.specs.Sums.{IsLineOf};
 ghost use Rattle.sweep.specs.Table.{noted_line};
 ghost use Rattle.sweep.specs.declared.summing.LineKey.{LineKey};
-ghost use Rattle.table_rows.specs.Made.{IsTellable};
+ghost use Rattle.table_rows.specs.Made.{FitsLine};
 ghost use Rattle.table_rows.specs.Open.{HasRowOf};
 ghost use Rattle.figures.specs.Notes.{Note};
 ghost use Rattle.shards.specs.declared.shard.Shard.{Shard};
@@ -20,10 +20,10 @@ ghost use Rattle.table_rows.specs.Cut.{IsCutShardOfSettings};
 /// seed that is asked for there or, where none is and it is known, that of the run's text, and its metadata agrees with its figures.
 pub fn a_written_line_is_its_runs()
     ensures genuine { (key : LineKey) (members : Members) (sweep : Sweep) (number : ℕ) (p : Planned) (m : Made) → IsRunAt sweep number p
-        → IsMadeAs (table members) p m → IsTellable m → (p.seed ≡ None → ForSome key.own (λ s. m.scenario.seed ≡ s))
+        → IsMadeAs (table members) p m → FitsLine m → (p.seed ≡ None → ForSome key.own (λ s. m.scenario.seed ≡ s))
         → IsLineOf key sweep number (noted_line key.revived key.digest m) }
     ensures read { (key : LineKey) (members : Members) (sweep : Sweep) (number : ℕ) (p : Planned) (m : Made) (behind : List ℕ) → IsRunAt sweep number p
-        → IsMadeAs (table members) p m → IsTellable m → (p.seed ≡ None → ForSome key.own (λ s. m.scenario.seed ≡ s))
+        → IsMadeAs (table members) p m → FitsLine m → (p.seed ≡ None → ForSome key.own (λ s. m.scenario.seed ≡ s))
         → HasRowOf key sweep number (noted_line key.revived key.digest m ++ behind) }
 {}
 

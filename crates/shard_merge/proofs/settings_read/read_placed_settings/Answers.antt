@@ -7,7 +7,7 @@ use Rattle.sweep.proofs.Sizes.{some_runs}
 use Rattle.table_rows.specs.Settings.{AreSettings, AreSettingsOf, ReadsSettings}
 use Rattle.table_rows.specs.Refused.{Refuses}
 use Rattle.table_rows.proofs.Items.{refused_so}
-use Rattle.shard_merge.proofs.told.read_placed_settings.Goals as goal
+use Rattle.shard_merge.proofs.settings_read.read_placed_settings.Goals as goal
 
 pub read_settings-requires-clause-some : goal.read_settings-requires-clause-some
 read_settings-requires-clause-some c = subst (λ n. 0 < n) (sym c.runs_of_setting-each.ensures) (some_runs c.args.plan.now c.requires.asked)

@@ -1,4 +1,4 @@
-//! What is told of the settings of shards that are read.
+//! The settings of shards that are read.
 ghost use Rattle.std.specs.Prelude.{◌≡◌, ◌<◌, ◌≤◌, ◌+◌, [], IfErr, OnOk};
 ghost use Rattle.sweep_plan.specs.Sweep.{setting_count, run_count, seed_count};
 ghost use Rattle.table_rows.specs.Settings.{AreSettings, AreSettingsOf, ReadsSettings};
@@ -16,27 +16,27 @@ use sweep::{Gathering, LineKey, are_lines_of};
 use sweep_plan::Plan;
 use table_rows::{LineFault, are_settings_of, read_lines, read_settings};
 
-/// What is told of the settings of a sweep while its shards are read.
+/// What is kept of the settings of a sweep while its shards are read.
 #[derive(Drop)]
-pub(crate) struct Told {
+pub(crate) struct SettingsRead {
     /// What is kept of the runs, where each setting runs with each seed.
     gathering: Gathering,
     /// The summaries, where settings have as many runs as are enough.
     settings: Vec<SettingSummary>,
 }
 
-impl Told {
-    ghost use Rattle.shard_merge.specs.Behind.{AreBehind, ReadsBehind, summaries_told};
+impl SettingsRead {
+    ghost use Rattle.shard_merge.specs.Behind.{AreBehind, ReadsBehind, summaries_read};
     ghost use Rattle.sweep.specs.Summaries.{IsGathered};
 
     /// Nothing yet, of a sweep whose settings have at most so many runs each.
-    pub(crate) fn new(alloc: Global, each: usize) -> Told
+    pub(crate) fn new(alloc: Global, each: usize) -> SettingsRead
         requires some { 0 < each }
         requires few { each ≤ 1000000 }
         ensures runs { IsGathered each [] result.gathering }
         ensures settings { result.settings.items ≡ [] }
     {
-        Told {
+        SettingsRead {
             gathering: Gathering::new(alloc, each as u64),
             settings: Vec::new(alloc),
         }
@@ -83,7 +83,7 @@ impl Told {
 
     /// The summaries of the settings of a sweep that has a width, or none.
     pub(crate) fn into_summaries(self, until: Option<u64>) -> Vec<SettingSummary>
-        ensures { result.items ≡ summaries_told until self }
+        ensures { result.items ≡ summaries_read until self }
     {
         match until {
             Some(_width) => self.settings,

@@ -8,13 +8,13 @@ use Rattle.series.specs.Series.{AreSeriesOf}
 use Rattle.member_laws.specs.Runs.{IsRunOf}
 use Rattle.page_runs.specs.declared.page_data.PageData.{PageData}
 
--- the rows of the scenario's run were tallied, and the series of its page are what they tell
-pub record TellsRun (s : Setup) (told : PageData) : Type 0 where
-  pub run : IsRunOf s told.tallies
-  pub named : All (NamesMembers s) told.tallies
-  pub gathered : AreSeriesOf s told.gathered.series told.tallies
+-- the rows of the scenario's run were tallied, and these are the series of its page
+pub record TalliesRun (s : Setup) (data : PageData) : Type 0 where
+  pub run : IsRunOf s data.tallies
+  pub named : All (NamesMembers s) data.tallies
+  pub gathered : AreSeriesOf s data.gathered.series data.tallies
 
 -- the rows that were tallied, or why there are none
-abbrev pub rows_told : Result PageData Fault → Result (List Row) Fault
-rows_told (Ok told) = Ok told.tallies
-rows_told (Err cause) = Err cause
+abbrev pub rows_tallied : Result PageData Fault → Result (List Row) Fault
+rows_tallied (Ok data) = Ok data.tallies
+rows_tallied (Err cause) = Err cause

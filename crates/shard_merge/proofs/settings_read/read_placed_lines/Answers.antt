@@ -4,7 +4,7 @@ use Rattle.sweep.specs.Sums.{AreLinesOf}
 use Rattle.sweep.proofs.Handing.{on_ok_then}
 use Rattle.table_rows.specs.Lines.{AreLines}
 use Rattle.table_rows.proofs.Items.{refused_so}
-use Rattle.shard_merge.proofs.told.read_placed_lines.Goals as goal
+use Rattle.shard_merge.proofs.settings_read.read_placed_lines.Goals as goal
 
 pub returns-then-placed-clause-read : goal.returns-then-placed-clause-read
 returns-then-placed-clause-read c =

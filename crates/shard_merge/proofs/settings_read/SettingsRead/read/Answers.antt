@@ -8,9 +8,9 @@ use Rattle.table_rows.specs.Settings.{AreSettings, AreSettingsOf, ReadsSettings}
 use Rattle.table_rows.specs.Lines.{AreLines, ReadsLines}
 use Rattle.table_rows.specs.Refused.{Refuses}
 use Rattle.shard_merge.specs.Behind.{AreBehind, GathersMore, ReadsBehind, share}
-use Rattle.shard_merge.specs.declared.told.Told.{Told}
+use Rattle.shard_merge.specs.declared.settings_read.SettingsRead.{SettingsRead}
 use Rattle.shard_merge.proofs.Shares.{share_in}
-use Rattle.shard_merge.proofs.told.Told.read.Goals as goal
+use Rattle.shard_merge.proofs.settings_read.SettingsRead.read.Goals as goal
 
 pub first-first-requires-clause-few : goal.first-first-requires-clause-few
 first-first-requires-clause-few c = omega (arith, few_settings c.args.plan.now c.requires.asked, c.settings-all.ensures)
@@ -45,7 +45,7 @@ returns-in-Some-clause-read c =
     let old = c.args.self.now.settings.items in
     let new = c.read_placed_settings.new.settings.items in
     let before = c.args.self.now in
-    let after : Told = record { gathering = before.gathering; settings = c.read_placed_settings.new.settings } in
+    let after : SettingsRead = record { gathering = before.gathering; settings = c.read_placed_settings.new.settings } in
     let result = c.read_placed_settings.result in
     let some : plan.until ≡ Some width = sym c.until.ensures.same ∙ c.in-Some.is in
     let first = c.first-first.ensures.first ∙ ap (first_run c.args.shard) c.settings-all.ensures in
@@ -78,7 +78,7 @@ returns-in-None-clause-read c =
     let lines = c.args.lines.now in
     let total = run_count plan in
     let before = c.args.self.now in
-    let after : Told = record { gathering = c.read_placed_lines.new.gathering; settings = before.settings } in
+    let after : SettingsRead = record { gathering = c.read_placed_lines.new.gathering; settings = before.settings } in
     let result = c.read_placed_lines.result in
     let none : plan.until ≡ None = sym c.until.ensures.same ∙ c.in-None.is in
     let first = c.first-first-in-None.ensures.first ∙ ap (first_run c.args.shard) c.runs-all.ensures.count in
