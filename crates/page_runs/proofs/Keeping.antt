@@ -71,22 +71,22 @@ module _ {A B C : Type 0} (held : A → Option (List ℕ)) (failed : A → ℕ) 
       begun (inr part) = inr (inl (part.0, part.1, Keeps-same (held_page page)))
 
   -- its trace and its report are whole: they are of the rows that were tallied, since there is one run
-  module _ (page_old page_new : C) (outcome : Result PageData Fault) (data : PageData) (is : outcome ≡ Ok data)
+  module _ (page_old page_new : C) (outcome : Result PageData Fault) (page_data : PageData) (is : outcome ≡ Ok page_data)
       (promise : KeepsPromise held failed held_report failed_report s trace_old trace_new report_old report_new (summed (rows_tallied outcome)))
       (of_outcome : IfOk outcome (TalliesRun s)) (one : (first second : List Row) → IsRunOf s first → IsRunOf s second → first ≡ second) where
-    kept : KeepsPromise held failed held_report failed_report s trace_old trace_new report_old report_new (Ok (record { rows = length data.tallies }))
+    kept : KeepsPromise held failed held_report failed_report s trace_old trace_new report_old report_new (Ok (record { rows = length page_data.tallies }))
     kept = subst (λ r. KeepsPromise held failed held_report failed_report s trace_old trace_new report_old report_new (summed (rows_tallied r))) is promise
 
-    tallied : TalliesRun s data
+    tallied : TalliesRun s page_data
     tallied = subst (λ r. IfOk r (TalliesRun s)) is of_outcome
 
-    same : kept.written.rows ≡ data.tallies
-    same = one kept.written.rows data.tallies kept.written.run tallied.run
+    same : kept.written.rows ≡ page_data.tallies
+    same = one kept.written.rows page_data.tallies kept.written.run tallied.run
 
-    traced : Appends (held trace_old) (held trace_new) (trace_text s data.tallies)
+    traced : Appends (held trace_old) (held trace_new) (trace_text s page_data.tallies)
     traced = subst (λ rows. Appends (held trace_old) (held trace_new) (trace_text s rows)) same kept.written.trace
 
-    reported : Appends (held_report report_old) (held_report report_new) (report_text s data.tallies)
+    reported : Appends (held_report report_old) (held_report report_new) (report_text s page_data.tallies)
     reported = subst (λ rows. Appends (held_report report_old) (held_report report_new) (report_text s rows)) same kept.written.report
 
     -- neither of their sinks has failed
@@ -94,14 +94,14 @@ module _ {A B C : Type 0} (held : A → Option (List ℕ)) (failed : A → ℕ) 
     none_failed (inl less) = let whole = kept.whole in absurd (omega (arith, whole, less))
     none_failed (inr less) = let whole = kept.whole_report in absurd (omega (arith, whole, less))
 
-    pub paged : (result : Result Summary Fault) → IfOk result (λ summary. summary.rows ≡ length data.tallies)
-        → OnOk result (WritesPage time name release s data.tallies (held_page page_old) (held_page page_new))
-        → OnErr result (BeginsPage time name release s data.tallies (held_page page_old) (held_page page_new))
+    pub paged : (result : Result Summary Fault) → IfOk result (λ summary. summary.rows ≡ length page_data.tallies)
+        → OnOk result (WritesPage time name release s page_data.tallies (held_page page_old) (held_page page_new))
+        → OnErr result (BeginsPage time name release s page_data.tallies (held_page page_old) (held_page page_new))
         → OnOk result (failed_page page_new ≡ failed_page page_old) → (IsErrOf result Write → failed_page page_old < failed_page page_new)
         → IfErr result (λ cause. cause ≢ Write → failed_page page_new ≡ failed_page page_old)
         → KeepsPagePromise held failed held_report failed_report held_page failed_page time name release s trace_old trace_new report_old report_new page_old page_new result
     paged (Ok summary) counted whole part unfailed write others = record {
-      written = record { rows = data.tallies; run = tallied.run; counted = counted; trace = traced; report = reported; page = whole };
+      written = record { rows = page_data.tallies; run = tallied.run; counted = counted; trace = traced; report = reported; page = whole };
       beginning = tt;
       first = kept.first;
       second = none_failed;
@@ -115,7 +115,7 @@ module _ {A B C : Type 0} (held : A → Option (List ℕ)) (failed : A → ℕ) 
     }
     paged (Err cause) counted whole part unfailed write others = record {
       written = tt;
-      beginning = record { rows = data.tallies; run = tallied.run; written = inr (inr (traced, reported, part)) };
+      beginning = record { rows = page_data.tallies; run = tallied.run; written = inr (inr (traced, reported, part)) };
       first = kept.first;
       second = none_failed;
       lasts = tt;

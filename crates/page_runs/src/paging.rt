@@ -33,24 +33,24 @@ pub fn write_page<C: Sink>(
     alloc: Global,
     scenario: &Scenario,
     shown: &RunShown<'_>,
-    data: &PageData,
+    page_data: &PageData,
     out: &mut C,
 ) -> Result<Summary, Fault>
-    requires named { All (NamesMembers scenario.now) data.now.tallies }
-    requires gathered { AreSeriesOf scenario.now data.now.gathered.series data.now.tallies }
+    requires named { All (NamesMembers scenario.now) page_data.now.tallies }
+    requires gathered { AreSeriesOf scenario.now page_data.now.gathered.series page_data.now.tallies }
     requires countable { C.failed out.old < 2 ^ 63 }
-    ensures rows { IfOk result (λ summary. summary.rows ≡ length data.now.tallies) }
-    ensures whole { OnOk result (WritesPage shown.now.tick shown.now.name.now shown.now.release.now scenario.now data.now.tallies (C.held out.old) (C.held out.new)) }
-    ensures part { OnErr result (BeginsPage shown.now.tick shown.now.name.now shown.now.release.now scenario.now data.now.tallies (C.held out.old) (C.held out.new)) }
+    ensures rows { IfOk result (λ summary. summary.rows ≡ length page_data.now.tallies) }
+    ensures whole { OnOk result (WritesPage shown.now.tick shown.now.name.now shown.now.release.now scenario.now page_data.now.tallies (C.held out.old) (C.held out.new)) }
+    ensures part { OnErr result (BeginsPage shown.now.tick shown.now.name.now shown.now.release.now scenario.now page_data.now.tallies (C.held out.old) (C.held out.new)) }
     ensures unfailed { OnOk result (C.failed out.new ≡ C.failed out.old) }
     ensures write { IsErrOf result Fault.Write → C.failed out.old < C.failed out.new }
     ensures others { IfErr result (λ cause. cause ≢ Fault.Write → C.failed out.new ≡ C.failed out.old) }
     ensures causes { IfErr result (λ cause. (cause ≢ Fault.CounterOverflow) × (cause ≢ Fault.ThreadLost)) }
 {
-    let text = page_of(alloc, scenario, shown, data)?;
+    let text = page_of(alloc, scenario, shown, page_data)?;
     match put_page(text.as_bytes(), out) {
         Ok(()) => Ok(Summary {
-            rows: data.tallies.rows(),
+            rows: page_data.tallies.rows(),
         }),
         Err(Stopped) => Err(Fault::Write),
     }
@@ -72,18 +72,18 @@ fn page_of(
     alloc: Global,
     scenario: &Scenario,
     shown: &RunShown<'_>,
-    data: &PageData,
+    page_data: &PageData,
 ) -> Result<String, Memory>
-    requires named { All (NamesMembers scenario.now) data.now.tallies }
-    requires gathered { AreSeriesOf scenario.now data.now.gathered.series data.now.tallies }
-    ensures { IfOk result (λ text. IsPageOf shown.now.tick shown.now.name.now scenario.now data.now.tallies shown.now.release.now (string_bytes text)) }
+    requires named { All (NamesMembers scenario.now) page_data.now.tallies }
+    requires gathered { AreSeriesOf scenario.now page_data.now.gathered.series page_data.now.tallies }
+    ensures { IfOk result (λ text. IsPageOf shown.now.tick shown.now.name.now scenario.now page_data.now.tallies shown.now.release.now (string_bytes text)) }
 {
     let run = Run {
         name: shown.name,
         release: shown.release,
         scenario,
-        series: &data.gathered.series,
-        tallies: &data.tallies,
+        series: &page_data.gathered.series,
+        tallies: &page_data.tallies,
         tick: shown.tick,
     };
     page(alloc, &run)

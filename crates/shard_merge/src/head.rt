@@ -16,9 +16,8 @@ use crate::fault::JoinFault;
 use decimals::number;
 use shards::Shard;
 use std::alloc::Global;
-use sweep::write_front;
+use sweep::front_of;
 use sweep_plan::{Plan, PlanFault};
-use trace::Put;
 
 /// What the name of a shard says.
 #[derive(Drop)]
@@ -122,18 +121,7 @@ pub(crate) fn header_of(alloc: Global, head: &Head<'_>, shard: Shard) -> Result<
     ensures header { IfOk result (λ header. header.items ≡ shard_header head.now.revived head.now.mark.now head.now.plan shard) }
     ensures memory { IfErr result (λ fault. fault ≡ join.Memory) }
 {
-    let mut header = Put::new(Vec::new(alloc));
-    match write_front(
-        alloc,
-        &head.plan,
-        shard,
-        head.mark,
-        head.revived,
-        &mut header,
-    ) {
-        Ok(()) => Ok(header.into_inner()),
-        Err(_) => Err(JoinFault::Memory),
-    }
+    Ok(front_of(alloc, &head.plan, shard, head.mark, head.revived)?)
 }
 
 /// The number of the shard that a text says that it is.

@@ -8,8 +8,8 @@ ghost use Rattle.sweep.specs.Table.{counts_revived};
 ghost use Rattle.sweep.specs.Resumed.{IsBegun, RefusesBegun, RefusesStart};
 ghost use Rattle.sweep.specs.declared.begun.BegunFault.TheVariants as begun_fault;
 
-use crate::revived::counts_revived;
 use crate::fronts::front_of;
+use crate::revived::counts_revived;
 use crate::standing::{is_older, lines_of_runs};
 use crate::summing::key_of_text;
 use base::Memory;

@@ -40,7 +40,7 @@ fn behind(text: &[u8], count: usize) -> &[u8]
 }
 
 /// The first line of a shard.
-pub(crate) fn front_of(
+pub fn front_of(
     alloc: Global,
     plan: &Plan,
     shard: Shard,
