@@ -8,7 +8,7 @@ ghost use Rattle.sweep.specs.Table.{counts_revived};
 ghost use Rattle.sweep.specs.Resumed.{IsBegun, RefusesBegun, RefusesStart};
 ghost use Rattle.sweep.specs.declared.begun.BegunFault.TheVariants as begun_fault;
 
-use crate::fronts::front_of;
+use crate::header::front_of;
 use crate::revived::counts_revived;
 use crate::standing::{is_older, lines_of_runs};
 use crate::summing::key_of_text;

@@ -4,8 +4,8 @@
 mod begun;
 mod chunks;
 mod first_seeds;
-mod fronts;
 mod gathering;
+mod header;
 mod judging;
 mod making;
 mod planned;
@@ -23,8 +23,8 @@ mod writing;
 
 pub use begun::{Begun, BegunFault, begun_of, lines_behind};
 pub use first_seeds::first_seed;
-pub use fronts::{front_of, write_front, write_front_behind};
 pub use gathering::{Gather, Gathering, NothingGathered};
+pub use header::{front_of, write_front, write_front_behind};
 pub use judging::{Refused, judge};
 pub use making::{MadeRun, make_side_by_side};
 pub use planned::first_run;

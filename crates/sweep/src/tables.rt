@@ -12,8 +12,8 @@ ghost use Rattle.sweep.specs.Summaries.{MakesAll, MakesRest};
 
 use crate::begun::Begun;
 use crate::chunks::make_runs;
-use crate::fronts::write_front_behind;
 use crate::gathering::{Gather, Gathering};
+use crate::header::write_front_behind;
 use crate::progress::Progress;
 use crate::revived::counts_revived;
 use crate::summing::sweep_key;

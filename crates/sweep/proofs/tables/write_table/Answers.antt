@@ -44,7 +44,7 @@ returns-in_err-write_front_behind-clause-part g c =
     let kept = c.args.begun.now.kept in
     let old = g.S.Sink.held c.args.table.now in
     let begun = g.S.Sink.held c.write_front_behind.new.table in
-    let front = subst (λ b. AppendsBeginning old begun (drop kept (shard_header b c.args.mark.now plan p))) c.counts_revived.ensures c.in_err-write_front_behind.ensures.part in
+    let front = subst (λ b. AppendsBeginning old begun (drop kept (shard_header b c.args.mark.now plan p))) c.counts_revived-revived.ensures c.in_err-write_front_behind.ensures.part in
     on_err c.from_residual-in_err-write_front_behind.result
     (rest_begun tree plan c.args.mark.now p kept old begun c.args.begun.now.count c.a_run_exists.ensures c.requires.judged
     (front_part tree plan (rest_course tree c.args.mark.now plan p kept c.args.begun.now.count old) begun c.requires.few front))
@@ -66,7 +66,7 @@ returns-in_err-make_runs-clause-part g c =
     let keyed = sym c.in_ok-key.ensures in
     let first = ap (λ n. n + c.args.begun.now.count) (c.first-first.ensures.first ∙ ap (first_run p) c.runs-runs.ensures.count) in
     let past = c.past.ensures.past ∙ ap (past_run p) c.runs-runs.ensures.count in
-    let front = subst (λ b. Appends old begun (drop kept (shard_header b c.args.mark.now plan p))) c.counts_revived.ensures c.in_ok-write_front_behind.ensures.whole in
+    let front = subst (λ b. Appends old begun (drop kept (shard_header b c.args.mark.now plan p))) c.counts_revived-revived.ensures c.in_ok-write_front_behind.ensures.whole in
     let come = subst (HasCome tree plan course begun Fresh) (sym first) (front_come tree plan course begun Fresh front c.requires.fresh) in
     on_err c.from_residual-in_err-make_runs.result
     (rest_begun tree plan c.args.mark.now p kept old new c.args.begun.now.count c.a_run_exists.ensures c.requires.judged
@@ -87,7 +87,7 @@ returns-in_err-flush-clause-part g c =
     let keyed = sym c.in_ok-key.ensures in
     let first = ap (λ n. n + c.args.begun.now.count) (c.first-first.ensures.first ∙ ap (first_run p) c.runs-runs.ensures.count) in
     let past = c.past.ensures.past ∙ ap (past_run p) c.runs-runs.ensures.count in
-    let front = subst (λ b. Appends old begun (drop kept (shard_header b c.args.mark.now plan p))) c.counts_revived.ensures c.in_ok-write_front_behind.ensures.whole in
+    let front = subst (λ b. Appends old begun (drop kept (shard_header b c.args.mark.now plan p))) c.counts_revived-revived.ensures c.in_ok-write_front_behind.ensures.whole in
     let come = subst (HasCome tree plan course begun Fresh) (sym first) (front_come tree plan course begun Fresh front c.requires.fresh) in
     on_err c.from_residual-in_err-flush.result
     (rest_begun tree plan c.args.mark.now p kept old new c.args.begun.now.count c.a_run_exists.ensures c.requires.judged
@@ -112,7 +112,7 @@ returns-clause-whole g c =
     let keyed = sym c.in_ok-key.ensures in
     let first = ap (λ n. n + c.args.begun.now.count) (c.first-first.ensures.first ∙ ap (first_run p) c.runs-runs.ensures.count) in
     let past = c.past.ensures.past ∙ ap (past_run p) c.runs-runs.ensures.count in
-    let front = subst (λ b. Appends old begun (drop kept (shard_header b c.args.mark.now plan p))) c.counts_revived.ensures c.in_ok-write_front_behind.ensures.whole in
+    let front = subst (λ b. Appends old begun (drop kept (shard_header b c.args.mark.now plan p))) c.counts_revived-revived.ensures c.in_ok-write_front_behind.ensures.whole in
     let come = subst (HasCome tree plan course begun Fresh) (sym first) (front_come tree plan course begun Fresh front c.requires.fresh) in
     rest_whole tree plan c.args.mark.now p kept old new c.args.begun.now.count Gathered
     (subst (HasCome tree plan course new Gathered) past

@@ -1,14 +1,20 @@
-use Rattle.std.proofs.Common.{◌≡◌, ◌∙◌, ap, map, subst}
+use Rattle.std.proofs.Common.{◌≡◌, ◌∙◌, ◌++◌, ap, map, subst}
 use Rattle.std.specs.Prelude.{string_bytes, OnOk, OnErr}
 use Rattle.std.specs.Io.KnownBytes.{Appends}
 use Rattle.trace.specs.Sinks.{AppendsBeginning}
-use Rattle.trace.proofs.Beginnings.{Appends-then, beginning-first, beginning-then}
+use Rattle.trace.proofs.Beginnings.{Appends-then, Keeps-same, beginning-first, beginning-none, beginning-then}
 use Rattle.figures.specs.Lines.{run_line}
 use Rattle.figures.specs.Notes.{note_cell}
 use Rattle.sweep.specs.Table.{texts_of}
 use Rattle.run_output.proofs.Faults.{on_err}
 use Rattle.sweep.proofs.Handing.{on_ok_then, on_err_then}
 use Rattle.sweep.proofs.values.write_noted.Goals as goal
+
+pub returns-in_err-values-clause-part : goal.returns-in_err-values-clause-part
+returns-in_err-values-clause-part g c =
+    let old = g.S.Sink.held c.args.table.now in
+    on_err c.from_residual-in_err-values.result
+    (beginning-none old old (note_cell c.args.note.now ++ run_line c.args.revived (texts_of c.args.setting.now) c.args.seed c.args.figures.now) (Keeps-same old))
 
 pub returns-in_err-write_metadata-clause-part : goal.returns-in_err-write_metadata-clause-part
 returns-in_err-write_metadata-clause-part g c =

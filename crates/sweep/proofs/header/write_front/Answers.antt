@@ -8,7 +8,7 @@ use Rattle.shards.specs.Names.{head_cell}
 use Rattle.sweep.specs.Table.{names_of}
 use Rattle.run_output.proofs.Faults.{on_err}
 use Rattle.sweep.proofs.Handing.{on_ok_then, on_err_then}
-use Rattle.sweep.proofs.fronts.write_front.Goals as goal
+use Rattle.sweep.proofs.header.write_front.Goals as goal
 
 pub returns-in_err-write_head-clause-part : goal.returns-in_err-write_head-clause-part
 returns-in_err-write_head-clause-part g c =
