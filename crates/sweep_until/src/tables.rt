@@ -1,5 +1,5 @@
 //! The table of a sweep or of a shard of it, which is one of whole settings, from its beginning or behind what stands of it.
-ghost use Rattle.std.specs.Prelude.{◌≡◌, ◌≢◌, ◌<◌, ◌≤◌, ◌^◌, ◌+◌, ◌-◌, [], Some, is_some, true, OnOk, OnErr, IfErr};
+ghost use Rattle.std.specs.Prelude.{◌≡◌, ◌≢◌, ◌<◌, ◌≤◌, ◌^◌, ◌+◌, ◌-◌, [], Some, is_some, true, OnOk, OnErr, IfErr, IfOk};
 ghost use Rattle.toml.specs.View.{view};
 ghost use Rattle.run_output.specs.Written.{sink_failures};
 ghost use Rattle.shards.specs.Shards.{IsShard, whole};

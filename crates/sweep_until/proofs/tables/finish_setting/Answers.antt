@@ -36,26 +36,32 @@ pub returns-in_err-make_setting-clause-part : goal.returns-in_err-make_setting-c
 returns-in_err-make_setting-clause-part g c =
     let tree = view c.args.document.now in
     let plan = c.args.plan.now in
-    let before = c.args.begun.now.started.items in
+    let before = c.as_slice-started.result.now in
+    let place = first_setting plan c.args.shard + c.args.begun.now.count in
+    let key = sweep_key c.args.mark.now plan in
     let old = g.S.Sink.held c.args.table.now in
     let new = g.S.Sink.held c.make_setting.new.table in
-    let number : c.first-first.result + c.args.begun.now.count ≡ first_setting plan c.args.shard + c.args.begun.now.count =
+    let number : c.first-first.result + c.args.begun.now.count ≡ place =
     ap (λ n. n + c.args.begun.now.count) (c.first-first.ensures.first ∙ ap (first_run c.args.shard) c.settings-count.ensures) in
     on_err c.from_residual-in_err-make_setting.result
-    (subst (λ n. BeginsWide tree plan c.args.width before (setting_course plan (sweep_key c.args.mark.now plan) n before old) new) number
-    (subst (λ k. BeginsWide tree plan c.args.width before (setting_course plan k (c.first-first.result + c.args.begun.now.count) before old) new) c.in_ok-key.ensures c.in_err-make_setting.ensures.part))
+    (subst (λ b. BeginsWide tree plan c.args.width b (setting_course plan key place b old) new) c.as_slice-started.ensures.value
+    (subst (λ n. BeginsWide tree plan c.args.width before (setting_course plan key n before old) new) number
+    (subst (λ k. BeginsWide tree plan c.args.width before (setting_course plan k (c.first-first.result + c.args.begun.now.count) before old) new) c.in_ok-key.ensures c.in_err-make_setting.ensures.part)))
 
 pub returns-clause-whole : goal.returns-clause-whole
 returns-clause-whole g c =
     let tree = view c.args.document.now in
     let plan = c.args.plan.now in
-    let before = c.args.begun.now.started.items in
+    let before = c.as_slice-started.result.now in
+    let place = first_setting plan c.args.shard + c.args.begun.now.count in
+    let key = sweep_key c.args.mark.now plan in
     let old = g.S.Sink.held c.args.table.now in
     let new = g.S.Sink.held c.make_setting.new.table in
     let setting = c.in_ok-make_setting.field-0 in
-    let number : c.first-first.result + c.args.begun.now.count ≡ first_setting plan c.args.shard + c.args.begun.now.count =
+    let number : c.first-first.result + c.args.begun.now.count ≡ place =
     ap (λ n. n + c.args.begun.now.count) (c.first-first.ensures.first ∙ ap (first_run c.args.shard) c.settings-count.ensures) in (
       setting,
-      subst (λ n. MakesSetting tree plan (sweep_key c.args.mark.now plan) c.args.width n before old new setting) number
-          (subst (λ k. MakesSetting tree plan k c.args.width (c.first-first.result + c.args.begun.now.count) before old new setting) c.in_ok-key.ensures c.in_ok-make_setting.ensures.whole),
+      subst (λ b. MakesSetting tree plan key c.args.width place b old new setting) c.as_slice-started.ensures.value
+          (subst (λ n. MakesSetting tree plan key c.args.width n before old new setting) number
+          (subst (λ k. MakesSetting tree plan k c.args.width (c.first-first.result + c.args.begun.now.count) before old new setting) c.in_ok-key.ensures c.in_ok-make_setting.ensures.whole)),
     )

@@ -15,8 +15,8 @@ finish_setting-requires-clause-some g c _ _ = (is_there c.requires.begun c.requi
 pub finish_setting-requires-clause-open_yet : goal.finish_setting-requires-clause-open_yet
 finish_setting-requires-clause-open_yet g c _ _ = c.requires.begun.open_yet c.args.width c.requires.wanted
 
-pub overflow_add-made : goal.overflow_add-made
-overflow_add-made g c =
+pub overflow_add-begun : goal.overflow_add-begun
+overflow_add-begun g c =
     omega (arith, (is_there c.requires.begun c.requires.some).0, few_settings c.args.plan.now c.requires.asked, settings_within c.args.plan.now c.args.shard c.requires.shard)
 
 pub write_settings-requires-clause-few : goal.write_settings-requires-clause-few
