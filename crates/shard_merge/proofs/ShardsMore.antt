@@ -165,7 +165,7 @@ module _ (texts : List (Vec ℕ Global)) (mark : List ℕ) (revived : Bool) (see
       let more = read.are.items in
       shard_more (IsSetting width each) shard_setting (setting_count sweep.swept_keys) texts mark revived sweep of (SummedUp width between.settings.items) (SummedUp width after.settings.items) number old mid new
       one.body within so one.there read.are one.put (
-        subst (λ settings. AllZip SumsUpLines (so.things ++ more) settings) (sym read.added) (zipped_both SumsUpLines so.things more between.settings.items read.summaries so.holds.0 read.so_far),
+        subst (λ settings. AllZip SumsUpLines (so.things ++ more) settings) (sym read.added) (zipped_both SumsUpLines so.things more between.settings.items read.summaries so.holds.0 read.summed),
         settings_more width number so.things more one.body so.many so.holds.1 read.are.written read.are.many one.read.1,
       )
 
