@@ -61,7 +61,7 @@ by_gathering before names otherwise f (inl read) = by_reading (before read.1.now
 by_gathering before names otherwise f (inr shards) = subst EndsJoin (sym shards.2.1) (by_merging names otherwise shards.2.0)
 
 by_storing : (Refused : Type 0) (before after : Shelf) (making : Making) (source name : Text) (text : List ℕ) (f : Failure) → FailsToStore Refused before after making source name text f → EndsJoin f
-by_storing Refused before after making source name text (failing.File told) h = tt
+by_storing Refused before after making source name text (failing.File named) h = tt
 by_storing Refused before after making source name text failing.Memory h = tt
 by_storing Refused before after making source name text (failing.Shards cause) h = absurd h
 by_storing Refused before after making source name text (failing.Run cause) h = tt
@@ -78,7 +78,7 @@ by_storing Refused before after making source name text (failing.Drive cause) h 
 
 by_storing_both : (Refused : Type 0) (before after : Shelf) (making : Making) (source name page : Text) (table shown : List ℕ) (f : Failure)
     → FailsToStoreBoth Refused before after making source name page table shown f → EndsJoin f
-by_storing_both Refused before after making source name page table shown (failing.File told) h = tt
+by_storing_both Refused before after making source name page table shown (failing.File named) h = tt
 by_storing_both Refused before after making source name page table shown failing.Memory h = tt
 by_storing_both Refused before after making source name page table shown (failing.Shards cause) h = absurd h
 by_storing_both Refused before after making source name page table shown (failing.Run cause) h = tt

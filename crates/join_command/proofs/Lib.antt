@@ -1,3 +1,3 @@
 pub mod Causes
 mod Stored
-mod Told
+mod Held

@@ -25,9 +25,9 @@ pub each_on_err : {T E A B : Type 0} (r : Result T E) → OnErr r A → (A → B
 each_on_err (Ok x) a turn = tt
 each_on_err (Err e) a turn = turn a
 
--- what holds where a run was done holds where it is told as done
-pub told_on_ok : {T : Type 0} (P : Type 0) (outcome : Result T Fault) (told : Result T Failure) → told ≡ run_result outcome → OnOk outcome P → OnOk told P
-told_on_ok {T} P outcome told is done = subst (λ r. OnOk r P) (sym is) (go outcome done)
+-- what holds where a run was done holds where it is handed on as done
+pub handed_on_ok : {T : Type 0} (P : Type 0) (outcome : Result T Fault) (handed : Result T Failure) → handed ≡ run_result outcome → OnOk outcome P → OnOk handed P
+handed_on_ok {T} P outcome handed is done = subst (λ r. OnOk r P) (sym is) (go outcome done)
   where
     go : (r : Result T Fault) → OnOk r P → OnOk (run_result r) P
     go (Ok x) h = h

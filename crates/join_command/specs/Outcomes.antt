@@ -78,14 +78,14 @@ StoresAsked None release before after making join plan settings table =
     Stores before after making (name_at join.files.items join.table 0).now join.table.now table
 StoresAsked (Some page) release before after making join plan settings table = StoresPaged release page.now before after making join plan settings table
 
--- the shards in the files were put together: their table was stored, with a page where one is asked for, and this is what is told of the settings
+-- the shards in the files were put together: their table was stored, with a page where one is asked for, and this is the text of the settings
 pub record JoinsAll (release : List ℕ) (before after : Shelf) (making : Making) (join : JoinWords) (lines : List ℕ) : Type 0 where
   pub plan : Sweep
   pub revived : Bool
   pub settings : List SettingSummary
   pub table : List ℕ
   pub gathered : GathersSettings before join.files.items (Some []) (Some table) plan revived settings
-  pub told : TellsSettings join.jsonl revived plan join.wants.items settings lines
+  pub text : TellsSettings join.jsonl revived plan join.wants.items settings lines
   pub stored : StoresAsked join.page release before after making join plan settings table
 
 -- shards that the words ask to join were
@@ -119,7 +119,7 @@ DoesPage release words before after making = (page : PageWords) × AsksForPage w
 abbrev pub FailsToRead : Shelf → List (Bor Text) → Failure → Type 0
 FailsToRead before names failure = (place : ℕ) × (name : Bor Text) × (slice_get names place ≡ Some name) × IsUnread (before name.now) name.now failure
 
--- by which failure it is told why texts aren't the shards of one sweep: a file by its name; a table in memory fails by want of that
+-- which failure says why texts aren't the shards of one sweep: a file by its name; a table in memory fails by want of that
 abbrev pub shard_failure : List (Bor Text) → Bor Text → JoinFault → Failure
 shard_failure names otherwise (fault.NoShard at) = Shards (shard.NoShard (name_at names otherwise at))
 shard_failure names otherwise (fault.Other at) = Shards (shard.Other (name_at names otherwise at))
@@ -130,7 +130,7 @@ shard_failure names otherwise (fault.Missing number) = Shards (shard.Missing num
 shard_failure names otherwise fault.Write = Memory
 shard_failure names otherwise fault.Memory = Memory
 
--- and by which it is told why their seeds don't follow one another: by the file whose seeds another has, or by the one behind a gap
+-- and which says why their seeds don't follow one another: by the file whose seeds another has, or by the one behind a gap
 abbrev pub merge_failure : List (Bor Text) → Bor Text → MergeFault → Failure
 merge_failure names otherwise (merge.Shards cause) = shard_failure names otherwise cause
 merge_failure names otherwise (merge.Overlap at other) = Shards (shard.Doubled (name_at names otherwise at))
@@ -148,7 +148,7 @@ FailsToGather before names otherwise failure =
 
 -- A text was not stored whole: its file can't be made, memory was refused, or a file refused a write, as `Refused` says, and has a beginning of it.
 abbrev pub FailsToStore : Type 0 → Shelf → Shelf → Making → Text → Text → List ℕ → Failure → Type 0
-FailsToStore Refused before after making source name text (File told) = (told.now ≡ name) × CannotMake making source name × (after ≡ before)
+FailsToStore Refused before after making source name text (File named) = (named.now ≡ name) × CannotMake making source name × (after ≡ before)
 FailsToStore Refused before after making source name text Memory = after ≡ before
 FailsToStore Refused before after making source name text (Run cause.Write) =
     Refused × (making.are_one source name ≡ false) × HoldsBeginning (before name) (after name) text × KeepsOthers before after name
@@ -168,8 +168,8 @@ pub record BreaksOffBoth (before after : Shelf) (making : Making) (source name p
 
 -- a table and a page were not stored whole: a file can't be made, memory was refused, or a file refused a write and it broke off
 abbrev pub FailsToStoreBoth : Type 0 → Shelf → Shelf → Making → Text → Text → Text → List ℕ → List ℕ → Failure → Type 0
-FailsToStoreBoth Refused before after making source name page table shown (File told) =
-    (((told.now ≡ name) × CannotMake making source name) ⊎ ((told.now ≡ page) × CannotMakeSecond making source name page)) × (after ≡ before)
+FailsToStoreBoth Refused before after making source name page table shown (File named) =
+    (((named.now ≡ name) × CannotMake making source name) ⊎ ((named.now ≡ page) × CannotMakeSecond making source name page)) × (after ≡ before)
 FailsToStoreBoth Refused before after making source name page table shown Memory = after ≡ before
 FailsToStoreBoth Refused before after making source name page table shown (Run cause.Write) = Refused × BreaksOffBoth before after making source name page table shown
 FailsToStoreBoth Refused before after making source name page table shown _ = ⊥
@@ -190,7 +190,7 @@ FailsToStoreAsked None Refused release before after making join plan settings ta
 FailsToStoreAsked (Some page) Refused release before after making join plan settings table failure =
     FailsToStorePaged Refused release page.now before after making join plan settings table failure
 
--- the shards were put together, but memory was refused to what is told, or their table was not stored
+-- the shards were put together, but memory was refused to the text of the settings, or their table was not stored
 pub record StoresNone (Refused : Type 0) (before after : Shelf) (making : Making) (join : JoinWords) (failure : Failure) : Type 0 where
   pub release : List ℕ
   pub plan : Sweep

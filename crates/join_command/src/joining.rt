@@ -17,8 +17,8 @@ use sweep_output::settings_printed;
 use trace::Put;
 
 /// Puts the shards in the files of the words together, and writes the table of the whole to a file, and a page of the settings to
-/// another where one is asked for; they are made once the shards are put together. Answers what is told of the settings.
-/// `release` is what the page tells of the program.
+/// another where one is asked for; they are made once the shards are put together. Returns the text of the settings.
+/// `release` is what the page says of the program.
 pub fn join_files<'a, F: Files>(
     alloc: Global,
     release: &Release<'_>,
@@ -31,7 +31,7 @@ pub fn join_files<'a, F: Files>(
     ensures failed { IfErr result (JoinFails (F.refused files.old < F.refused files.new) (F.known files.old) (F.known files.new) (F.making files.old) words.now) }
 {
     let whole = gather_whole(alloc, words, files)?;
-    let lines = tell(alloc, words, &whole.joined)?;
+    let lines = text_of_settings(alloc, words, &whole.joined)?;
     store_asked(alloc, release, words, &whole, files)?;
     Ok(lines)
 }
@@ -72,12 +72,16 @@ fn gather_whole<'a, F: Files>(
     })
 }
 
-/// What is told of the settings.
-fn tell(alloc: Global, words: &JoinWords<'_>, joined: &Joined) -> Result<String, Failure<'static>>
+/// The text of the settings.
+fn text_of_settings(
+    alloc: Global,
+    words: &JoinWords<'_>,
+    joined: &Joined,
+) -> Result<String, Failure<'static>>
     requires wants { All IsBounded words.now.wants.items }
     requires few { All HasFewRuns joined.now.settings.items }
     requires all { length joined.now.settings.items ≡ setting_count joined.now.plan.swept_keys }
-    ensures told { IfOk result
+    ensures text { IfOk result
         (λ lines. TellsSettings words.now.jsonl joined.now.revived joined.now.plan words.now.wants.items joined.now.settings.items (string_bytes lines)) }
     ensures refused { IfErr result (λ failure. failure ≡ Failure.Memory) }
 {

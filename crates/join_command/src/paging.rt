@@ -19,7 +19,7 @@ use ticks::Tick;
 use trace::Put;
 
 /// Puts the shards in the files of the words together, and writes a page of the settings to a file, which is made once they are.
-/// `release` is what the page tells of the program.
+/// `release` is what the page says of the program.
 pub fn page_files<'a, F: Files>(
     alloc: Global,
     release: &Release<'_>,

@@ -13,7 +13,7 @@ use table_merge::{MergeFault, join};
 use trace::Sink;
 
 /// Puts the shards in the files of these names together: the table of the whole goes to the sink, and what the settings came to
-/// is given. Where there is no name, `otherwise` is told in its place.
+/// is given. Where there is no name, `otherwise` stands in its place.
 pub(crate) fn gather<'a, F: Files, S: Sink>(
     alloc: Global,
     names: &[&'a str],
@@ -76,7 +76,7 @@ fn join_texts<'a, S: Sink>(
     }
 }
 
-/// The failure by which it is told why tables weren't put together. The line below it says more of seeds.
+/// The failure that says why tables weren't put together. The line below it says more of seeds.
 fn failure_of<'a>(names: &[&'a str], otherwise: &'a str, fault: MergeFault) -> Failure<'a>
     ensures { result ≡ merge_failure names.now otherwise.entry fault }
 {
@@ -92,7 +92,7 @@ fn failure_of<'a>(names: &[&'a str], otherwise: &'a str, fault: MergeFault) -> F
     }
 }
 
-/// The failure by which it is told why files aren't the shards of one sweep. A table in memory fails by want of that, and one that
+/// The failure that says why files aren't the shards of one sweep. A table in memory fails by want of that, and one that
 /// is thrown away never.
 fn shard_failure<'a>(names: &[&'a str], otherwise: &'a str, fault: JoinFault) -> Failure<'a>
     ensures { result ≡ shard_failure names.now otherwise.entry fault }

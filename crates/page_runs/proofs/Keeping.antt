@@ -18,13 +18,13 @@ use Rattle.run_output.proofs.Failing.{breaks_off}
 use Rattle.run_output.proofs.Runs.{writes_nothing}
 use Rattle.page_runs.specs.Pages.{BeginsPage, WritesPage}
 use Rattle.page_runs.specs.Promise.{KeepsPagePromise}
-use Rattle.page_runs.specs.Told.{TellsRun, rows_told}
+use Rattle.page_runs.specs.Tallied.{TalliesRun, rows_tallied}
 use Rattle.ticks.specs.declared.tick.Tick.{Tick}
 use Rattle.page_runs.specs.declared.page_data.PageData.{PageData}
 
 module _ {A B : Type 0} (held : A → Option (List ℕ)) (failed : A → ℕ) (held_report : B → Option (List ℕ)) (failed_report : B → ℕ) (s : Setup) where
   -- a run that was refused memory before it began
-  pub unbegun : (trace : A) (report : B) → IsSound s → KeepsPromise held failed held_report failed_report s trace trace report report (summed (rows_told (Err Memory)))
+  pub unbegun : (trace : A) (report : B) → IsSound s → KeepsPromise held failed held_report failed_report s trace trace report report (summed (rows_tallied (Err Memory)))
   unbegun trace report sound =
       breaks_off held failed held_report failed_report s trace trace report report (Err Memory) Memory refl
       (writes_nothing s (held trace) (held_report report) sound) (λ _. refl) (λ is. absurd (memory≢write is)) (λ _. refl)
@@ -33,7 +33,7 @@ module _ {A B C : Type 0} (held : A → Option (List ℕ)) (failed : A → ℕ) 
     (held_page : C → Option (List ℕ)) (failed_page : C → ℕ) (time : Option Tick) (name release : List ℕ) (s : Setup) (trace_old trace_new : A) (report_old report_new : B) where
   -- it broke off before its page
   pub unpaged : (page : C) (outcome : Result PageData Fault) (fault : Fault) → outcome ≡ Err fault
-      → KeepsPromise held failed held_report failed_report s trace_old trace_new report_old report_new (summed (rows_told outcome))
+      → KeepsPromise held failed held_report failed_report s trace_old trace_new report_old report_new (summed (rows_tallied outcome))
       → KeepsPagePromise held failed held_report failed_report held_page failed_page time name release s trace_old trace_new report_old report_new page page (Err fault)
   unpaged page outcome fault is promise = record {
     written = tt;
@@ -50,7 +50,7 @@ module _ {A B C : Type 0} (held : A → Option (List ℕ)) (failed : A → ℕ) 
   }
     where
       kept : KeepsPromise held failed held_report failed_report s trace_old trace_new report_old report_new (Err fault)
-      kept = subst (λ r. KeepsPromise held failed held_report failed_report s trace_old trace_new report_old report_new (summed (rows_told r))) is promise
+      kept = subst (λ r. KeepsPromise held failed held_report failed_report s trace_old trace_new report_old report_new (summed (rows_tallied r))) is promise
 
       rows : List Row
       rows = kept.beginning.rows
@@ -70,23 +70,23 @@ module _ {A B C : Type 0} (held : A → Option (List ℕ)) (failed : A → ℕ) 
       begun (inl part) = inl (part.0, part.1, Keeps-same (held_page page))
       begun (inr part) = inr (inl (part.0, part.1, Keeps-same (held_page page)))
 
-  -- its trace and its report are whole: they are of the rows that were told, since there is one run
-  module _ (page_old page_new : C) (outcome : Result PageData Fault) (told : PageData) (is : outcome ≡ Ok told)
-      (promise : KeepsPromise held failed held_report failed_report s trace_old trace_new report_old report_new (summed (rows_told outcome)))
-      (tells_outcome : IfOk outcome (TellsRun s)) (one : (first second : List Row) → IsRunOf s first → IsRunOf s second → first ≡ second) where
-    kept : KeepsPromise held failed held_report failed_report s trace_old trace_new report_old report_new (Ok (record { rows = length told.tallies }))
-    kept = subst (λ r. KeepsPromise held failed held_report failed_report s trace_old trace_new report_old report_new (summed (rows_told r))) is promise
+  -- its trace and its report are whole: they are of the rows that were tallied, since there is one run
+  module _ (page_old page_new : C) (outcome : Result PageData Fault) (page_data : PageData) (is : outcome ≡ Ok page_data)
+      (promise : KeepsPromise held failed held_report failed_report s trace_old trace_new report_old report_new (summed (rows_tallied outcome)))
+      (of_outcome : IfOk outcome (TalliesRun s)) (one : (first second : List Row) → IsRunOf s first → IsRunOf s second → first ≡ second) where
+    kept : KeepsPromise held failed held_report failed_report s trace_old trace_new report_old report_new (Ok (record { rows = length page_data.tallies }))
+    kept = subst (λ r. KeepsPromise held failed held_report failed_report s trace_old trace_new report_old report_new (summed (rows_tallied r))) is promise
 
-    tells : TellsRun s told
-    tells = subst (λ r. IfOk r (TellsRun s)) is tells_outcome
+    tallied : TalliesRun s page_data
+    tallied = subst (λ r. IfOk r (TalliesRun s)) is of_outcome
 
-    same : kept.written.rows ≡ told.tallies
-    same = one kept.written.rows told.tallies kept.written.run tells.run
+    same : kept.written.rows ≡ page_data.tallies
+    same = one kept.written.rows page_data.tallies kept.written.run tallied.run
 
-    traced : Appends (held trace_old) (held trace_new) (trace_text s told.tallies)
+    traced : Appends (held trace_old) (held trace_new) (trace_text s page_data.tallies)
     traced = subst (λ rows. Appends (held trace_old) (held trace_new) (trace_text s rows)) same kept.written.trace
 
-    reported : Appends (held_report report_old) (held_report report_new) (report_text s told.tallies)
+    reported : Appends (held_report report_old) (held_report report_new) (report_text s page_data.tallies)
     reported = subst (λ rows. Appends (held_report report_old) (held_report report_new) (report_text s rows)) same kept.written.report
 
     -- neither of their sinks has failed
@@ -94,14 +94,14 @@ module _ {A B C : Type 0} (held : A → Option (List ℕ)) (failed : A → ℕ) 
     none_failed (inl less) = let whole = kept.whole in absurd (omega (arith, whole, less))
     none_failed (inr less) = let whole = kept.whole_report in absurd (omega (arith, whole, less))
 
-    pub paged : (result : Result Summary Fault) → IfOk result (λ summary. summary.rows ≡ length told.tallies)
-        → OnOk result (WritesPage time name release s told.tallies (held_page page_old) (held_page page_new))
-        → OnErr result (BeginsPage time name release s told.tallies (held_page page_old) (held_page page_new))
+    pub paged : (result : Result Summary Fault) → IfOk result (λ summary. summary.rows ≡ length page_data.tallies)
+        → OnOk result (WritesPage time name release s page_data.tallies (held_page page_old) (held_page page_new))
+        → OnErr result (BeginsPage time name release s page_data.tallies (held_page page_old) (held_page page_new))
         → OnOk result (failed_page page_new ≡ failed_page page_old) → (IsErrOf result Write → failed_page page_old < failed_page page_new)
         → IfErr result (λ cause. cause ≢ Write → failed_page page_new ≡ failed_page page_old)
         → KeepsPagePromise held failed held_report failed_report held_page failed_page time name release s trace_old trace_new report_old report_new page_old page_new result
     paged (Ok summary) counted whole part unfailed write others = record {
-      written = record { rows = told.tallies; run = tells.run; counted = counted; trace = traced; report = reported; page = whole };
+      written = record { rows = page_data.tallies; run = tallied.run; counted = counted; trace = traced; report = reported; page = whole };
       beginning = tt;
       first = kept.first;
       second = none_failed;
@@ -115,7 +115,7 @@ module _ {A B C : Type 0} (held : A → Option (List ℕ)) (failed : A → ℕ) 
     }
     paged (Err cause) counted whole part unfailed write others = record {
       written = tt;
-      beginning = record { rows = told.tallies; run = tells.run; written = inr (inr (traced, reported, part)) };
+      beginning = record { rows = page_data.tallies; run = tallied.run; written = inr (inr (traced, reported, part)) };
       first = kept.first;
       second = none_failed;
       lasts = tt;

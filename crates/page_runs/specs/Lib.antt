@@ -1,3 +1,3 @@
 pub mod Pages
 pub mod Promise
-pub mod Told
+pub mod Tallied

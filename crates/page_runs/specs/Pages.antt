@@ -23,7 +23,7 @@ lane_cmp a b =
     (ordering_then (nat_cmp a.departs b.departs) (ordering_then (nat_cmp a.below_most_suspected b.below_most_suspected) (nat_cmp a.member b.member)))
 
 -- A text is the page of a run with these rows, under this name and by this release of the program: its lanes are all that there
--- are, in their order, and its times are told by how long a tick lasts, where that is known.
+-- are, in their order, and its times are given by how long a tick lasts, where that is known.
 pub record IsPageOf (time : Option Tick) (name : List ℕ) (s : Setup) (rows : List Row) (release text : List ℕ) : Type 0 where
   pub lanes : List Chosen
   pub all : IsPermutation (choices s rows) lanes
@@ -38,7 +38,7 @@ WritesPage time name release s rows old new = (text : List ℕ) × IsPageOf time
 abbrev pub BeginsPage : Option Tick → List ℕ → List ℕ → Setup → List Row → Option (List ℕ) → Option (List ℕ) → Type 0
 BeginsPage time name release s rows old new = Keeps old new ⊎ ((text : List ℕ) × IsPageOf time name s rows release text × AppendsBeginning old new text)
 
--- The trace, the report and the page of the scenario's run were appended, each to the bytes of its sink, and all tell of the same
+-- The trace, the report and the page of the scenario's run were appended, each to the bytes of its sink, and all are of the same
 -- rows; the run has so many.
 pub record WritesRunAndPage (time : Option Tick) (name release : List ℕ) (s : Setup) (trace_old trace_new report_old report_new page_old page_new : Option (List ℕ)) (count : ℕ) : Type 0 where
   pub rows : List Row

@@ -15,7 +15,7 @@ use std::alloc::Global;
 use ticks::Tick;
 use trace::{Sink, Stopped, put_all};
 
-/// What the page of a run tells beside what happened.
+/// What the page of a run shows apart from what happened.
 #[derive(Clone, Copy, Debug, PartialEq, Eq)]
 pub struct RunShown<'a> {
     /// What the scenario is called, as its file's name.
@@ -33,24 +33,24 @@ pub fn write_page<C: Sink>(
     alloc: Global,
     scenario: &Scenario,
     shown: &RunShown<'_>,
-    told: &PageData,
+    page_data: &PageData,
     out: &mut C,
 ) -> Result<Summary, Fault>
-    requires named { All (NamesMembers scenario.now) told.now.tallies }
-    requires gathered { AreSeriesOf scenario.now told.now.gathered.series told.now.tallies }
+    requires named { All (NamesMembers scenario.now) page_data.now.tallies }
+    requires gathered { AreSeriesOf scenario.now page_data.now.gathered.series page_data.now.tallies }
     requires countable { C.failed out.old < 2 ^ 63 }
-    ensures rows { IfOk result (λ summary. summary.rows ≡ length told.now.tallies) }
-    ensures whole { OnOk result (WritesPage shown.now.tick shown.now.name.now shown.now.release.now scenario.now told.now.tallies (C.held out.old) (C.held out.new)) }
-    ensures part { OnErr result (BeginsPage shown.now.tick shown.now.name.now shown.now.release.now scenario.now told.now.tallies (C.held out.old) (C.held out.new)) }
+    ensures rows { IfOk result (λ summary. summary.rows ≡ length page_data.now.tallies) }
+    ensures whole { OnOk result (WritesPage shown.now.tick shown.now.name.now shown.now.release.now scenario.now page_data.now.tallies (C.held out.old) (C.held out.new)) }
+    ensures part { OnErr result (BeginsPage shown.now.tick shown.now.name.now shown.now.release.now scenario.now page_data.now.tallies (C.held out.old) (C.held out.new)) }
     ensures unfailed { OnOk result (C.failed out.new ≡ C.failed out.old) }
     ensures write { IsErrOf result Fault.Write → C.failed out.old < C.failed out.new }
     ensures others { IfErr result (λ cause. cause ≢ Fault.Write → C.failed out.new ≡ C.failed out.old) }
     ensures causes { IfErr result (λ cause. (cause ≢ Fault.CounterOverflow) × (cause ≢ Fault.ThreadLost)) }
 {
-    let text = page_of(alloc, scenario, shown, told)?;
+    let text = page_of(alloc, scenario, shown, page_data)?;
     match put_page(text.as_bytes(), out) {
         Ok(()) => Ok(Summary {
-            rows: told.tallies.rows(),
+            rows: page_data.tallies.rows(),
         }),
         Err(Stopped) => Err(Fault::Write),
     }
@@ -72,18 +72,18 @@ fn page_of(
     alloc: Global,
     scenario: &Scenario,
     shown: &RunShown<'_>,
-    told: &PageData,
+    page_data: &PageData,
 ) -> Result<String, Memory>
-    requires named { All (NamesMembers scenario.now) told.now.tallies }
-    requires gathered { AreSeriesOf scenario.now told.now.gathered.series told.now.tallies }
-    ensures { IfOk result (λ text. IsPageOf shown.now.tick shown.now.name.now scenario.now told.now.tallies shown.now.release.now (string_bytes text)) }
+    requires named { All (NamesMembers scenario.now) page_data.now.tallies }
+    requires gathered { AreSeriesOf scenario.now page_data.now.gathered.series page_data.now.tallies }
+    ensures { IfOk result (λ text. IsPageOf shown.now.tick shown.now.name.now scenario.now page_data.now.tallies shown.now.release.now (string_bytes text)) }
 {
     let run = Run {
         name: shown.name,
         release: shown.release,
         scenario,
-        series: &told.gathered.series,
-        tallies: &told.tallies,
+        series: &page_data.gathered.series,
+        tallies: &page_data.tallies,
         tick: shown.tick,
     };
     page(alloc, &run)

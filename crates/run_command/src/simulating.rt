@@ -4,7 +4,7 @@ ghost use Rattle.scenario.specs.Setup.{member_count};
 ghost use Rattle.member_laws.specs.Runs.{CounterOverflows};
 ghost use Rattle.run_output.specs.Promise.{KeepsPromise, ReportOverflows, summed};
 ghost use Rattle.page_runs.specs.Promise.{KeepsPagePromise};
-ghost use Rattle.page_runs.specs.Told.{TellsRun, rows_told};
+ghost use Rattle.page_runs.specs.Tallied.{TalliesRun, rows_tallied};
 ghost use Rattle.run_command.specs.Outcomes.{MayEndRun};
 
 use crate::simulator::Simulator;
@@ -82,8 +82,8 @@ fn run_gathered<M: Simulator, A: Sink, B: Sink, P: Write>(
     requires divided { length prepared.now.division.part_of ≡ member_count prepared.now.scenario }
     requires countable { A.failed trace < 2 ^ 63 }
     requires countable_report { B.failed report < 2 ^ 63 }
-    ensures promise { KeepsPromise A.held A.failed B.held B.failed prepared.now.scenario trace result.0 report result.1 (summed (rows_told result.2)) }
-    ensures told { IfOk result.2 (TellsRun prepared.now.scenario) }
+    ensures promise { KeepsPromise A.held A.failed B.held B.failed prepared.now.scenario trace result.0 report result.1 (summed (rows_tallied result.2)) }
+    ensures told { IfOk result.2 (TalliesRun prepared.now.scenario) }
     ensures cause { IfErr result.2 (MayEndRun prepared.now.scenario (M.loses prepared.now.workers)) }
     ensures overflow { IsErrOf result.2 Fault.CounterOverflow → CounterOverflows prepared.now.scenario ⊎ ReportOverflows prepared.now.scenario }
 {

@@ -13,8 +13,8 @@ use Rattle.shard_merge.specs.Joined.{Joins}
 use Rattle.shard_merge.specs.Genuine.{AreAll, IsAgain}
 use Rattle.shard_merge.proofs.GenuineHeads.{body_there, one_column, one_shard, one_sweep, whole_put}
 
-module _ (texts again : List (Vec ℕ Global)) (table put : List ℕ) (sweep read : Sweep) (revived told : Bool) (settings others : List SettingSummary)
-    (joins : Joins texts (Some []) (Some table) sweep revived settings) (alone : AreAll again table) (later : Joins again (Some []) (Some put) read told others) where
+module _ (texts again : List (Vec ℕ Global)) (table put : List ℕ) (sweep read : Sweep) (revived revived_too : Bool) (settings others : List SettingSummary)
+    (joins : Joins texts (Some []) (Some table) sweep revived settings) (alone : AreAll again table) (later : Joins again (Some []) (Some put) read revived_too others) where
   abbrev body : Shard → List ℕ
   body p = joins.put.body p
 
@@ -28,16 +28,16 @@ module _ (texts again : List (Vec ℕ Global)) (table put : List ℕ) (sweep rea
   some = omega (arith, later.some)
 
   only : shard_at 0 later.of ≡ whole
-  only = one_shard again (Some []) (Some put) read told others joins.mark revived sweep later joins.marked joins.asked body genuine 0 some
+  only = one_shard again (Some []) (Some put) read revived_too others joins.mark revived sweep later joins.marked joins.asked body genuine 0 some
 
   same_body : later.put.body whole ≡ body whole
   same_body =
-      ap later.put.body (sym only) ∙ body_there again (Some []) (Some put) read told others joins.mark revived sweep later joins.marked joins.asked body genuine 0 some
+      ap later.put.body (sym only) ∙ body_there again (Some []) (Some put) read revived_too others joins.mark revived sweep later joins.marked joins.asked body genuine 0 some
       ∙ ap body only
 
-  pub put_again : IsAgain table sweep revived put read told
+  pub put_again : IsAgain table sweep revived put read revived_too
   put_again = record {
-    same_table = whole_put again (Some []) (Some put) read told others joins.mark revived sweep later joins.marked joins.asked body genuine (body whole) same_body ∙ sym table_is;
-    same_sweep = one_sweep again (Some []) (Some put) read told others joins.mark revived sweep later joins.marked joins.asked body genuine;
-    column = one_column again (Some []) (Some put) read told others joins.mark revived sweep later joins.marked joins.asked body genuine;
+    same_table = whole_put again (Some []) (Some put) read revived_too others joins.mark revived sweep later joins.marked joins.asked body genuine (body whole) same_body ∙ sym table_is;
+    same_sweep = one_sweep again (Some []) (Some put) read revived_too others joins.mark revived sweep later joins.marked joins.asked body genuine;
+    column = one_column again (Some []) (Some put) read revived_too others joins.mark revived sweep later joins.marked joins.asked body genuine;
   }

@@ -1,4 +1,4 @@
--- Headers with which one text begins tell of the same columns.
+-- Headers with which one text begins have the same columns.
 use Rattle.std.proofs.Common.{◌≡◌, ◌<◌, ℕ, Bool, true, false, List, [], ◌∷◌, ◌++◌, map, length, get_or, codes, arith, refl, sym, ap, ◌∙◌, append_assoc}
 use Rattle.std.specs.List.{join_with_byte}
 use Rattle.std.proofs.lemmas.List.{append_cancel_left, map-append}
@@ -41,9 +41,9 @@ laid names column columns rest =
 -- the column differs from the one that follows it in its first letter
 differ : (names : List (List ℕ)) (x y : List ℕ) → header_line true names ++ x ≡ header_line false names ++ y → ⊥
 differ names x y same =
-    let told = laid names (codes "revived") protocol_names x in
-    let untold = laid names (codes "accuse") (codes "refute" ∷ codes "fail" ∷ codes "health" ∷ codes "sent" ∷ codes "lost" ∷ []) y in
-    let behind = append_cancel_left (cells names) _ _ (sym told ∙ same ∙ untold) in
+    let with_it = laid names (codes "revived") protocol_names x in
+    let without = laid names (codes "accuse") (codes "refute" ∷ codes "fail" ∷ codes "health" ∷ codes "sent" ∷ codes "lost" ∷ []) y in
+    let behind = append_cancel_left (cells names) _ _ (sym with_it ∙ same ∙ without) in
     let letter : 114 ≡ 97 = ap (λ l. get_or l 1 0) behind in
     omega (arith, letter)
 

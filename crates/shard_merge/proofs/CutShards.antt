@@ -16,15 +16,14 @@ use Rattle.shards.specs.declared.shard.Shard.{Shard}
 use Rattle.shards.specs.Shards.{first_run, past_run}
 use Rattle.sweep.specs.Runs.{Made, AreMadeBetween, IsMadeAs, noted, runs_of}
 use Rattle.sweep.specs.Table.{made_line, noted_line, counts_revived}
-use Rattle.sweep.specs.Shards.{WritesShard, shard_header}
-use Rattle.sweep.specs.Resumed.{AreMadeBehind, IsBegun, IsLong, IsShort, RefusesBegun, WritesRest, runs_in}
+use Rattle.sweep.specs.Shards.{AreMadeBehind, WritesRest, shard_header}
+use Rattle.sweep.specs.Resumed.{IsBegun, IsLong, IsShort, RefusesBegun, runs_in}
 use Rattle.sweep.specs.Sums.{IsFed, key_of_text, sweep_key}
 use Rattle.sweep.specs.declared.summing.LineKey.{LineKey}
 use Rattle.sweep.specs.declared.begun.BegunFault.TheVariants as begun_fault
 use Rattle.sweep.proofs.Kept.{goes_behind, long_again, short_again}
 use Rattle.sweep.proofs.LinesOf.{all_fed, lines_counted}
-use Rattle.sweep.proofs.ShardCourse.{all_runs}
-use Rattle.table_rows.specs.Made.{IsTellable}
+use Rattle.table_rows.specs.Made.{FitsLine}
 use Rattle.table_rows.proofs.Beginnings.{one_begins_with_other}
 use Rattle.table_rows.proofs.Bytes.{lacks_both, lacks_cons}
 use Rattle.figures.proofs.SameNotes.{note_lacks}
@@ -61,38 +60,38 @@ module _ (revived : Bool) (key : List ℕ) where
       sym (line_in_shard revived key m) ∙ ap (λ x. l.sum ++ 32 ∷ x) (sym (append_assoc (note_text (noted m)) (44 ∷ l.body) (10 ∷ [])))
       ∙ sym (append_assoc l.sum (32 ∷ (note_text (noted m) ++ 44 ∷ l.body)) (10 ∷ []))
 
-  body_lacks : (m : Made) → IsTellable m → Lacks 10 (body_of m)
-  body_lacks m told =
+  body_lacks : (m : Made) → FitsLine m → Lacks 10 (body_of m)
+  body_lacks m fits =
       let l = line_from revived key m in
-      let told_line = lacks_both 10 (note_text (noted m)) (44 ∷ l.body) (note_lacks 10 (lit< tt) refl (noted m) told.note) (lacks_cons 10 44 l.body refl (line_sound revived key m told).one) in
-      lacks_both 10 l.sum (32 ∷ (note_text (noted m) ++ 44 ∷ l.body)) (sum_no_feed key (note_cell (noted m) ++ made_line revived m)) (lacks_cons 10 32 (note_text (noted m) ++ 44 ∷ l.body) refl told_line)
+      let lacks_it = lacks_both 10 (note_text (noted m)) (44 ∷ l.body) (note_lacks 10 (lit< tt) refl (noted m) fits.note) (lacks_cons 10 44 l.body refl (line_sound revived key m fits).one) in
+      lacks_both 10 l.sum (32 ∷ (note_text (noted m) ++ 44 ∷ l.body)) (sum_no_feed key (note_cell (noted m) ++ made_line revived m)) (lacks_cons 10 32 (note_text (noted m) ++ 44 ∷ l.body) refl lacks_it)
 
   no_text : (b x : List ℕ) → (b ++ 10 ∷ []) ++ x ≡ [] → ⊥
   no_text [] x same = cc
   no_text (c ∷ b) x same = cc
 
-  first_lines : (lines : List (List ℕ)) (made : List Made) (x : List ℕ) → All IsFed lines → All IsTellable made → joined lines ++ x ≡ flat_map line made
+  first_lines : (lines : List (List ℕ)) (made : List Made) (x : List ℕ) → All IsFed lines → All FitsLine made → joined lines ++ x ≡ flat_map line made
       → AreFirst revived key lines made
-  first_lines [] made x fed told same = record { fit = omega arith; same = refl }
-  first_lines (one ∷ lines) [] x fed told same =
+  first_lines [] made x fed fits same = record { fit = omega arith; same = refl }
+  first_lines (one ∷ lines) [] x fed fits same =
       let its = All-head IsFed one lines fed in
       absurd (no_text its.body (joined lines ++ x) (ap (λ l. l ++ (joined lines ++ x)) (sym its.fed) ∙ sym (append_assoc one (joined lines) x) ∙ same))
-  first_lines (one ∷ lines) (m ∷ made) x fed told same =
+  first_lines (one ∷ lines) (m ∷ made) x fed fits same =
       let its = All-head IsFed one lines fed in
       let left : joined (one ∷ lines) ++ x ≡ its.body ++ 10 ∷ (joined lines ++ x) =
       append_assoc one (joined lines) x ∙ ap (λ l. l ++ (joined lines ++ x)) its.fed ∙ append_assoc its.body (10 ∷ []) (joined lines ++ x) in
       let right : flat_map line (m ∷ made) ≡ body_of m ++ 10 ∷ flat_map line made =
       ap (λ l. l ++ flat_map line made) (line_cut m) ∙ append_assoc (body_of m) (10 ∷ []) (flat_map line made) in
       let cut = cut_once 10 its.body (body_of m) (joined lines ++ x) (flat_map line made) its.one
-      (body_lacks m (All-head IsTellable m made told)) (sym left ∙ same ∙ right) in
-      let more = first_lines lines made x (All-tail IsFed one lines fed) (All-tail IsTellable m made told) cut.1 in
+      (body_lacks m (All-head FitsLine m made fits)) (sym left ∙ same ∙ right) in
+      let more = first_lines lines made x (All-tail IsFed one lines fed) (All-tail FitsLine m made fits) cut.1 in
       let here : one ≡ line m = its.fed ∙ ap (λ l. l ++ 10 ∷ []) cut.0 ∙ sym (line_cut m) in
       record { fit = omega (arith, more.fit); same = (λ i. here i ++ more.same i) }
 
 -- the first of some runs, and those behind them
 module _ (tree : Data) (sweep : Sweep) (first past runs : ℕ) (made later : List Made) (are : AreMadeBetween tree sweep first past made) (fit : first + runs ≤ past)
     (behind : AreMadeBetween tree sweep (first + runs) past later) where
-  pub both_made : AreMadeBetween tree sweep first past (take runs made ++ later)
+  both_made : AreMadeBetween tree sweep first past (take runs made ++ later)
   both_made =
       let all = drop first (runs_of sweep) in
       let count = past - first in
@@ -132,19 +131,26 @@ module _ (tree : Data) (mark : List ℕ) (sweep : Sweep) (p : Shard) (made : Lis
       let body : long.rest ++ cut.rest ≡ table =
       append_cancel_left header (long.rest ++ cut.rest) table (sym (append_assoc header long.rest cut.rest) ∙ ap (λ l. l ++ cut.rest) (sym long.written) ∙ cut.written) in
       let start : lines ++ (long.left ++ cut.rest) ≡ table = sym (append_assoc lines long.left cut.rest) ∙ ap (λ l. l ++ cut.rest) (sym long.begins.written) ∙ body in
-      first_lines revived key long.begins.lines made (long.left ++ cut.rest) (all_fed own_key sweep first runs long.begins.lines long.begins.are) cut.told start
+      first_lines revived key long.begins.lines made (long.left ++ cut.rest) (all_fed own_key sweep first runs long.begins.lines long.begins.are) cut.fits start
+
+  -- the first runs that were made, and those behind them, are the runs of the shard
+  both_left : (runs : ℕ) (later : List Made) → first + runs ≤ past_run p (run_count sweep) → AreMadeBehind tree sweep p runs later → AreMadeBehind tree sweep p 0 (take runs made ++ later)
+  both_left runs later few are =
+      let past = past_run p (run_count sweep) in
+      let same : first + runs ≡ first + 0 + runs = omega arith in
+      both_made tree sweep (first + 0) past runs made later cut.are (omega (arith, few)) (subst (λ n. AreMadeBetween tree sweep n past later) same are)
 
   pub going_on : (kept runs : ℕ) (new : Option (List ℕ)) → IsBegun tree mark sweep p text kept runs → WritesRest tree mark sweep p kept runs (Some (take kept text)) new
-      → WritesShard tree mark sweep p (Some []) new
+      → WritesRest tree mark sweep p 0 0 (Some []) new
   going_on kept runs new begun writes = by begun.stands
     where
       made_lines : Made → List ℕ
       made_lines = noted_line revived key
 
-      by : IsShort header text kept runs ⊎ Long kept runs → WritesShard tree mark sweep p (Some []) new
+      by : IsShort header text kept runs ⊎ Long kept runs → WritesRest tree mark sweep p 0 0 (Some []) new
       by (inl short) = record {
         made = writes.made;
-        are = all_runs tree sweep p writes.made (subst (λ n. AreMadeBehind tree sweep p n writes.made) short.no_run writes.are);
+        are = subst (λ n. AreMadeBehind tree sweep p n writes.made) short.no_run writes.are;
         written = goes_behind header text kept header (short_again header text kept short.rest short.written short.all) new (flat_map made_lines writes.made) writes.written;
       }
       by (inr long) =
@@ -158,7 +164,7 @@ module _ (tree : Data) (mark : List ℕ) (sweep : Sweep) (p : Shard) (made : Lis
           let again = long_again header text kept lines long.left (long.written ∙ ap (λ l. header ++ l) long.begins.written) long.stay in
           record {
             made = take runs made ++ writes.made;
-            are = both_made tree sweep first (past_run p (run_count sweep)) runs made writes.made cut.are begun.few writes.are;
+            are = both_left runs writes.made begun.few writes.are;
             written = subst (Appends (Some []) new) text_is (goes_behind header text kept (header ++ lines) again new (flat_map made_lines writes.made) writes.written);
           }
 

@@ -17,12 +17,12 @@ use Rattle.shard_merge.specs.Joined.{IsMark, Joins}
 use Rattle.shard_merge.proofs.Columns.{behind_header, same_revived}
 use Rattle.shard_merge.proofs.SameSweep.{AreSameHeads, same_heads}
 
-module _ (texts : List (Vec ℕ Global)) (old new : Option (List ℕ)) (own : Sweep) (told_so : Bool) (settings : List SettingSummary) (mark : List ℕ) (revived : Bool) (sweep : Sweep)
-    (joins : Joins texts old new own told_so settings) (marked : IsMark mark) (asked : IsAskedFor sweep) (body : Shard → List ℕ)
+module _ (texts : List (Vec ℕ Global)) (old new : Option (List ℕ)) (own : Sweep) (read_revived : Bool) (settings : List SettingSummary) (mark : List ℕ) (revived : Bool) (sweep : Sweep)
+    (joins : Joins texts old new own read_revived settings) (marked : IsMark mark) (asked : IsAskedFor sweep) (body : Shard → List ℕ)
     (genuine : (text : List ℕ) → IsAmongTexts texts text → (q : Shard) × IsShard q × (text ≡ shard_header revived mark sweep q ++ body q)) where
   -- the text of a shard
   abbrev text_at : ℕ → List ℕ
-  text_at number = shard_header told_so joins.mark own (shard_at number joins.of) ++ joins.put.body (shard_at number joins.of)
+  text_at number = shard_header read_revived joins.mark own (shard_at number joins.of) ++ joins.put.body (shard_at number joins.of)
 
   the_shard : (number : ℕ) → number < joins.of → IsShard (shard_at number joins.of)
   the_shard number within = record { least = omega arith; most = omega (arith, within); few = joins.few }
@@ -32,12 +32,12 @@ module _ (texts : List (Vec ℕ Global)) (old new : Option (List ℕ)) (own : Sw
 
   -- it names the sweep and the shard that it is said to be
   heads : (number : ℕ) (within : number < joins.of) → AreSameHeads joins.mark mark own sweep (shard_at number joins.of) (genuine (text_at number) (among number within)).0
-      (header_line told_so (names_of own.swept_keys) ++ joins.put.body (shard_at number joins.of)) (header_line revived (names_of sweep.swept_keys) ++ body (genuine (text_at number) (among number within)).0)
+      (header_line read_revived (names_of own.swept_keys) ++ joins.put.body (shard_at number joins.of)) (header_line revived (names_of sweep.swept_keys) ++ body (genuine (text_at number) (among number within)).0)
   heads number within =
       let p = shard_at number joins.of in
       let its = genuine (text_at number) (among number within) in
       same_heads joins.mark mark own sweep p its.0 _ _ joins.marked marked joins.asked asked (the_shard number within) its.1
-      (sym (append_assoc (head_cell joins.mark own p) (header_line told_so (names_of own.swept_keys)) (joins.put.body p)) ∙ its.2
+      (sym (append_assoc (head_cell joins.mark own p) (header_line read_revived (names_of own.swept_keys)) (joins.put.body p)) ∙ its.2
       ∙ append_assoc (head_cell mark sweep its.0) (header_line revived (names_of sweep.swept_keys)) (body its.0))
 
   pub one_shard : (number : ℕ) (within : number < joins.of) → shard_at number joins.of ≡ (genuine (text_at number) (among number within)).0
@@ -52,18 +52,18 @@ module _ (texts : List (Vec ℕ Global)) (old new : Option (List ℕ)) (own : Sw
   one_mark : joins.mark ≡ mark
   one_mark = (heads 0 some).marks
 
-  -- and it tells of members that were taken for alive again where that does
-  pub one_column : told_so ≡ revived
+  -- and it counts members that were taken for alive again where that does
+  pub one_column : read_revived ≡ revived
   one_column =
       let found = heads 0 some in
       let q = (genuine (text_at 0) (among 0 some)).0 in
-      same_revived told_so revived (names_of own.swept_keys) _ (body q) (found.rest ∙ ap (λ (s : Sweep). header_line revived (names_of s.swept_keys) ++ body q) (sym found.sweep))
+      same_revived read_revived revived (names_of own.swept_keys) _ (body q) (found.rest ∙ ap (λ (s : Sweep). header_line revived (names_of s.swept_keys) ++ body q) (sym found.sweep))
 
   -- so the same stands behind its first line
   pub body_there : (number : ℕ) → number < joins.of → joins.put.body (shard_at number joins.of) ≡ body (shard_at number joins.of)
   body_there number within =
       let same = heads number within in
-      behind_header told_so revived (names_of own.swept_keys) (joins.put.body (shard_at number joins.of)) (body (shard_at number joins.of))
+      behind_header read_revived revived (names_of own.swept_keys) (joins.put.body (shard_at number joins.of)) (body (shard_at number joins.of))
       (same.rest ∙ (λ i. header_line revived (names_of (sym same.sweep i).swept_keys) ++ body (sym same.shard i)))
 
   -- what was put is the only shard of the sweep

@@ -16,10 +16,11 @@ use Rattle.sweep.specs.Table.{noted_line, counts_revived}
 use Rattle.sweep.specs.Summaries.{SumUp}
 use Rattle.sweep.specs.Shards.{shard_header}
 use Rattle.sweep.proofs.Steps.{zipped_long}
-use Rattle.sweep_until.specs.Until.{AreMadeUntil, IsMadeUntil, all_of}
+use Rattle.sweep_until.specs.Until.{AreMadeFrom, IsMadeUntil, all_of}
+use Rattle.sweep_until.proofs.ShardSettings.{all_settings_left}
 use Rattle.table_rows.specs.Lines.{Line, IsLine, notes_of, shard_line}
 use Rattle.table_rows.specs.Settings.{IsSetting, SumsUpLines, shard_setting}
-use Rattle.table_rows.specs.Made.{IsTellable}
+use Rattle.table_rows.specs.Made.{FitsLine}
 use Rattle.table_rows.proofs.MadeLines.{setting_from, setting_in_shard, setting_noted, settings_from, settings_in_shard, settings_sound, lines_sound, sums_so}
 use Rattle.table_rows.proofs.OneSetting.{same_setting}
 use Rattle.table_rows.proofs.OneLine.{same_line}
@@ -30,8 +31,8 @@ use Rattle.shard_merge.specs.Genuine.{AreShards, AreShardsOfSettings, IsWhole, I
 use Rattle.shard_merge.proofs.GenuineHeads.{body_there, one_column, one_sweep, whole_put}
 use Rattle.shard_merge.proofs.Shares.{all_behind, same_things, share_map}
 
-module _ (texts : List (Vec ℕ Global)) (old new : Option (List ℕ)) (own : Sweep) (told_so : Bool) (settings : List SettingSummary) (mark : List ℕ) (tree : Data) (sweep : Sweep)
-    (joins : Joins texts old new own told_so settings) (marked : IsMark mark) (asked : IsAskedFor sweep) where
+module _ (texts : List (Vec ℕ Global)) (old new : Option (List ℕ)) (own : Sweep) (read_revived : Bool) (settings : List SettingSummary) (mark : List ℕ) (tree : Data) (sweep : Sweep)
+    (joins : Joins texts old new own read_revived settings) (marked : IsMark mark) (asked : IsAskedFor sweep) where
   abbrev revived : Bool
   revived = counts_revived tree
 
@@ -43,21 +44,21 @@ module _ (texts : List (Vec ℕ Global)) (old new : Option (List ℕ)) (own : Sw
   AreThese body = (text : List ℕ) → IsAmongTexts texts text → (q : Shard) × IsShard q × (text ≡ shard_header revived mark sweep q ++ body q)
 
   -- what stands in them is of this sweep
-  are_of : (body : Shard → List ℕ) → AreThese body → (until : Option ℕ) → sweep.until ≡ until → AreOf until (line_key told_so (Some joins.seed) joins.mark sweep) sweep joins.put.body settings
+  are_of : (body : Shard → List ℕ) → AreThese body → (until : Option ℕ) → sweep.until ≡ until → AreOf until (line_key read_revived (Some joins.seed) joins.mark sweep) sweep joins.put.body settings
   are_of body genuine until wanted =
-      subst (λ o. AreOf o (line_key told_so (Some joins.seed) joins.mark sweep) sweep joins.put.body settings) wanted
-      (subst (λ (s : Sweep). AreOf s.until (line_key told_so (Some joins.seed) joins.mark s) s joins.put.body settings) (one_sweep texts old new own told_so settings mark revived sweep joins marked asked body genuine) joins.put.are)
+      subst (λ o. AreOf o (line_key read_revived (Some joins.seed) joins.mark sweep) sweep joins.put.body settings) wanted
+      (subst (λ (s : Sweep). AreOf s.until (line_key read_revived (Some joins.seed) joins.mark s) s joins.put.body settings) (one_sweep texts old new own read_revived settings mark revived sweep joins marked asked body genuine) joins.put.are)
 
   -- ---- each setting with each seed
 
-  module _ (of : ℕ) (made : List Made) (none : sweep.until ≡ None) (long : length made ≡ run_count sweep) (told : All IsTellable made) (genuine : AreShards tree texts mark sweep of made) where
+  module _ (of : ℕ) (made : List Made) (none : sweep.until ≡ None) (long : length made ≡ run_count sweep) (fits : All FitsLine made) (genuine : AreShards tree texts mark sweep of made) where
     abbrev body : Shard → List ℕ
     body q = flat_map (noted_line revived key) (share_of (run_count sweep) q made)
 
     each_genuine : AreThese body
     each_genuine text among = let its = genuine text among in (its.0, its.1, its.3)
 
-    are : AreOf None (line_key told_so (Some joins.seed) joins.mark sweep) sweep joins.put.body settings
+    are : AreOf None (line_key read_revived (Some joins.seed) joins.mark sweep) sweep joins.put.body settings
     are = are_of body each_genuine None none
 
     abbrev lines : List Line
@@ -66,7 +67,7 @@ module _ (texts : List (Vec ℕ Global)) (old new : Option (List ℕ)) (own : Sw
     lines_there : (number : ℕ) → number < joins.of → joins.put.body (shard_at number joins.of) ≡ flat_map shard_line (share_of (run_count sweep) (shard_at number joins.of) lines)
     lines_there number within =
         let p = shard_at number joins.of in
-        body_there texts old new own told_so settings mark revived sweep joins marked asked body each_genuine number within
+        body_there texts old new own read_revived settings mark revived sweep joins marked asked body each_genuine number within
         ∙ sym (setting_in_shard revived key (share_of (run_count sweep) p made)) ∙ ap (flat_map shard_line) (sym (share_map _ (run_count sweep) p made))
 
     some : 0 < joins.of
@@ -76,28 +77,28 @@ module _ (texts : List (Vec ℕ Global)) (old new : Option (List ℕ)) (own : Sw
     many = length-map made _ ∙ long
 
     same : are.things ≡ lines
-    same = same_things IsLine shard_line same_line (run_count sweep) _ joins.put.body are joins.of some joins.few lines (lines_sound revived key made told) many lines_there
+    same = same_things IsLine shard_line same_line (run_count sweep) _ joins.put.body are joins.of some joins.few lines (lines_sound revived key made fits) many lines_there
 
     table : joins.put.body whole ≡ flat_map (noted_line revived key) made
     table =
-        all_behind IsLine shard_line same_line (run_count sweep) _ joins.put.body are joins.of some joins.few lines (lines_sound revived key made told) many lines_there
+        all_behind IsLine shard_line same_line (run_count sweep) _ joins.put.body are joins.of some joins.few lines (lines_sound revived key made fits) many lines_there
         ∙ setting_in_shard revived key made
 
-    pub whole_of : IsWhole tree mark sweep made old new own told_so settings
+    pub whole_of : IsWhole tree mark sweep made old new own read_revived settings
     whole_of =
-        let one = one_sweep texts old new own told_so settings mark revived sweep joins marked asked body each_genuine in
+        let one = one_sweep texts old new own read_revived settings mark revived sweep joins marked asked body each_genuine in
         record {
           same = one;
-          column = one_column texts old new own told_so settings mark revived sweep joins marked asked body each_genuine;
-          written = whole_put texts old new own told_so settings mark revived sweep joins marked asked body each_genuine _ table;
+          column = one_column texts old new own read_revived settings mark revived sweep joins marked asked body each_genuine;
+          written = whole_put texts old new own read_revived settings mark revived sweep joins marked asked body each_genuine _ table;
           each = joins.put.each ∙ ap (λ (s : Sweep). setting_count s.swept_keys) one;
           summed = subst (λ notes. SumUp (seed_count sweep.seeds) notes settings) (ap notes_of same ∙ setting_noted revived key made) are.holds.0;
         }
 
   -- ---- settings of as many runs as are enough
 
-  module _ (width of : ℕ) (made : List (List Made)) (wanted : sweep.until ≡ Some width) (makes : AreMadeUntil tree sweep width (setting_count sweep.swept_keys) made)
-      (told : All (All IsTellable) made) (genuine : AreShardsOfSettings tree texts mark sweep of made) where
+  module _ (width of : ℕ) (made : List (List Made)) (wanted : sweep.until ≡ Some width) (makes : AreMadeFrom tree sweep width 0 (setting_count sweep.swept_keys) made)
+      (fits : All (All FitsLine) made) (genuine : AreShardsOfSettings tree texts mark sweep of made) where
     abbrev body_of_settings : Shard → List ℕ
     body_of_settings q = flat_map (noted_line revived key) (all_of (share_of (setting_count sweep.swept_keys) q made))
 
@@ -107,7 +108,7 @@ module _ (texts : List (Vec ℕ Global)) (old new : Option (List ℕ)) (own : Sw
     abbrev Own : List Line → Type 0
     Own = IsSetting width (seed_count sweep.seeds)
 
-    are_settings : AreOf (Some width) (line_key told_so (Some joins.seed) joins.mark sweep) sweep joins.put.body settings
+    are_settings : AreOf (Some width) (line_key read_revived (Some joins.seed) joins.mark sweep) sweep joins.put.body settings
     are_settings = are_of body_of_settings each_of_settings (Some width) wanted
 
     abbrev true_settings : List (List Line)
@@ -117,7 +118,7 @@ module _ (texts : List (Vec ℕ Global)) (old new : Option (List ℕ)) (own : Sw
     settings_there number within =
         let p = shard_at number joins.of in
         let total = setting_count sweep.swept_keys in
-        body_there texts old new own told_so settings mark revived sweep joins marked asked body_of_settings each_of_settings number within
+        body_there texts old new own read_revived settings mark revived sweep joins marked asked body_of_settings each_of_settings number within
         ∙ sym (settings_in_shard revived key (share_of total p made)) ∙ ap (flat_map shard_setting) (sym (share_map _ total p made))
 
     some_shards : 0 < joins.of
@@ -129,7 +130,7 @@ module _ (texts : List (Vec ℕ Global)) (old new : Option (List ℕ)) (own : Sw
         ∙ length-range_with_len 0 (setting_count sweep.swept_keys)
 
     true_sound : All Own true_settings
-    true_sound = settings_sound revived key tree sweep width (range_with_len 0 (setting_count sweep.swept_keys)) made makes told
+    true_sound = settings_sound revived key tree sweep width (range_with_len 0 (setting_count sweep.swept_keys)) made makes fits
 
     same_settings : are_settings.things ≡ true_settings
     same_settings =
@@ -141,14 +142,14 @@ module _ (texts : List (Vec ℕ Global)) (old new : Option (List ℕ)) (own : Sw
         all_behind Own shard_setting (same_setting width (seed_count sweep.seeds)) (setting_count sweep.swept_keys) _ joins.put.body are_settings joins.of some_shards joins.few true_settings true_sound
         many_settings settings_there ∙ settings_in_shard revived key made
 
-    pub whole_of_settings : IsWholeUntil tree mark sweep width old new own told_so settings
+    pub whole_of_settings : IsWholeUntil tree mark sweep width old new own read_revived settings
     whole_of_settings = record {
-      same = one_sweep texts old new own told_so settings mark revived sweep joins marked asked body_of_settings each_of_settings;
-      column = one_column texts old new own told_so settings mark revived sweep joins marked asked body_of_settings each_of_settings;
+      same = one_sweep texts old new own read_revived settings mark revived sweep joins marked asked body_of_settings each_of_settings;
+      column = one_column texts old new own read_revived settings mark revived sweep joins marked asked body_of_settings each_of_settings;
       makes = record {
         made = made;
-        are = makes;
-        written = whole_put texts old new own told_so settings mark revived sweep joins marked asked body_of_settings each_of_settings _ table_of_settings;
-        told = sums_so revived key made settings (subst (λ own. AllZip SumsUpLines own settings) same_settings are_settings.holds.0);
+        are = all_settings_left tree sweep width made makes;
+        written = whole_put texts old new own read_revived settings mark revived sweep joins marked asked body_of_settings each_of_settings _ table_of_settings;
+        summed = sums_so revived key made settings (subst (λ own. AllZip SumsUpLines own settings) same_settings are_settings.holds.0);
       };
     }

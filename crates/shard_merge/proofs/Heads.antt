@@ -1,4 +1,4 @@
--- What the name of a shard tells is that shard, of that sweep.
+-- What the name of a shard says is that shard, of that sweep.
 use Rattle.std.proofs.Common.{◌≡◌, ◌<◌, ◌≤◌, ◌==◌, ◌^◌, ℕ, Bool, true, false, suc, List, [], ◌∷◌, ◌++◌, map, length, length-drop, get_or, take, drop, ◌-◌, codes, decimal, lit<, arith, refl, sym, ap, subst, ◌∙◌}
 use Rattle.std.specs.Prelude.{Option, Some, None, Result, Ok, Err, IfOk, IfErr, bytes_eq, if◌then◌else◌}
 use Rattle.std.specs.Borrow.{Bor}
@@ -39,18 +39,18 @@ same_shard word q p is same sound =
     let of = decimal_injective q.of p.of (omega arith) (omega arith) parts.1 in
     (λ i. record { number = number i; of = of i })
 
--- a name that tells of nothing, unless memory was refused
+-- a name of nothing, unless memory was refused
 pub name_refused : (text : List ℕ) (e : PlanFault) → (e ≡ unread.Words → BeginsAsNone text) → RefusesName text e
 name_refused text unread.Words none = none refl
 name_refused text unread.Memory none = tt
 
--- a text that begins with the first line that its name tells of, and one that doesn't
+-- a text that begins with the first line that its name stands for, and one that doesn't
 pub begun : (text mark : List ℕ) (revived : Bool) (sweep : Sweep) (p : Shard) → IsAskedFor sweep → IsMark mark → IsShard p
     → (rest : List ℕ) × (text ≡ shard_header revived mark sweep p ++ rest) → BeginsAs text mark revived sweep p
 begun text mark revived sweep p asked marked sound front = record { asked = asked; marked = marked; sound = sound; rest = front.0; written = front.1 }
 
 pub not_begun : (text m : List ℕ) (r revived : Bool) (s : Sweep) (q : Shard) → r ≡ revived
-    → ((mark : List ℕ) (told : Bool) (sweep : Sweep) (p : Shard) → BeginsAs text mark told sweep p → (m ≡ mark) × (s ≡ sweep) × (q ≡ p))
+    → ((mark : List ℕ) (with_it : Bool) (sweep : Sweep) (p : Shard) → BeginsAs text mark with_it sweep p → (m ≡ mark) × (s ≡ sweep) × (q ≡ p))
     → ((rest : List ℕ) → ¬ (text ≡ shard_header r m s q ++ rest)) → (mark : List ℕ) (sweep : Sweep) (p : Shard) → ¬ (BeginsAs text mark revived sweep p)
 not_begun text m r revived s q same only none mark sweep p begins =
     let its = only mark revived sweep p begins in
@@ -59,8 +59,8 @@ not_begun text m r revived s q same only none mark sweep p begins =
 -- one that begins so with neither table begins as none
 pub neither : (text : List ℕ) → ((mark : List ℕ) (sweep : Sweep) (p : Shard) → ¬ (BeginsAs text mark false sweep p))
     → ((mark : List ℕ) (sweep : Sweep) (p : Shard) → ¬ (BeginsAs text mark true sweep p)) → BeginsAsNone text
-neither text untold told mark false sweep p = untold mark sweep p
-neither text untold told mark true sweep p = told mark sweep p
+neither text without with_it mark false sweep p = without mark sweep p
+neither text without with_it mark true sweep p = with_it mark sweep p
 
 -- ---- the words of a sweep, cut at their spaces
 
@@ -137,8 +137,8 @@ module _ (words : List ℕ) (sweep : Sweep) (asked : IsAskedFor sweep) (is : wor
         })
 
   -- a width that is said is written as a number
-  pub width_told : (value : List ℕ) (more : List (List ℕ)) → rest ≡ (codes "until=" ++ value) ∷ more → ((n : ℕ) → ¬ (IsDecimal value n)) → ⊥
-  width_told value more says none = by sweep.until asked.asked.width (rest_is ∙ says)
+  pub width_said : (value : List ℕ) (more : List (List ℕ)) → rest ≡ (codes "until=" ++ value) ∷ more → ((n : ℕ) → ¬ (IsDecimal value n)) → ⊥
+  width_said value more says none = by sweep.until asked.asked.width (rest_is ∙ says)
     where
       by : (until : Option ℕ) → ForSome until IsWidth → until_words until ++ swept_words sweep.swept_keys ≡ (codes "until=" ++ value) ∷ more → ⊥
       by None sound same = no_swept_says (axes_of sweep.swept_keys) value more (asked_axes sweep asked) same
@@ -238,14 +238,14 @@ one_parted (x ∷ y ∷ items) value width says is =
     }
 
 -- what it says is a number
-pub told_number : (items : List (Bor (List ℕ))) (first value words : List ℕ) (sweep : Sweep) → IsAskedFor sweep → words ≡ plan_text sweep
+pub number_said : (items : List (Bor (List ℕ))) (first value words : List ℕ) (sweep : Sweep) → IsAskedFor sweep → words ≡ plan_text sweep
     → SaysWidth (map (λ (word : Bor (List ℕ)). word.now) items) value → slice_split (λ byte. byte == 32) words ≡ first ∷ map (λ (word : Bor (List ℕ)). word.now) (take (length items - 1) (drop 1 items))
     → ((n : ℕ) → ¬ (IsDecimal value n)) → ⊥
-told_number [] first value words sweep asked is says cut none = let empty : 0 ≡ suc (suc (length says.1)) = ap length says.2 in absurd (omega arith)
-told_number (x ∷ items) first value words sweep asked is says cut none =
+number_said [] first value words sweep asked is says cut none = let empty : 0 ≡ suc (suc (length says.1)) = ap length says.2 in absurd (omega arith)
+number_said (x ∷ items) first value words sweep asked is says cut none =
     let whole : x.now ∷ map (λ (word : Bor (List ℕ)). word.now) items ≡ says.0 ∷ (codes "until=" ++ value) ∷ says.1 = says.2 in
     let rest : map (λ (word : Bor (List ℕ)). word.now) items ≡ (codes "until=" ++ value) ∷ says.1 = cc in
-    width_told words sweep asked is first (map (λ (word : Bor (List ℕ)). word.now) (take (length (x ∷ items) - 1) (drop 1 (x ∷ items)))) (seeds_given first) cut refl value says.1
+    width_said words sweep asked is first (map (λ (word : Bor (List ℕ)). word.now) (take (length (x ∷ items) - 1) (drop 1 (x ∷ items)))) (seeds_given first) cut refl value says.1
     (ap (map (λ (word : Bor (List ℕ)). word.now)) (behind_first (x ∷ items)) ∙ rest) none
 
 -- ---- what a word says of a width

@@ -90,7 +90,7 @@ place_more texts mark revived sweep of number place text places more inside free
         let apart : old.0 ≢ number = λ same. let empty : get_or places old.0 None ≡ None = ap (λ m. get_or places m None) same ∙ free in let is_there = old.1 in cc in
         (old.0, ap (λ l. get_or l old.0 None) is ∙ get_or-set_other places number old.0 (Some place) None apart ∙ old.1, old.2)
 
--- what befell the memory or the table is told as it is
+-- what befell the memory or the table is handed on as it is
 pub of_sink : (texts : List (Vec ℕ Global)) (f : JoinFault) → IsOfSink f → IsReason texts f
 of_sink texts fault.Write h = tt
 of_sink texts fault.Memory h = tt

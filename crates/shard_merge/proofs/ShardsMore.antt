@@ -27,9 +27,9 @@ use Rattle.table_rows.specs.Settings.{AreSettingsOf, IsSetting, SumsUpLines, sha
 use Rattle.table_rows.proofs.SettingsOf.{both_settings, none_yet as no_settings}
 use Rattle.table_rows.proofs.Read.{zipped_both}
 use Rattle.shard_merge.specs.Among.{IsAmongTexts, shard_at}
-use Rattle.shard_merge.specs.Behind.{share, share_of, summaries_told}
+use Rattle.shard_merge.specs.Behind.{share, share_of, summaries_read}
 use Rattle.shard_merge.specs.Joined.{AreOf, ArePlaced, ArePlacedSettings, AreShared, JoinsBehind, JoinsShard, JoinsShards, JoinsThings}
-use Rattle.shard_merge.specs.declared.told.Told.{Told}
+use Rattle.shard_merge.specs.declared.settings_read.SettingsRead.{SettingsRead}
 use Rattle.shard_merge.proofs.Shares.{first_is, grows, no_share, share_behind, share_kept, share_of_whole}
 
 -- ---- things
@@ -106,8 +106,8 @@ module _ (texts : List (Vec ℕ Global)) (mark : List ℕ) (revived : Bool) (see
   abbrev key : LineKey
   key = line_key revived (Some seed) mark sweep
 
-  abbrev Gathered : Told → List Line → Type 0
-  Gathered told lines = IsGathered each (notes_of lines) told.gathering × ArePlaced key sweep lines
+  abbrev Gathered : SettingsRead → List Line → Type 0
+  Gathered so_far lines = IsGathered each (notes_of lines) so_far.gathering × ArePlaced key sweep lines
 
   abbrev SummedUp : ℕ → List SettingSummary → List (List Line) → Type 0
   SummedUp width settings own = AllZip SumsUpLines own settings × ArePlacedSettings key sweep width own
@@ -144,14 +144,14 @@ module _ (texts : List (Vec ℕ Global)) (mark : List ℕ) (revived : Bool) (see
       (subst (λ l. AreSettingsOf key sweep width 0 l (length own + length more)) (sym (flat_map-append shard_setting own more))
       (both_settings key sweep width 0 (length own) (length more) (flat_map shard_setting own) (flat_map shard_setting more) placed behind))
 
-  pub none_joined : (until : Option ℕ) (held : Option (List ℕ)) (told : Told) → 0 < of → IsGathered each [] told.gathering → told.settings.items ≡ []
-      → JoinsShards until texts mark revived seed sweep of 0 held held told
-  none_joined None held told some fresh none = no_shard IsLine shard_line (run_count sweep) texts mark revived sweep of (Gathered told) held some (fresh, no_lines key sweep 0 [])
-  none_joined (Some width) held told some fresh none =
-      no_shard (IsSetting width each) shard_setting (setting_count sweep.swept_keys) texts mark revived sweep of (SummedUp width told.settings.items) held some
+  pub none_joined : (until : Option ℕ) (held : Option (List ℕ)) (so_far : SettingsRead) → 0 < of → IsGathered each [] so_far.gathering → so_far.settings.items ≡ []
+      → JoinsShards until texts mark revived seed sweep of 0 held held so_far
+  none_joined None held so_far some fresh none = no_shard IsLine shard_line (run_count sweep) texts mark revived sweep of (Gathered so_far) held some (fresh, no_lines key sweep 0 [])
+  none_joined (Some width) held so_far some fresh none =
+      no_shard (IsSetting width each) shard_setting (setting_count sweep.swept_keys) texts mark revived sweep of (SummedUp width so_far.settings.items) held some
       (subst (λ settings. AllZip SumsUpLines [] settings) (sym none) tt, no_settings key sweep width 0 [])
 
-  pub one_joined : (until : Option ℕ) (number : ℕ) (old mid new : Option (List ℕ)) (between after : Told) → number < of → JoinsShards until texts mark revived seed sweep of number old mid between
+  pub one_joined : (until : Option ℕ) (number : ℕ) (old mid new : Option (List ℕ)) (between after : SettingsRead) → number < of → JoinsShards until texts mark revived seed sweep of number old mid between
       → JoinsShard until texts mark revived seed sweep of number mid new between after → JoinsShards until texts mark revived seed sweep of (number + 1) old new after
   one_joined None number old mid new between after within so one =
       let are = one.read.0.are in
@@ -165,17 +165,17 @@ module _ (texts : List (Vec ℕ Global)) (mark : List ℕ) (revived : Bool) (see
       let more = read.are.items in
       shard_more (IsSetting width each) shard_setting (setting_count sweep.swept_keys) texts mark revived sweep of (SummedUp width between.settings.items) (SummedUp width after.settings.items) number old mid new
       one.body within so one.there read.are one.put (
-        subst (λ settings. AllZip SumsUpLines (so.things ++ more) settings) (sym read.added) (zipped_both SumsUpLines so.things more between.settings.items read.summaries so.holds.0 read.told),
+        subst (λ settings. AllZip SumsUpLines (so.things ++ more) settings) (sym read.added) (zipped_both SumsUpLines so.things more between.settings.items read.summaries so.holds.0 read.summed),
         settings_more width number so.things more one.body so.many so.holds.1 read.are.written read.are.many one.read.1,
       )
 
-  pub all_joined : (until : Option ℕ) (old new : Option (List ℕ)) (told : Told) (settings : List SettingSummary) → 0 < of → JoinsShards until texts mark revived seed sweep of of old new told
-      → settings ≡ summaries_told until told → JoinsBehind [] texts mark revived seed sweep of old new until settings
-  all_joined None old new told settings some all same =
-      joined IsLine shard_line (run_count sweep) texts mark revived sweep of seed (Gathered told) (λ lines. SumUp each (notes_of lines) settings × ArePlaced key sweep lines) old new some all
-      (subst (SumUp each (notes_of all.things)) (sym same) all.holds.0.told, all.holds.1) None settings
-      (λ long. ap length same ∙ all_through sweep (notes_of all.things) told.gathering (length-map all.things (λ (l : Line). l.note) ∙ long) all.holds.0) (λ body are. are)
-  all_joined (Some width) old new told settings some all same =
-      joined (IsSetting width each) shard_setting (setting_count sweep.swept_keys) texts mark revived sweep of seed (SummedUp width told.settings.items) (SummedUp width settings) old new some all
+  pub all_joined : (until : Option ℕ) (old new : Option (List ℕ)) (so_far : SettingsRead) (settings : List SettingSummary) → 0 < of → JoinsShards until texts mark revived seed sweep of of old new so_far
+      → settings ≡ summaries_read until so_far → JoinsBehind [] texts mark revived seed sweep of old new until settings
+  all_joined None old new so_far settings some all same =
+      joined IsLine shard_line (run_count sweep) texts mark revived sweep of seed (Gathered so_far) (λ lines. SumUp each (notes_of lines) settings × ArePlaced key sweep lines) old new some all
+      (subst (SumUp each (notes_of all.things)) (sym same) all.holds.0.summed, all.holds.1) None settings
+      (λ long. ap length same ∙ all_through sweep (notes_of all.things) so_far.gathering (length-map all.things (λ (l : Line). l.note) ∙ long) all.holds.0) (λ body are. are)
+  all_joined (Some width) old new so_far settings some all same =
+      joined (IsSetting width each) shard_setting (setting_count sweep.swept_keys) texts mark revived sweep of seed (SummedUp width so_far.settings.items) (SummedUp width settings) old new some all
       (subst (λ cs. AllZip SumsUpLines all.things cs) (sym same) all.holds.0, all.holds.1) (Some width) settings
-      (λ long. ap length same ∙ sym (zipped_long SumsUpLines all.things told.settings.items all.holds.0) ∙ long) (λ body are. are)
+      (λ long. ap length same ∙ sym (zipped_long SumsUpLines all.things so_far.settings.items all.holds.0) ∙ long) (λ body are. are)

@@ -45,13 +45,13 @@ whole_joined texts mark revived seed sweep of asked marked some few old begun fu
 -- ---- how many runs settings have
 
 few_with_own : (width each : ℕ) (own : List (List Line)) (settings : List SettingSummary) → each ≤ 1000000 → All (IsSetting width each) own → AllZip SumsUpLines own settings → All HasFewRuns settings
-few_with_own width each [] [] few sound told = All-nil HasFewRuns
-few_with_own width each [] (setting ∷ settings) few sound told = absurd told
-few_with_own width each (lines ∷ own) [] few sound told = absurd told
-few_with_own width each (lines ∷ own) (setting ∷ settings) few sound told =
+few_with_own width each [] [] few sound sums = All-nil HasFewRuns
+few_with_own width each [] (setting ∷ settings) few sound sums = absurd sums
+few_with_own width each (lines ∷ own) [] few sound sums = absurd sums
+few_with_own width each (lines ∷ own) (setting ∷ settings) few sound sums =
     let here = All-head (IsSetting width each) lines own sound in
-    All-cons HasFewRuns setting settings (few_of setting (notes_of lines) (omega (arith, here.enough.few, few)) told.0)
-    (few_with_own width each own settings few (All-tail (IsSetting width each) lines own sound) told.1)
+    All-cons HasFewRuns setting settings (few_of setting (notes_of lines) (omega (arith, here.enough.few, few)) sums.0)
+    (few_with_own width each own settings few (All-tail (IsSetting width each) lines own sound) sums.1)
 
 few_by : (until : Option ℕ) (key : LineKey) (sweep : Sweep) (body : Shard → List ℕ) (settings : List SettingSummary) → seed_count sweep.seeds ≤ 1000000 → AreOf until key sweep body settings → All HasFewRuns settings
 few_by None key sweep body settings few are = few_with_all (seed_count sweep.seeds) (notes_of are.things) settings few are.holds.0

@@ -11,7 +11,7 @@ use Rattle.sweep.specs.Summaries.{IsGathered, summaries_in}
 use Rattle.sweep.specs.declared.gathering.Gathering.{Gathering}
 use Rattle.table_rows.specs.Lines.{AreLines, ReadsLines}
 use Rattle.table_rows.specs.Settings.{AreSettings, AreSettingsOf, ReadsSettings}
-use Rattle.shard_merge.specs.declared.told.Told.{Told}
+use Rattle.shard_merge.specs.declared.settings_read.SettingsRead.{SettingsRead}
 
 -- how many things the shards of a sweep share: its runs, or its settings where it has a width
 abbrev pub shared : Option ℕ → Sweep → ℕ
@@ -37,8 +37,8 @@ AreBehind (Some width) key sweep p text =
     AreSettings width (seed_count sweep.seeds) text (share (setting_count sweep.swept_keys) p)
     × AreSettingsOf key sweep width (first_run p (setting_count sweep.swept_keys)) text (share (setting_count sweep.swept_keys) p)
 
--- the same, with what was told before, and is told then: the notes of the lines are gathered, or the settings summed up
-abbrev pub ReadsBehind : Option ℕ → LineKey → Sweep → Shard → List ℕ → Told → Told → Type 0
+-- the same, with what was kept before, and is kept then: the notes of the lines are gathered, or the settings summed up
+abbrev pub ReadsBehind : Option ℕ → LineKey → Sweep → Shard → List ℕ → SettingsRead → SettingsRead → Type 0
 ReadsBehind None key sweep p text before after =
     ReadsLines text (share (run_count sweep) p) (GathersMore before.gathering after.gathering)
     × AreLinesOf key sweep (first_run p (run_count sweep)) text (share (run_count sweep) p)
@@ -47,6 +47,6 @@ ReadsBehind (Some width) key sweep p text before after =
     × AreSettingsOf key sweep width (first_run p (setting_count sweep.swept_keys)) text (share (setting_count sweep.swept_keys) p)
 
 -- the summaries of the settings
-abbrev pub summaries_told : Option ℕ → Told → List SettingSummary
-summaries_told None told = summaries_in told.gathering
-summaries_told (Some width) told = told.settings.items
+abbrev pub summaries_read : Option ℕ → SettingsRead → List SettingSummary
+summaries_read None so_far = summaries_in so_far.gathering
+summaries_read (Some width) so_far = so_far.settings.items

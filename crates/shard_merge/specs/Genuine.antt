@@ -5,14 +5,15 @@ use Rattle.std.specs.declared.alloc.Global.{Global}
 use Rattle.toml.specs.Data.{Data}
 use Rattle.sweep_plan.specs.Sweep.{Sweep, setting_count, run_count, seed_count}
 use Rattle.shards.specs.declared.shard.Shard.{Shard}
-use Rattle.shards.specs.Shards.{IsShard}
+use Rattle.shards.specs.Shards.{IsShard, whole}
 use Rattle.figures.specs.declared.summary.SettingSummary.{SettingSummary}
 use Rattle.sweep.specs.Runs.{Made, noted}
 use Rattle.sweep.specs.Table.{counts_revived}
 use Rattle.sweep.specs.Summaries.{SumUp}
-use Rattle.sweep.specs.Shards.{AreMadeIn, shard_table, table_text}
-use Rattle.sweep_until.specs.Until.{MakesUntil, all_of}
-use Rattle.table_rows.specs.Made.{IsTellable}
+use Rattle.sweep.specs.Shards.{AreMadeBehind, shard_table}
+use Rattle.sweep_until.specs.Shards.{MakesUntil}
+use Rattle.sweep_until.specs.Until.{all_of}
+use Rattle.table_rows.specs.Made.{FitsLine}
 use Rattle.shard_merge.specs.Among.{IsAmongTexts}
 use Rattle.shard_merge.specs.Behind.{share_of}
 
@@ -28,16 +29,16 @@ AreShards tree texts mark sweep of made =
 -- the text is a beginning of a shard of the sweep, of these runs
 pub record IsCutShard (tree : Data) (mark : List ℕ) (sweep : Sweep) (p : Shard) (made : List Made) (text : List ℕ) : Type 0 where
   pub sound : IsShard p
-  pub are : AreMadeIn tree sweep p made
-  pub told : All IsTellable made
+  pub are : AreMadeBehind tree sweep p 0 made
+  pub fits : All FitsLine made
   pub rest : List ℕ
   pub written : text ++ rest ≡ shard_table (counts_revived tree) mark sweep p made
 
--- the table of the whole sweep was appended, what was read is this sweep and whether its tables tell of members taken for alive again, and each setting is summed up
+-- the table of the whole sweep was appended, what was read is this sweep and whether its tables count members taken for alive again, and each setting is summed up
 pub record IsWhole (tree : Data) (mark : List ℕ) (sweep : Sweep) (made : List Made) (old new : Option (List ℕ)) (read : Sweep) (revived : Bool) (settings : List SettingSummary) : Type 0 where
   pub same : read ≡ sweep
   pub column : revived ≡ counts_revived tree
-  pub written : Appends old new (table_text tree mark sweep made)
+  pub written : Appends old new (shard_table (counts_revived tree) mark sweep whole made)
   pub each : length settings ≡ setting_count sweep.swept_keys
   pub summed : SumUp (seed_count sweep.seeds) (map noted made) settings
 
@@ -52,7 +53,7 @@ abbrev pub AreShardsOfSettings : Data → List (Vec ℕ Global) → List ℕ →
 AreShardsOfSettings tree texts mark sweep of made =
     (text : List ℕ) → IsAmongTexts texts text → (p : Shard) × IsShard p × (p.of ≡ of) × IsSettingsText tree mark sweep made text p
 
--- what was read is this sweep and whether its tables tell of members taken for alive again, and the whole was made as if in one go
+-- what was read is this sweep and whether its tables count members taken for alive again, and the whole was made as if in one go
 pub record IsWholeUntil (tree : Data) (mark : List ℕ) (sweep : Sweep) (width : ℕ) (old new : Option (List ℕ)) (read : Sweep) (revived : Bool) (settings : List SettingSummary) : Type 0 where
   pub same : read ≡ sweep
   pub column : revived ≡ counts_revived tree
@@ -64,8 +65,8 @@ pub record IsWholeUntil (tree : Data) (mark : List ℕ) (sweep : Sweep) (width :
 abbrev pub AreAll : List (Vec ℕ Global) → List ℕ → Type 0
 AreAll texts text = (other : List ℕ) → IsAmongTexts texts other → other ≡ text
 
--- what was put is this table, and what was read is this sweep, and whether its tables tell of members taken for alive again
-pub record IsAgain (table : List ℕ) (sweep : Sweep) (revived : Bool) (put : List ℕ) (read : Sweep) (told : Bool) : Type 0 where
+-- what was put is this table, and what was read is this sweep, and whether its tables count members taken for alive again
+pub record IsAgain (table : List ℕ) (sweep : Sweep) (revived : Bool) (put : List ℕ) (read : Sweep) (revived_too : Bool) : Type 0 where
   pub same_table : put ≡ table
   pub same_sweep : read ≡ sweep
-  pub column : told ≡ revived
+  pub column : revived_too ≡ revived

@@ -16,7 +16,7 @@ use Rattle.table_rows.specs.Lines.{Line, IsLine, shard_line, notes_of}
 use Rattle.table_rows.specs.Settings.{AreSettingsOf, IsSetting, SumsUpLines, shard_setting}
 use Rattle.shard_merge.specs.Among.{IsAmongTexts, shard_at}
 use Rattle.shard_merge.specs.Behind.{ReadsBehind, share_of}
-use Rattle.shard_merge.specs.declared.told.Told.{Told}
+use Rattle.shard_merge.specs.declared.settings_read.SettingsRead.{SettingsRead}
 
 -- the mark of a scenario's text has no space and no quote
 pub record IsMark (mark : List ℕ) : Type 0 where
@@ -36,7 +36,7 @@ pub record IsFirstSeed (texts : List (Vec ℕ Global)) (mark : List ℕ) (revive
 
 -- The shard of this number is one of the texts, and what stands behind its first line was read and put. Its runs have this seed, unless others are asked for.
 pub record JoinsShard (until : Option ℕ) (texts : List (Vec ℕ Global)) (mark : List ℕ) (revived : Bool) (seed : ℕ) (sweep : Sweep) (of number : ℕ) (old new : Option (List ℕ))
-    (before after : Told) : Type 0 where
+    (before after : SettingsRead) : Type 0 where
   pub body : List ℕ
   pub there : IsAmongTexts texts (shard_header revived mark sweep (shard_at number of) ++ body)
   pub read : ReadsBehind until (line_key revived (Some seed) mark sweep) sweep (shard_at number of) body before after
@@ -61,11 +61,11 @@ abbrev pub ArePlacedSettings : LineKey → Sweep → ℕ → List (List Line) �
 ArePlacedSettings key sweep width own = AreSettingsOf key sweep width 0 (flat_map shard_setting own) (length own)
 
 -- things are the lines of runs, whose notes are gathered, or settings of as many runs as are enough, which are summed up
-abbrev pub JoinsShards : Option ℕ → List (Vec ℕ Global) → List ℕ → Bool → ℕ → Sweep → ℕ → ℕ → Option (List ℕ) → Option (List ℕ) → Told → Type 0
-JoinsShards None texts mark revived seed sweep of count old new told =
-    JoinsThings IsLine shard_line (run_count sweep) (λ lines. IsGathered (seed_count sweep.seeds) (notes_of lines) told.gathering × ArePlaced (line_key revived (Some seed) mark sweep) sweep lines) texts mark revived sweep of count old new
-JoinsShards (Some width) texts mark revived seed sweep of count old new told =
-    JoinsThings (IsSetting width (seed_count sweep.seeds)) shard_setting (setting_count sweep.swept_keys) (λ own. AllZip SumsUpLines own told.settings.items × ArePlacedSettings (line_key revived (Some seed) mark sweep) sweep width own) texts mark revived sweep of
+abbrev pub JoinsShards : Option ℕ → List (Vec ℕ Global) → List ℕ → Bool → ℕ → Sweep → ℕ → ℕ → Option (List ℕ) → Option (List ℕ) → SettingsRead → Type 0
+JoinsShards None texts mark revived seed sweep of count old new so_far =
+    JoinsThings IsLine shard_line (run_count sweep) (λ lines. IsGathered (seed_count sweep.seeds) (notes_of lines) so_far.gathering × ArePlaced (line_key revived (Some seed) mark sweep) sweep lines) texts mark revived sweep of count old new
+JoinsShards (Some width) texts mark revived seed sweep of count old new so_far =
+    JoinsThings (IsSetting width (seed_count sweep.seeds)) shard_setting (setting_count sweep.swept_keys) (λ own. AllZip SumsUpLines own so_far.settings.items × ArePlacedSettings (line_key revived (Some seed) mark sweep) sweep width own) texts mark revived sweep of
     count old new
 
 -- ---- all shards
@@ -95,7 +95,7 @@ pub record JoinsBehind (front : List ℕ) (texts : List (Vec ℕ Global)) (mark 
   pub each : length settings ≡ setting_count sweep.swept_keys
   pub are : AreOf until (line_key revived (Some seed) mark sweep) sweep body settings
 
--- The texts have all shards of this sweep, whose tables tell, or don't, of members that were taken for alive again. Its only shard was appended, which is the
+-- The texts have all shards of this sweep, whose tables count, or don't, members that were taken for alive again. Its only shard was appended, which is the
 -- table of the whole, and these are the summaries of its settings. There is one seed that all runs have, unless others are asked for.
 pub record Joins (texts : List (Vec ℕ Global)) (old new : Option (List ℕ)) (sweep : Sweep) (revived : Bool) (settings : List SettingSummary) : Type 0 where
   pub asked : IsAskedFor sweep

@@ -126,7 +126,7 @@ IsReason texts fault.Memory = Unit {0}
 abbrev pub SaysWidth : List (List ℕ) → List ℕ → Type 0
 SaysWidth words value = (first : List ℕ) × (more : List (List ℕ)) × (words ≡ first ∷ (codes "until=" ++ value) ∷ more)
 
--- the name of a text tells of no shard, or memory was refused
+-- the name of a text is that of no shard, or memory was refused
 abbrev pub RefusesName : List ℕ → PlanFault → Type 0
 RefusesName text unread.Words = BeginsAsNone text
 RefusesName text unread.Memory = Unit {0}

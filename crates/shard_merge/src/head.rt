@@ -1,4 +1,4 @@
-//! What the first line of a shard tells.
+//! What the first line of a shard says.
 ghost use Rattle.std.specs.Prelude.{◌≡◌, ◌==◌, ◌≤◌, ◌++◌, ◌∷◌, All, List, ℕ, Bool, None, Some, option_map, true, false, if◌then◌else◌, IfOk, IfErr, IfSome, IsNone, bytes_eq, codes, get_or, length, map};
 ghost use Rattle.std.specs.List.{slice_split};
 ghost use Rattle.sweep_plan.specs.Sweep.{Sweep};
@@ -16,11 +16,10 @@ use crate::fault::JoinFault;
 use decimals::number;
 use shards::Shard;
 use std::alloc::Global;
-use sweep::write_front;
+use sweep::front_of;
 use sweep_plan::{Plan, PlanFault};
-use trace::Put;
 
-/// What the name of a shard tells.
+/// What the name of a shard says.
 #[derive(Drop)]
 pub struct Head<'a> {
     /// Which shard it is.
@@ -29,11 +28,11 @@ pub struct Head<'a> {
     pub mark: &'a str,
     /// The sweep.
     pub plan: Plan,
-    /// Whether its tables tell of members that were taken for alive again.
+    /// Whether its tables count members that were taken for alive again.
     pub revived: bool,
 }
 
-/// What the first line of a text tells, where that is the first line of a shard whose table tells, or doesn't, of members
+/// What the first line of a text says, where that is the first line of a shard whose table counts, or doesn't, members
 /// that were taken for alive again.
 pub fn head_of<'a>(
     alloc: Global,
@@ -56,7 +55,7 @@ pub fn head_of<'a>(
     Ok(Some(head))
 }
 
-/// What the name of a text tells; the name doesn't tell of the table, so that is given.
+/// What the name of a text says; the name says nothing of the table, so that is given.
 ///
 /// Faults: `Words` where it is no name of a shard; `Memory`.
 fn read_head<'a>(alloc: Global, text: &'a str, revived: bool) -> Result<Head<'a>, PlanFault>
@@ -64,7 +63,7 @@ fn read_head<'a>(alloc: Global, text: &'a str, revived: bool) -> Result<Head<'a>
     ensures asked { IfOk result (λ head. IsAskedFor head.plan) }
     ensures marked { IfOk result (λ head. IsMark head.mark.now) }
     ensures same { IfOk result (λ head. head.revived ≡ revived) }
-    ensures only { IfOk result (λ head. (mark : List ℕ) (told : Bool) (sweep : Sweep) (p : Part) → BeginsAs text.entry.now mark told sweep p
+    ensures only { IfOk result (λ head. (mark : List ℕ) (column : Bool) (sweep : Sweep) (p : Part) → BeginsAs text.entry.now mark column sweep p
         → (head.mark.now ≡ mark) × (head.plan ≡ sweep) × (head.shard ≡ p)) }
     ensures refused { IfErr result (RefusesName text.entry.now) }
 {
@@ -122,18 +121,7 @@ pub(crate) fn header_of(alloc: Global, head: &Head<'_>, shard: Shard) -> Result<
     ensures header { IfOk result (λ header. header.items ≡ shard_header head.now.revived head.now.mark.now head.now.plan shard) }
     ensures memory { IfErr result (λ fault. fault ≡ join.Memory) }
 {
-    let mut header = Put::new(Vec::new(alloc));
-    match write_front(
-        alloc,
-        &head.plan,
-        shard,
-        head.mark,
-        head.revived,
-        &mut header,
-    ) {
-        Ok(()) => Ok(header.into_inner()),
-        Err(_) => Err(JoinFault::Memory),
-    }
+    Ok(front_of(alloc, &head.plan, shard, head.mark, head.revived)?)
 }
 
 /// The number of the shard that a text says that it is.

@@ -12,7 +12,7 @@ use crate::fault::JoinFault;
 use crate::first_run::seed_of_first_run;
 use crate::head::{Head, head_of};
 use crate::places::{places_of, text_at};
-use crate::told::Told;
+use crate::settings_read::SettingsRead;
 use figures::SettingSummary;
 use shards::Shard;
 use std::alloc::Global;
@@ -27,7 +27,7 @@ use trace::{Sink, Stopped, WriteError, put_all};
 pub struct Joined {
     /// The sweep.
     pub plan: Plan,
-    /// Whether its tables tell of members that were taken for alive again.
+    /// Whether its tables count members that were taken for alive again.
     pub revived: bool,
     /// The summaries of its settings, in their order.
     pub settings: Vec<SettingSummary>,
@@ -77,12 +77,12 @@ fn join_shards<S: Sink>(
     ensures refused { IfErr result (IsReason texts.now) }
 {
     let seed = seed_of_first_run(alloc, texts, head, places)?;
-    let mut told = Told::new(alloc, head.plan.runs_of_setting());
+    let mut so_far = SettingsRead::new(alloc, head.plan.runs_of_setting());
     let of = head.shard.of as usize;
     for number in 0..of {
-        join_shard(alloc, texts, head, places, seed, number, &mut told, table)?;
+        join_shard(alloc, texts, head, places, seed, number, &mut so_far, table)?;
     }
-    Ok(told.into_summaries(head.plan.until()))
+    Ok(so_far.into_summaries(head.plan.until()))
 }
 
 /// Reads the lines of the shard of this number, counted from 0, and puts them. The seed is that of the first run.
@@ -93,7 +93,7 @@ fn join_shard<S: Sink>(
     places: &[Option<usize>],
     seed: u64,
     number: usize,
-    told: &mut Told,
+    so_far: &mut SettingsRead,
     table: &mut S,
 ) -> Result<(), JoinFault>
     requires first { IsFirst texts.now head.now.mark.now head.now.revived head.now.plan head.now.shard }
@@ -102,21 +102,21 @@ fn join_shard<S: Sink>(
     requires within { number < head.now.shard.of }
     requires countable { S.failed table.old < 2 ^ 63 }
     ensures whole { OnOk result (JoinsShard head.now.plan.until texts.now head.now.mark.now head.now.revived seed head.now.plan head.now.shard.of number
-        (S.held table.old) (S.held table.new) told.old told.new) }
+        (S.held table.old) (S.held table.new) so_far.old so_far.new) }
     ensures same { OnOk result (S.failed table.new ≡ S.failed table.old) }
     ensures refused { IfErr result (IsReason texts.now) }
 {
     let behind = lines_behind(alloc, texts, head, places, number)?;
     let shard = shard_at(number, head.shard.of);
     let key = line_key(alloc, &head.plan, head.mark, head.revived, Some(seed))?;
-    match told.read(alloc, &head.plan, &key, shard, behind.lines) {
+    match so_far.read(alloc, &head.plan, &key, shard, behind.lines) {
         Ok(()) => put_lines(behind.lines, table),
         Err(LineFault::Torn) => Err(JoinFault::Torn(behind.place)),
         Err(LineFault::Memory) => Err(JoinFault::Memory),
     }
 }
 
-/// What the first text tells; there must be one.
+/// What the first line of the first text says; there must be one.
 pub fn first_head<'a>(alloc: Global, texts: &'a [Vec<u8>]) -> Result<Head<'a>, JoinFault>
     ensures first { IfOk result (λ head. IsFirst texts.entry.now head.mark.now head.revived head.plan head.shard) }
     ensures refused { IfErr result (IsReason texts.entry.now) }

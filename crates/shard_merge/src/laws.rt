@@ -5,13 +5,13 @@ ghost use Rattle.toml.specs.Data.{Data};
 ghost use Rattle.sweep_plan.specs.Sweep.{Sweep, setting_count, run_count};
 ghost use Rattle.sweep.specs.Runs.{Made, IsAskedFor};
 ghost use Rattle.figures.specs.declared.summary.SettingSummary.{SettingSummary};
-ghost use Rattle.sweep_until.specs.Until.{AreMadeUntil};
+ghost use Rattle.sweep_until.specs.Until.{AreMadeFrom};
 ghost use Rattle.shard_merge.specs.Joined.{IsMark, Joins};
 ghost use Rattle.shards.specs.declared.shard.Shard.{Shard};
-ghost use Rattle.sweep.specs.Shards.{WritesShard};
-ghost use Rattle.sweep.specs.Resumed.{IsBegun, RefusesBegun, WritesRest};
+ghost use Rattle.sweep.specs.Shards.{WritesRest};
+ghost use Rattle.sweep.specs.Resumed.{IsBegun, RefusesBegun};
 ghost use Rattle.sweep.specs.declared.begun.BegunFault.TheVariants as begun_fault;
-ghost use Rattle.table_rows.specs.Made.{IsTellable};
+ghost use Rattle.table_rows.specs.Made.{FitsLine};
 ghost use Rattle.shard_merge.specs.Genuine.{AreAll, AreShards, AreShardsOfSettings, IsAgain, IsCutShard, IsWhole, IsWholeUntil};
 
 /// Where each of the texts is some shard of a sweep of which each setting runs with each seed, in whatever order they come and
@@ -19,16 +19,16 @@ ghost use Rattle.shard_merge.specs.Genuine.{AreAll, AreShards, AreShardsOfSettin
 /// of its settings.
 pub fn all_shards_are_the_whole()
     ensures { (texts : List (Vec ℕ Global)) (old new : Option (List ℕ)) (read : Sweep) (revived : Bool) (settings : List SettingSummary) (mark : List ℕ) (tree : Data) (sweep : Sweep) (of : ℕ) (made : List Made)
-        → Joins texts old new read revived settings → IsMark mark → IsAskedFor sweep → sweep.until ≡ None → length made ≡ run_count sweep → All IsTellable made
+        → Joins texts old new read revived settings → IsMark mark → IsAskedFor sweep → sweep.until ≡ None → length made ≡ run_count sweep → All FitsLine made
         → AreShards tree texts mark sweep of made → IsWhole tree mark sweep made old new read revived settings }
 {}
 
 /// Where each of the texts is some shard of a sweep whose settings have as many runs as make their intervals narrow enough, they are
-/// put together to what is written, and told, where all its settings are made in one go.
+/// put together to the table and the summaries of all its settings made in one go.
 pub fn all_shards_of_settings_are_the_whole()
     ensures { (texts : List (Vec ℕ Global)) (old new : Option (List ℕ)) (read : Sweep) (revived : Bool) (settings : List SettingSummary) (mark : List ℕ) (tree : Data) (sweep : Sweep) (width of : ℕ)
         (made : List (List Made)) → Joins texts old new read revived settings → IsMark mark → IsAskedFor sweep → sweep.until ≡ Some width
-        → AreMadeUntil tree sweep width (setting_count sweep.swept_keys) made → All (All IsTellable) made
+        → AreMadeFrom tree sweep width 0 (setting_count sweep.swept_keys) made → All (All FitsLine) made
         → AreShardsOfSettings tree texts mark sweep of made → IsWholeUntil tree mark sweep width old new read revived settings }
 {}
 
@@ -37,14 +37,14 @@ pub fn all_shards_of_settings_are_the_whole()
 pub fn a_cut_shard_goes_on()
     ensures goes_on { (tree : Data) (mark : List ℕ) (sweep : Sweep) (p : Shard) (made : List Made) (text : List ℕ) (kept runs : ℕ) (new : Option (List ℕ))
         → IsCutShard tree mark sweep p made text → IsBegun tree mark sweep p text kept runs → WritesRest tree mark sweep p kept runs (Some (take kept text)) new
-        → WritesShard tree mark sweep p (Some []) new }
+        → WritesRest tree mark sweep p 0 0 (Some []) new }
     ensures taken { (tree : Data) (mark : List ℕ) (sweep : Sweep) (p : Shard) (made : List Made) (text : List ℕ)
         → IsCutShard tree mark sweep p made text → ¬ (RefusesBegun tree mark sweep p text begun_fault.Other) }
 {}
 
 /// Where the table to which shards were put together is put together alone, it is put again, of the same sweep.
 pub fn the_table_alone_is_put_again()
-    ensures { (texts again : List (Vec ℕ Global)) (table put : List ℕ) (sweep read : Sweep) (revived told : Bool) (settings others : List SettingSummary)
-        → Joins texts (Some []) (Some table) sweep revived settings → AreAll again table → Joins again (Some []) (Some put) read told others
-        → IsAgain table sweep revived put read told }
+    ensures { (texts again : List (Vec ℕ Global)) (table put : List ℕ) (sweep read : Sweep) (revived revived_too : Bool) (settings others : List SettingSummary)
+        → Joins texts (Some []) (Some table) sweep revived settings → AreAll again table → Joins again (Some []) (Some put) read revived_too others
+        → IsAgain table sweep revived put read revived_too }
 {}

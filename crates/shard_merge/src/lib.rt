@@ -8,7 +8,7 @@ mod head;
 mod joining;
 pub mod laws;
 mod places;
-mod told;
+mod settings_read;
 
 pub use behind::lines_at;
 pub use fault::JoinFault;

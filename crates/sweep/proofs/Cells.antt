@@ -24,7 +24,7 @@ use Rattle.figures.specs.declared.run.RunFigures.{RunFigures}
 use Rattle.figures.proofs.SameNotes.{note_ascii, note_lacks, same_note}
 use Rattle.figures.proofs.Told.{plain_field}
 use Rattle.sweep.specs.Runs.{IsRunAt, Planned, planned_as}
-use Rattle.sweep.specs.Sums.{IsOlder, IsPlaced, IsToldOf, known_seed, value_cells}
+use Rattle.sweep.specs.Sums.{IsOlder, IsPlaced, IsBehindMetadata, known_seed, value_cells}
 use Rattle.sweep.specs.Table.{texts_of}
 use Rattle.sweep.specs.declared.summing.LineKey.{LineKey}
 
@@ -73,21 +73,21 @@ line_lead revived setting seed run fit =
 
 module _ (key : LineKey) (sweep : Sweep) (number : ℕ) (note : Note) (behind : List ℕ) (setting : List Choice) (asked : Option ℕ) (there : IsRunAt sweep number (planned_as setting asked))
     (fit : All (λ (c : Choice). FitsToml c.value) setting) (seed : Option ℕ) (known : seed ≡ known_seed asked key.own) (values : List ℕ) (laid : values ≡ value_cells setting) where
-  same_run : (told : IsToldOf key sweep number note behind) → told.planned ≡ planned_as setting asked
-  same_run told = same_Some told.planned (planned_as setting asked) (sym told.there ∙ there)
+  same_run : (its : IsBehindMetadata key sweep number note behind) → its.planned ≡ planned_as setting asked
+  same_run its = same_Some its.planned (planned_as setting asked) (sym its.there ∙ there)
 
-  -- the cells of the told line behind its values
-  pub cells_told : (told : IsToldOf key sweep number note behind) → behind ≡ values ++ run_line key.revived [] told.seed told.run
-  cells_told told =
-      told.written ∙ ap (λ p. run_line key.revived (texts_of p.setting) told.seed told.run) (same_run told) ∙ line_lead key.revived setting told.seed told.run fit
-      ∙ ap (λ l. l ++ run_line key.revived [] told.seed told.run) (sym laid)
+  -- the cells of the line behind its values
+  pub cells_laid : (its : IsBehindMetadata key sweep number note behind) → behind ≡ values ++ run_line key.revived [] its.seed its.run
+  cells_laid its =
+      its.written ∙ ap (λ p. run_line key.revived (texts_of p.setting) its.seed its.run) (same_run its) ∙ line_lead key.revived setting its.seed its.run fit
+      ∙ ap (λ l. l ++ run_line key.revived [] its.seed its.run) (sym laid)
 
-  pub told_not : ((rest : List ℕ) → ¬ (behind ≡ values ++ rest)) → ¬ (IsToldOf key sweep number note behind)
-  told_not none told = none (run_line key.revived [] told.seed told.run) (cells_told told)
+  pub other_values : ((rest : List ℕ) → ¬ (behind ≡ values ++ rest)) → ¬ (IsBehindMetadata key sweep number note behind)
+  other_values none its = none (run_line key.revived [] its.seed its.run) (cells_laid its)
 
   module _ (cells : List ℕ) (split : behind ≡ values ++ cells) where
-    pub told_so : AreCellsOf key.revived seed note cells → IsToldOf key sweep number note behind
-    told_so are = record {
+    pub is_behind : AreCellsOf key.revived seed note cells → IsBehindMetadata key sweep number note behind
+    is_behind are = record {
       planned = planned_as setting asked;
       there = there;
       seed = are.seed;
@@ -98,14 +98,14 @@ module _ (key : LineKey) (sweep : Sweep) (number : ℕ) (note : Note) (behind : 
       written = split ∙ (λ i. laid i ++ are.written i) ∙ sym (line_lead key.revived setting are.seed are.run fit);
     }
 
-    pub told_no_cells : ¬ (AreCellsOf key.revived seed note cells) → ¬ (IsToldOf key sweep number note behind)
-    told_no_cells none told = none (record {
-      seed = told.seed;
-      seeded = subst (λ k. ForSome k (λ n. told.seed ≡ n)) (ap (λ (p : Planned). known_seed p.seed key.own) (same_run told) ∙ sym known) told.seeded;
-      run = told.run;
-      agrees = told.agrees;
-      small = told.small;
-      written = append_cancel_left values cells (run_line key.revived [] told.seed told.run) (sym split ∙ cells_told told);
+    pub no_cells : ¬ (AreCellsOf key.revived seed note cells) → ¬ (IsBehindMetadata key sweep number note behind)
+    no_cells none its = none (record {
+      seed = its.seed;
+      seeded = subst (λ k. ForSome k (λ n. its.seed ≡ n)) (ap (λ (p : Planned). known_seed p.seed key.own) (same_run its) ∙ sym known) its.seeded;
+      run = its.run;
+      agrees = its.agrees;
+      small = its.small;
+      written = append_cancel_left values cells (run_line key.revived [] its.seed its.run) (sym split ∙ cells_laid its);
     })
 
 -- ---- the metadata of a line
@@ -127,19 +127,19 @@ module _ (key : LineKey) (sweep : Sweep) (number : ℕ) (line : List ℕ) where
     no_metadata none placed = none placed.note (record { written = (parts placed).0; small = placed.small })
 
     module _ (note : Note) (says : IsNoteWord word note) where
-      pub placed_so : IsToldOf key sweep number note behind → IsPlaced key sweep number line
-      placed_so told = record {
+      pub placed_so : IsBehindMetadata key sweep number note behind → IsPlaced key sweep number line
+      placed_so its = record {
         note = note;
         small = says.small;
         behind = behind;
-        told = told;
+        cells = its;
         written = cut.written ∙ ap (λ w. w ++ 44 ∷ behind) (sym says.written) ∙ sym (append_assoc (note_text note) (44 ∷ []) behind);
       }
 
-      pub not_told : ¬ (IsToldOf key sweep number note behind) → ¬ (IsPlaced key sweep number line)
-      not_told none placed =
+      pub not_so : ¬ (IsBehindMetadata key sweep number note behind) → ¬ (IsPlaced key sweep number line)
+      not_so none placed =
           let same : placed.note ≡ note = same_note placed.note note placed.small says.small ((parts placed).0 ∙ sym says.written) in
-          none (subst (λ n. IsToldOf key sweep number n behind) same (subst (IsToldOf key sweep number placed.note) (parts placed).1 placed.told))
+          none (subst (λ n. IsBehindMetadata key sweep number n behind) same (subst (IsBehindMetadata key sweep number placed.note) (parts placed).1 placed.cells))
 
 -- ---- lines without checksums
 

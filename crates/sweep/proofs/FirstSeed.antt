@@ -27,7 +27,7 @@ use Rattle.sweep.specs.Runs.{IsAskedFor, IsRunAt, planned_as}
 use Rattle.sweep.specs.Sums.{HasLineOf, known_seed, line_key, value_cells}
 use Rattle.sweep.specs.FirstSeed.{HasCell, HasSeed, IsItsSeed}
 use Rattle.sweep.specs.declared.summing.LineKey.{LineKey}
-use Rattle.sweep.proofs.Cells.{cells_told}
+use Rattle.sweep.proofs.Cells.{cells_laid}
 use Rattle.sweep.proofs.Sizes.{some_runs}
 
 -- ---- where a text has its cell
@@ -49,9 +49,9 @@ module _ (values text one : List ℕ) (has : HasCell values text one) where
     pub noted : ¬ (Lacks 44 line)
     noted lacks = not_cut 44 line has.metadata (values ++ cells) lacks line_is
 
-    module _ (metadata behind : List ℕ) (told : IsCut 44 line metadata behind) where
+    module _ (metadata behind : List ℕ) (cut : IsCut 44 line metadata behind) where
       behind_is : behind ≡ values ++ cells
-      behind_is = (cut_one 44 metadata has.metadata behind (values ++ cells) told.lacks has.one (sym told.written ∙ line_is)).1
+      behind_is = (cut_one 44 metadata has.metadata behind (values ++ cells) cut.lacks has.one (sym cut.written ∙ line_is)).1
 
       pub valued : ¬ ((rest : List ℕ) → behind ≢ values ++ rest)
       valued none = none cells behind_is
@@ -66,14 +66,14 @@ module _ (values text one : List ℕ) (has : HasCell values text one) where
 -- the cell is there
 pub cell_there : (values text sum line metadata behind left one rest : List ℕ) → IsCut 32 text sum line → IsCut 44 line metadata behind → behind ≡ values ++ left → IsCut 44 left one rest
     → HasCell values text one
-cell_there values text sum line metadata behind left one rest summed told split cut = record {
+cell_there values text sum line metadata behind left one rest summed noted split cut = record {
   sum = sum;
   metadata = metadata;
   behind = rest;
   spaceless = summed.lacks;
-  one = told.lacks;
+  one = noted.lacks;
   only = cut.lacks;
-  written = summed.written ∙ ap (λ l. sum ++ 32 ∷ l) (told.written ∙ ap (λ l. metadata ++ 44 ∷ l) (split ∙ ap (λ l. values ++ l) cut.written));
+  written = summed.written ∙ ap (λ l. sum ++ 32 ∷ l) (noted.written ∙ ap (λ l. metadata ++ 44 ∷ l) (split ∙ ap (λ l. values ++ l) cut.written));
 }
 
 -- it is one
@@ -127,23 +127,23 @@ seed_cell revived seed run low =
 
 module _ (key : LineKey) (sweep : Sweep) (text values : List ℕ) (setting : List Choice) (asked : Option ℕ) (there : IsRunAt sweep 0 (planned_as setting asked))
     (fit : All (λ (c : Choice). FitsToml c.value) setting) (laid : values ≡ value_cells setting) (has : HasLineOf key sweep 0 text) where
-  small_seed : has.1.is.placed.told.seed < 2 ^ 63
+  small_seed : has.1.is.placed.cells.seed < 2 ^ 63
   small_seed =
-      let told = has.1.is.placed.told in
-      All-head Small (Some told.seed) (figures_in_order key.revived told.run) told.small told.seed refl
+      let held = has.1.is.placed.cells in
+      All-head Small (Some held.seed) (figures_in_order key.revived held.run) held.small held.seed refl
 
-  pub has_seed : HasSeed values text has.1.is.placed.told.seed
+  pub has_seed : HasSeed values text has.1.is.placed.cells.seed
   has_seed =
       let placed = has.1.is.placed in
-      let told = placed.told in
+      let held = placed.cells in
       let left = has.0 in
-      let seed = told.seed in
+      let seed = held.seed in
       let note = note_text placed.note in
       let sum = checksum key.digest has.1.is.rest in
       let low : seed < 2 ^ 64 = let l = small_seed in omega (arith, l) in
-      let more : List ℕ = cells_joined (map cell (figures_in_order key.revived told.run)) ++ 10 ∷ [] in
+      let more : List ℕ = cells_joined (map cell (figures_in_order key.revived held.run)) ++ 10 ∷ [] in
       let behind : placed.behind ≡ values ++ (decimal seed ++ 44 ∷ more) =
-      cells_told key sweep 0 placed.note placed.behind setting asked there fit (known_seed asked key.own) refl values laid told ∙ ap (λ l. values ++ l) (seed_cell key.revived seed told.run low) in
+      cells_laid key sweep 0 placed.note placed.behind setting asked there fit (known_seed asked key.own) refl values laid held ∙ ap (λ l. values ++ l) (seed_cell key.revived seed held.run low) in
       let line : has.1.is.rest ≡ note ++ 44 ∷ (values ++ (decimal seed ++ 44 ∷ more)) = placed.written ∙ append_assoc note (44 ∷ []) placed.behind ∙ ap (λ l. note ++ 44 ∷ l) behind in
       let further : has.1.is.rest ++ left ≡ note ++ 44 ∷ (values ++ (decimal seed ++ 44 ∷ (more ++ left))) =
       ap (λ l. l ++ left) line ∙ append_assoc note (44 ∷ (values ++ (decimal seed ++ 44 ∷ more))) left
@@ -166,23 +166,23 @@ module _ (sweep : Sweep) (text values : List ℕ) (setting : List Choice) (asked
     (fit : All (λ (c : Choice). FitsToml c.value) setting) (laid : values ≡ value_cells setting) where
   pub its_seed : (found : Option ℕ) → IfSome found (λ seed. (other : ℕ) → HasSeed values text other → other ≡ seed) → IfSome found (IsItsSeed sweep text)
   its_seed None some = tt
-  its_seed (Some seed) some = λ key has. some has.1.is.placed.told.seed (has_seed key sweep text values setting asked there fit laid has)
+  its_seed (Some seed) some = λ key has. some has.1.is.placed.cells.seed (has_seed key sweep text values setting asked there fit laid has)
 
   pub no_seed : (found : Option ℕ) → (IsNone found → (seed : ℕ) → ¬ (HasSeed values text seed)) → IsNone found → (key : LineKey) → ¬ (HasLineOf key sweep 0 text)
-  no_seed found none is key has = none is has.1.is.placed.told.seed (has_seed key sweep text values setting asked there fit laid has)
+  no_seed found none is key has = none is has.1.is.placed.cells.seed (has_seed key sweep text values setting asked there fit laid has)
 
 -- ---- a line is genuine with its own seed
 
 own_seed : (s : ℕ) (asked : Option ℕ) → ForSome (known_seed asked None) (λ k. s ≡ k) → ForSome (known_seed asked (Some s)) (λ k. s ≡ k)
-own_seed s None told = λ k one. same_Some s k one
-own_seed s (Some a) told = told
+own_seed s None known = λ k one. same_Some s k one
+own_seed s (Some a) known = known
 
 module _ (revived : Bool) (mark : List ℕ) (sweep : Sweep) (text : List ℕ) where
-  with_own : (has : HasLineOf (line_key revived None mark sweep) sweep 0 text) → HasLineOf (line_key revived (Some has.1.is.placed.told.seed) mark sweep) sweep 0 text
+  with_own : (has : HasLineOf (line_key revived None mark sweep) sweep 0 text) → HasLineOf (line_key revived (Some has.1.is.placed.cells.seed) mark sweep) sweep 0 text
   with_own has =
       let it = has.1 in
       let placed = it.is.placed in
-      let told = placed.told in (
+      let held = placed.cells in (
         has.0,
         record {
           line = it.line;
@@ -194,15 +194,15 @@ module _ (revived : Bool) (mark : List ℕ) (sweep : Sweep) (text : List ℕ) wh
               note = placed.note;
               small = placed.small;
               behind = placed.behind;
-              told = record {
-                planned = told.planned;
-                there = told.there;
-                seed = told.seed;
-                seeded = own_seed told.seed told.planned.seed told.seeded;
-                run = told.run;
-                agrees = told.agrees;
-                small = told.small;
-                written = told.written;
+              cells = record {
+                planned = held.planned;
+                there = held.there;
+                seed = held.seed;
+                seeded = own_seed held.seed held.planned.seed held.seeded;
+                run = held.run;
+                agrees = held.agrees;
+                small = held.small;
+                written = held.written;
               };
               written = placed.written;
             };

@@ -38,7 +38,7 @@ none_gathered each gathering size none kept =
     record {
       size = size;
       through = subst (λ (l : List SettingSummary). length l * each ≤ 0) (sym none) (omega arith);
-      told = subst (SumUp each []) (sym none) (λ number summary e. absurd (none-some summary e));
+      summed = subst (SumUp each []) (sym none) (λ number summary e. absurd (none-some summary e));
       kept = subst (AreFiguresOf gathering.figures) (sym (drop-nil (length gathering.summaries.items * each))) kept;
     }
 
@@ -59,9 +59,9 @@ module _ (each : ℕ) (notes : List Note) (run : Note) where
       ap (take each) (drop-append-le (number * each) notes (run ∷ []) low)
       ∙ take-append-le each (drop (number * each) notes) (run ∷ []) left
 
-  still_told : (settings : List SettingSummary) → length settings * each ≤ length notes → SumUp each notes settings → SumUp each all settings
-  still_told settings through told number summary e =
-      subst (IsSummaryOf summary) (sym (same_runs number (length settings) (slice_get_within settings number summary e) through)) (told number summary e)
+  still_summed : (settings : List SettingSummary) → length settings * each ≤ length notes → SumUp each notes settings → SumUp each all settings
+  still_summed settings through before_it number summary e =
+      subst (IsSummaryOf summary) (sym (same_runs number (length settings) (slice_get_within settings number summary e) through)) (before_it number summary e)
 
   -- the runs of the setting that isn't through, with one more
   runs_more : (count : ℕ) → count * each ≤ length notes → drop (count * each) notes ++ run ∷ [] ≡ drop (count * each) all
@@ -81,7 +81,7 @@ module _ (each : ℕ) (notes : List Note) (run : Note) where
         record {
           size = size ∙ were.size;
           through = subst (λ (l : List SettingSummary). length l * each ≤ length all) (sym same) (omega (arith, were.through, all_long));
-          told = subst (SumUp each all) (sym same) (still_told old.summaries.items were.through were.told);
+          summed = subst (SumUp each all) (sym same) (still_summed old.summaries.items were.through were.summed);
           kept = subst (λ f. AreFiguresOf f (drop (length new.summaries.items * each) all)) (sym is)
               (subst (λ (l : List SettingSummary). AreFiguresOf figures (drop (length l * each) all)) (sym same) kept_more);
         }
@@ -110,16 +110,16 @@ module _ (each : ℕ) (notes : List Note) (run : Note) where
       setting_gathered summary more sums fresh =
           let here : IsSummaryOf summary (runs_of_setting each all count) = subst (IsSummaryOf summary) last_setting (sums _ kept_more) in
           let counted : length new.summaries.items ≡ count + 1 = ap length more ∙ length-append old.summaries.items (summary ∷ []) in
-          let before = still_told old.summaries.items were.through were.told in
+          let before = still_summed old.summaries.items were.through were.summed in
           let none : [] ≡ drop ((count + 1) * each) all =
           sym (drop_all ((count + 1) * each) all (omega (arith, just_through))) in
           record {
             size = size ∙ were.size;
             through = subst (λ n. n * each ≤ length all) (sym counted) (omega (arith, just_through));
-            told = subst (SumUp each all) (sym more) (λ number told e.
-                ⊎_elim (before number told)
-                (λ p. subst (λ n. IsSummaryOf told (runs_of_setting each all n)) (sym p.0) (subst (λ t. IsSummaryOf t (runs_of_setting each all count)) p.1 here))
-                (pushed old.summaries.items summary told number e));
+            summed = subst (SumUp each all) (sym more) (λ number one e.
+                ⊎_elim (before number one)
+                (λ p. subst (λ n. IsSummaryOf one (runs_of_setting each all n)) (sym p.0) (subst (λ t. IsSummaryOf t (runs_of_setting each all count)) p.1 here))
+                (pushed old.summaries.items summary one number e));
             kept = subst (λ n. AreFiguresOf new.figures (drop (n * each) all)) (sym counted) (subst (AreFiguresOf new.figures) none fresh);
           }
 

@@ -45,6 +45,6 @@ few_of setting runs few is =
 
 -- and so have settings of few runs each
 pub few_with_all : (each : ℕ) (notes : List Note) (settings : List SettingSummary) → each ≤ 1000000 → SumUp each notes settings → All HasFewRuns settings
-few_with_all each notes settings few told i d inside =
+few_with_all each notes settings few summed i d inside =
     let size = length-take each (drop (i * each) notes) in
-    few_of (get_or settings i d) (runs_of_setting each notes i) (omega (arith, size, few)) (told i (get_or settings i d) (slice_get-get_or settings i d inside))
+    few_of (get_or settings i d) (runs_of_setting each notes i) (omega (arith, size, few)) (summed i (get_or settings i d) (slice_get-get_or settings i d inside))

@@ -193,11 +193,17 @@ module _ (tree : Data) (sweep : Sweep) where
   no_room key number (Err f) gives = subst (IsCauseAt tree sweep number) (sym gives) tt
 
   -- the runs from the first to past the last are all
-  pub all_made : (made : List Made) → AreMadeBetween tree sweep 0 (run_count sweep) made → AllZip (IsMadeAs tree) (runs_of sweep) made
-  all_made made are =
+  between_all : runs_between sweep 0 (run_count sweep) ≡ runs_of sweep
+  between_all =
       let whole : run_count sweep - 0 ≡ run_count sweep = omega arith in
       let long : length (runs_of sweep) ≤ run_count sweep = omega (arith, runs_counted sweep) in
-      subst (λ l. AllZip (IsMadeAs tree) l made) (ap (λ n. take n (runs_of sweep)) whole ∙ take_all (run_count sweep) (runs_of sweep) long) are
+      ap (λ n. take n (runs_of sweep)) whole ∙ take_all (run_count sweep) (runs_of sweep) long
+
+  pub all_made : (made : List Made) → AreMadeBetween tree sweep 0 (run_count sweep) made → AllZip (IsMadeAs tree) (runs_of sweep) made
+  all_made made are = subst (λ l. AllZip (IsMadeAs tree) l made) between_all are
+
+  pub are_all : (made : List Made) → AllZip (IsMadeAs tree) (runs_of sweep) made → AreMadeBetween tree sweep 0 (run_count sweep) made
+  are_all made all = subst (λ l. AllZip (IsMadeAs tree) l made) (sym between_all) all
 
   module _ (exists : (s : Setup) → IsSound s → (rows : List Row) × IsRunOf s rows) where
     -- each run that is accepted can be made

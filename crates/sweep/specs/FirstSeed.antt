@@ -23,4 +23,4 @@ pub record HasSeed (values text : List ℕ) (seed : ℕ) : Type 0 where
 
 -- this is the seed of the line of the first run with which the text begins, whatever makes that genuine
 abbrev pub IsItsSeed : Sweep → List ℕ → ℕ → Type 0
-IsItsSeed sweep text seed = (key : LineKey) (has : HasLineOf key sweep 0 text) → has.1.is.placed.told.seed ≡ seed
+IsItsSeed sweep text seed = (key : LineKey) (has : HasLineOf key sweep 0 text) → has.1.is.placed.cells.seed ≡ seed

@@ -1,16 +1,12 @@
--- The table of a shard that was cut off, and how it goes on.
-use Rattle.std.specs.Prelude.{◌≡◌, ◌≢◌, ◌⊎◌, ◌≤◌, ◌+◌, ◌-◌, ℕ, Bool, List, ◌++◌, Option, drop, length}
-use Rattle.std.specs.List.{flat_map}
-use Rattle.std.specs.Io.KnownBytes.{Appends}
+-- What stands of the table of a shard in a text.
+use Rattle.std.specs.Prelude.{◌≡◌, ◌≢◌, ◌⊎◌, ◌≤◌, ◌+◌, ◌-◌, ℕ, List, ◌++◌, length}
 use Rattle.toml.specs.Data.{Data}
-use Rattle.trace.specs.Sinks.{AppendsBeginning}
 use Rattle.sweep_plan.specs.Sweep.{Sweep, run_count}
 use Rattle.shards.specs.declared.shard.Shard.{Shard}
 use Rattle.shards.specs.Shards.{first_run, past_run}
-use Rattle.sweep.specs.Runs.{Made, AreMadeBetween}
-use Rattle.sweep.specs.Table.{Course, noted_line, counts_revived}
+use Rattle.sweep.specs.Table.{counts_revived}
 use Rattle.sweep.specs.Shards.{shard_header}
-use Rattle.sweep.specs.Sums.{BeginsWithLines, HasLineOf, IsOlder, key_of_text, sweep_key}
+use Rattle.sweep.specs.Sums.{BeginsWithLines, HasLineOf, IsOlder, key_of_text}
 use Rattle.sweep.specs.declared.summing.LineKey.{LineKey}
 use Rattle.sweep.specs.declared.begun.BegunFault.{BegunFault}
 use Rattle.sweep.specs.declared.begun.BegunFault.TheVariants.{Other, Older, Memory}
@@ -61,33 +57,3 @@ RefusesStart header text Memory = Unit {0}
 
 abbrev pub RefusesBegun : Data → List ℕ → Sweep → Shard → List ℕ → BegunFault → Type 0
 RefusesBegun tree mark sweep p text fault = RefusesStart (shard_header (counts_revived tree) mark sweep p) text fault
-
--- what comes behind so many bytes of a shard's table: what they lack of its first line, and the lines of the runs that were left
-abbrev pub rest_text : Bool → List ℕ → Sweep → Shard → ℕ → List Made → List ℕ
-rest_text revived mark sweep p kept made = drop kept (shard_header revived mark sweep p) ++ flat_map (noted_line revived (sweep_key mark sweep)) made
-
--- the runs of a shard but for so many, the first
-abbrev pub AreMadeBehind : Data → Sweep → Shard → ℕ → List Made → Type 0
-AreMadeBehind tree sweep p runs made = AreMadeBetween tree sweep (first_run p (run_count sweep) + runs) (past_run p (run_count sweep)) made
-
--- how these lines come, behind so many bytes that were written before, and what these lack of the first line
-abbrev pub rest_course : Data → List ℕ → Sweep → Shard → ℕ → ℕ → Option (List ℕ) → Course
-rest_course tree mark sweep p kept runs start = record {
-  key = sweep_key mark sweep;
-  start = start;
-  front = drop kept (shard_header (counts_revived tree) mark sweep p);
-  from = first_run p (run_count sweep) + runs;
-  till = past_run p (run_count sweep);
-}
-
--- that was appended
-pub record WritesRest (tree : Data) (mark : List ℕ) (sweep : Sweep) (p : Shard) (kept runs : ℕ) (old new : Option (List ℕ)) : Type 0 where
-  pub made : List Made
-  pub are : AreMadeBehind tree sweep p runs made
-  pub written : Appends old new (rest_text (counts_revived tree) mark sweep p kept made)
-
--- a beginning of it was
-pub record BeginsRest (tree : Data) (mark : List ℕ) (sweep : Sweep) (p : Shard) (kept runs : ℕ) (old new : Option (List ℕ)) : Type 0 where
-  pub made : List Made
-  pub are : AreMadeBehind tree sweep p runs made
-  pub written : AppendsBeginning old new (rest_text (counts_revived tree) mark sweep p kept made)

@@ -66,10 +66,6 @@ pub record IsMadeAs (tree : Data) (p : Planned) (m : Made) : Type 0 where
 abbrev pub noted : Made → Note
 noted m = note_of m.scenario m.rows
 
--- these are all runs that the sweep asks for, in order
-abbrev pub AreMade : Data → Sweep → List Made → Type 0
-AreMade tree sweep made = AllZip (IsMadeAs tree) (runs_of sweep) made
-
 -- these are the runs from one number to before another
 abbrev pub AreMadeBetween : Data → Sweep → ℕ → ℕ → List Made → Type 0
 AreMadeBetween tree sweep from till made = AllZip (IsMadeAs tree) (runs_between sweep from till) made

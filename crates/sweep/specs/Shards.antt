@@ -1,5 +1,5 @@
--- The table of a sweep, and that of a shard of it.
-use Rattle.std.specs.Prelude.{ℕ, Bool, List, ◌++◌, Option}
+-- The table of a shard of a sweep, or what comes behind those bytes of it that were written before. A whole sweep is its only shard, with nothing written before.
+use Rattle.std.specs.Prelude.{ℕ, ◌+◌, Bool, List, ◌++◌, Option, drop}
 use Rattle.std.specs.List.{flat_map}
 use Rattle.std.specs.Io.KnownBytes.{Appends}
 use Rattle.toml.specs.Data.{Data}
@@ -7,15 +7,15 @@ use Rattle.trace.specs.Sinks.{AppendsBeginning}
 use Rattle.figures.specs.Lines.{header_line}
 use Rattle.sweep_plan.specs.Sweep.{Sweep, run_count}
 use Rattle.shards.specs.declared.shard.Shard.{Shard}
-use Rattle.shards.specs.Shards.{first_run, past_run, whole}
+use Rattle.shards.specs.Shards.{first_run, past_run}
 use Rattle.shards.specs.Names.{head_cell}
-use Rattle.sweep.specs.Runs.{Made, AreMade, AreMadeBetween}
+use Rattle.sweep.specs.Runs.{Made, AreMadeBetween}
 use Rattle.sweep.specs.Sums.{sweep_key}
-use Rattle.sweep.specs.Table.{names_of, counts_revived, noted_line}
+use Rattle.sweep.specs.Table.{Course, names_of, counts_revived, noted_line}
 
--- these are the runs of the shard
-abbrev pub AreMadeIn : Data → Sweep → Shard → List Made → Type 0
-AreMadeIn tree sweep p made = AreMadeBetween tree sweep (first_run p (run_count sweep)) (past_run p (run_count sweep)) made
+-- the runs of a shard but for so many, the first
+abbrev pub AreMadeBehind : Data → Sweep → Shard → ℕ → List Made → Type 0
+AreMadeBehind tree sweep p runs made = AreMadeBetween tree sweep (first_run p (run_count sweep) + runs) (past_run p (run_count sweep)) made
 
 -- the first line of a shard: its name, over the notes, and the header of the sweep's table
 abbrev pub shard_header : Bool → List ℕ → Sweep → Shard → List ℕ
@@ -25,24 +25,28 @@ shard_header revived mark sweep p = head_cell mark sweep p ++ header_line revive
 abbrev pub shard_table : Bool → List ℕ → Sweep → Shard → List Made → List ℕ
 shard_table revived mark sweep p made = shard_header revived mark sweep p ++ flat_map (noted_line revived (sweep_key mark sweep)) made
 
--- the table of a whole sweep is that of its only shard
-abbrev pub table_text : Data → List ℕ → Sweep → List Made → List ℕ
-table_text tree mark sweep made = shard_table (counts_revived tree) mark sweep whole made
+-- what comes behind so many bytes of it: what they lack of its first line, and the lines of the runs that were left
+abbrev pub rest_text : Bool → List ℕ → Sweep → Shard → ℕ → List Made → List ℕ
+rest_text revived mark sweep p kept made = drop kept (shard_header revived mark sweep p) ++ flat_map (noted_line revived (sweep_key mark sweep)) made
 
--- a beginning of it was appended
-pub record BeginsTable (tree : Data) (mark : List ℕ) (sweep : Sweep) (old new : Option (List ℕ)) : Type 0 where
+-- that was appended, where the lines of so many runs were written before
+pub record WritesRest (tree : Data) (mark : List ℕ) (sweep : Sweep) (p : Shard) (kept runs : ℕ) (old new : Option (List ℕ)) : Type 0 where
   pub made : List Made
-  pub are : AreMade tree sweep made
-  pub written : AppendsBeginning old new (table_text tree mark sweep made)
-
--- the shard was appended
-pub record WritesShard (tree : Data) (mark : List ℕ) (sweep : Sweep) (p : Shard) (old new : Option (List ℕ)) : Type 0 where
-  pub made : List Made
-  pub are : AreMadeIn tree sweep p made
-  pub written : Appends old new (shard_table (counts_revived tree) mark sweep p made)
+  pub are : AreMadeBehind tree sweep p runs made
+  pub written : Appends old new (rest_text (counts_revived tree) mark sweep p kept made)
 
 -- a beginning of it was
-pub record BeginsShard (tree : Data) (mark : List ℕ) (sweep : Sweep) (p : Shard) (old new : Option (List ℕ)) : Type 0 where
+pub record BeginsRest (tree : Data) (mark : List ℕ) (sweep : Sweep) (p : Shard) (kept runs : ℕ) (old new : Option (List ℕ)) : Type 0 where
   pub made : List Made
-  pub are : AreMadeIn tree sweep p made
-  pub written : AppendsBeginning old new (shard_table (counts_revived tree) mark sweep p made)
+  pub are : AreMadeBehind tree sweep p runs made
+  pub written : AppendsBeginning old new (rest_text (counts_revived tree) mark sweep p kept made)
+
+-- how these lines come, behind what was written before
+abbrev pub rest_course : Data → List ℕ → Sweep → Shard → ℕ → ℕ → Option (List ℕ) → Course
+rest_course tree mark sweep p kept runs start = record {
+  key = sweep_key mark sweep;
+  start = start;
+  front = drop kept (shard_header (counts_revived tree) mark sweep p);
+  from = first_run p (run_count sweep) + runs;
+  till = past_run p (run_count sweep);
+}

@@ -23,7 +23,7 @@ use Rattle.sweep.specs.declared.summing.LineKey.{LineKey}
 abbrev pub sweep_key : List ℕ → Sweep → List ℕ
 sweep_key mark sweep = key_of mark (plan_text sweep)
 
--- What makes the lines of a table genuine: the key of their checksums, whether they tell of members that were taken for alive again, and the seed of the
+-- What makes the lines of a table genuine: the key of their checksums, whether they count members that were taken for alive again, and the seed of the
 -- scenario's text, where that is known.
 abbrev pub line_key : Bool → Option ℕ → List ℕ → Sweep → LineKey
 line_key revived own mark sweep = record { digest = sweep_key mark sweep; revived = revived; own = own }
@@ -47,7 +47,7 @@ value_cells chosen = flat_map (λ c. value_text c.value ++ 44 ∷ []) chosen
 
 -- it is what the line of the run of this number has behind this metadata: the values of the run's setting, its seed, and figures that agree with the
 -- metadata, each number at most 2^63 - 1
-pub record IsToldOf (key : LineKey) (sweep : Sweep) (number : ℕ) (note : Note) (behind : List ℕ) : Type 0 where
+pub record IsBehindMetadata (key : LineKey) (sweep : Sweep) (number : ℕ) (note : Note) (behind : List ℕ) : Type 0 where
   pub planned : Planned
   pub there : IsRunAt sweep number planned
   pub seed : ℕ
@@ -62,7 +62,7 @@ pub record IsPlaced (key : LineKey) (sweep : Sweep) (number : ℕ) (line : List 
   pub note : Note
   pub small : IsSmall note
   pub behind : List ℕ
-  pub told : IsToldOf key sweep number note behind
+  pub cells : IsBehindMetadata key sweep number note behind
   pub written : line ≡ note_cell note ++ behind
 
 -- the text is a line, with its line feed

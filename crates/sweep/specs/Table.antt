@@ -39,7 +39,7 @@ has_revivals One = false
 has_revivals Two = false
 has_revivals Three = true
 
--- the sweep of a text of such a version tells of them
+-- the sweep of a text of such a version counts them
 abbrev pub counts_revived : Data → Bool
 counts_revived tree = has_revivals (version_of tree)
 

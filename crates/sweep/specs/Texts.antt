@@ -29,13 +29,13 @@ marked_line revived widths all chosen summary = cells_aligned (widths ++ figure_
 
 -- the lines of settings with these summaries, among all
 abbrev pub lines_of_settings : Bool → List ℕ → List SettingSummary → List (List Choice) → List SettingSummary → List ℕ
-lines_of_settings revived widths all settings summaries = flat_map (λ told. marked_line revived widths all told.0 told.1) (zip settings summaries)
+lines_of_settings revived widths all settings summaries = flat_map (λ one. marked_line revived widths all one.0 one.1) (zip settings summaries)
 
 -- the words over the columns, with that over the marks
 abbrev pub marked_header : Bool → List KeyValues → List ℕ
 marked_header revived swept_keys = cells_aligned (widths_of swept_keys ++ figure_widths revived) (names_of swept_keys ++ figure_words revived) ++ mark_word
 
--- The header, and the line of each setting, in order. A setting that no other beats is marked. Whether they tell of members that were taken for alive again
+-- The header, and the line of each setting, in order. A setting that no other beats is marked. Whether they count members that were taken for alive again
 -- is given.
 abbrev pub settings_text : Bool → Sweep → List SettingSummary → List ℕ
 settings_text revived sweep summaries =

@@ -1,5 +1,5 @@
 //! What stands of the table of a shard that was cut off.
-ghost use Rattle.std.specs.Prelude.{◌≡◌, ◌≢◌, ◌++◌, true, false, List, ℕ, IfOk, IfErr, IfSome, IsNone};
+ghost use Rattle.std.specs.Prelude.{◌≡◌, ◌≢◌, ◌++◌, true, false, [], List, ℕ, IfOk, IfErr, IfSome, IsNone};
 ghost use Rattle.toml.specs.View.{view};
 ghost use Rattle.shards.specs.Shards.{IsShard};
 ghost use Rattle.sweep.specs.Shards.{shard_header};
@@ -8,33 +8,41 @@ ghost use Rattle.sweep.specs.Table.{counts_revived};
 ghost use Rattle.sweep.specs.Resumed.{IsBegun, RefusesBegun, RefusesStart};
 ghost use Rattle.sweep.specs.declared.begun.BegunFault.TheVariants as begun_fault;
 
+use crate::header::front_of;
 use crate::revived::counts_revived;
-use crate::shard_tables::front_of;
 use crate::standing::{is_older, lines_of_runs};
 use crate::summing::key_of_text;
 use base::Memory;
+use figures::RunMetadata;
 use shards::Shard;
 use std::alloc::Global;
 use sweep_plan::Plan;
 use thiserror::Error;
 use toml::Value;
 
-/// What of the table of a shard was made before it was cut off.
-#[derive(Clone, Copy)]
+/// What stands of the table of a shard, behind which it goes on.
+#[derive(Drop)]
 pub struct Begun {
-    /// How many bytes of it stay: its first line, or a beginning of that, and whole lines.
+    /// How many bytes of it stay: its first line, or a beginning of that, and whole lines behind it.
     pub kept: usize,
-    /// How many lines these are: so many of the shard's runs are made.
-    pub runs: usize,
+    /// The lines of how many of its runs these are; with a width, of how many whole settings.
+    pub count: usize,
+    /// With a width, the metadata of the other lines: those of the next setting, which needs more runs.
+    pub started: Vec<RunMetadata>,
 }
 
 impl Begun {
-    /// Nothing of it.
-    pub fn nothing() -> Begun
+    /// Nothing of it. It takes no memory.
+    pub fn nothing(alloc: Global) -> Begun
         ensures kept { result.kept ≡ 0 }
-        ensures runs { result.runs ≡ 0 }
+        ensures count { result.count ≡ 0 }
+        ensures started { result.started.items ≡ [] }
     {
-        Begun { kept: 0, runs: 0 }
+        Begun {
+            kept: 0,
+            count: 0,
+            started: Vec::new(alloc),
+        }
     }
 }
 
@@ -74,13 +82,15 @@ pub fn begun_of(
 ) -> Result<Begun, BegunFault>
     requires asked { IsAskedFor plan.now }
     requires shard { IsShard shard }
-    ensures begun { IfOk result (λ begun. IsBegun (view document.now) mark.now plan.now shard text.now begun.kept begun.runs) }
+    ensures begun { IfOk result (λ begun. IsBegun (view document.now) mark.now plan.now shard text.now begun.kept begun.count) }
+    ensures no_more { IfOk result (λ begun. begun.started.items ≡ []) }
     ensures refused { IfErr result (RefusesBegun (view document.now) mark.now plan.now shard text.now) }
 {
     let Some(lines) = lines_behind(alloc, plan, shard, mark, document, text)? else {
         return Ok(Begun {
             kept: text.len(),
-            runs: 0,
+            count: 0,
+            started: Vec::new(alloc),
         });
     };
     let key = key_of_text(alloc, plan, mark, document)?;
@@ -89,7 +99,8 @@ pub fn begun_of(
     let stood = lines_of_runs(alloc, plan, &key, first, shard.past(runs) - first, lines)?;
     Ok(Begun {
         kept: text.len() - stood.left.len(),
-        runs: stood.count,
+        count: stood.count,
+        started: Vec::new(alloc),
     })
 }
 
@@ -108,7 +119,7 @@ pub fn lines_behind<'a>(
     ensures some { IfOk result (λ found. IfSome found (λ lines. text.entry.now ≡ shard_header (counts_revived (view document.now)) mark.now plan.now shard ++ lines.now)) }
     ensures refused { IfErr result (RefusesStart (shard_header (counts_revived (view document.now)) mark.now plan.now shard) text.entry.now) }
 {
-    let header = header_of(alloc, plan, shard, mark, counts_revived(document))?;
+    let header = front_of(alloc, plan, shard, mark, counts_revived(document))?;
     if is_beginning(text, &header) {
         return Ok(None);
     }
@@ -119,23 +130,6 @@ pub fn lines_behind<'a>(
         return Err(BegunFault::Older);
     }
     Ok(Some(rest))
-}
-
-/// The first line of a shard.
-fn header_of(
-    alloc: Global,
-    plan: &Plan,
-    shard: Shard,
-    mark: &str,
-    revived: bool,
-) -> Result<Vec<u8>, BegunFault>
-    ensures header { IfOk result (λ header. header.items ≡ shard_header revived mark.now plan.now shard) }
-    ensures memory { IfErr result (λ fault. fault ≡ begun_fault.Memory) }
-{
-    match front_of(alloc, plan, shard, mark, revived) {
-        Ok(header) => Ok(header),
-        Err(Memory) => Err(BegunFault::Memory),
-    }
 }
 
 /// Whether a text is a beginning of the first line.

@@ -7,21 +7,16 @@ ghost use Rattle.sweep.specs.Judged.{AreAccepted};
 ghost use Rattle.sweep.specs.Runs.{IsAskedFor};
 ghost use Rattle.sweep.specs.Shares.{AreShares};
 ghost use Rattle.sweep.specs.Table.{BeginsLines, Course, HasCause};
-ghost use Rattle.sweep.specs.Shards.{BeginsTable};
-ghost use Rattle.sweep.specs.Summaries.{MakesAll, HasCome};
+ghost use Rattle.sweep.specs.Summaries.{HasCome};
 
-use crate::begun::Begun;
-use crate::gathering::{Gather, Gathering};
+use crate::gathering::Gather;
 use crate::making::make_side_by_side;
 use crate::progress::Progress;
-use crate::shard_tables::write_table;
 use crate::shares::{LotSize, Share, next_lot};
 use crate::work::SECOND_OF_WORK;
 use crate::writing::write_line;
 use base::Fault;
-use figures::SettingSummary;
 use scenario::Workers;
-use shards::Shard;
 use std::alloc::Global;
 use std::marker::Sync;
 use std::thread::Threads;
@@ -35,56 +30,8 @@ const LOT: LotSize = LotSize {
     runs: 256,
 };
 
-/// Makes the runs of a sweep, and writes their table, which is that of its only shard: a header, ahead of which stands
-/// the shard's name, and a line for each run, in the order of the settings and of the seeds, each with its checksum and
-/// what its setting keeps of it before it; at the end the table is flushed. `mark` tells which scenario's text is meant.
-/// Runs are made some at a time, as many side by side as there are workers, each of which keeps a cluster in memory;
-/// each time it is told how many were made. Gives what is told of each setting, in their order. Each document must have
-/// been judged to be accepted. After a fault the table has got a beginning of that.
-///
-/// Faults: `Memory`; `CounterOverflow` where a counter of some run, or a count of its tallies, would pass 2^63; `Write`
-/// where the sink failed.
-pub fn sweep<S: Sink, P: Progress>(
-    rt: &(impl Threads + Sync),
-    alloc: Global,
-    plan: &Plan,
-    mark: &str,
-    document: &Value,
-    workers: Workers,
-    progress: &mut P,
-    table: &mut S,
-) -> Result<Vec<SettingSummary>, Fault>
-    requires asked { IsAskedFor plan.now }
-    requires judged { AreAccepted (view document.now) plan.now }
-    requires countable { S.failed table.old < 2 ^ 63 }
-
-    // How many workers there are doesn't count: the table and what is told are the same.
-    ensures whole { IfOk result (λ settings. MakesAll (view document.now) mark.now plan.now (S.held table.old) (S.held table.new) settings.items) }
-    ensures part { OnErr result (BeginsTable (view document.now) mark.now plan.now (S.held table.old) (S.held table.new)) }
-
-    // No fault comes without its cause.
-    ensures causes { IfErr result (HasCause (view document.now) plan.now) }
-    ensures failures { S.failed table.new ≡ S.failed table.old + sink_failures result }
-{
-    let mut gathering = Gathering::new(alloc, plan.runs_of_setting() as u64);
-    write_table(
-        rt,
-        alloc,
-        plan,
-        Shard::whole(),
-        mark,
-        Begun::nothing(),
-        document,
-        workers,
-        progress,
-        &mut gathering,
-        table,
-    )?;
-    Ok(gathering.into_summaries())
-}
-
-/// Makes the runs from one number to before another, writes their lines, and gathers what is told of them. Those before
-/// it, from `first` on, count as made where it is told how many were. `key` is that of the lines' checksums.
+/// Makes the runs from one number to before another, writes their lines, and gathers what their settings keep of them.
+/// Those before it, from `first` on, count as made in what `progress` gets. `key` is that of the lines' checksums.
 pub(crate) fn make_runs<S: Sink, P: Progress, G: Gather>(
     rt: &(impl Threads + Sync),
     alloc: Global,
@@ -135,7 +82,7 @@ pub(crate) fn make_runs<S: Sink, P: Progress, G: Gather>(
 }
 
 /// Makes the runs from one number to before another, which are those of these shares, side by side, writes their lines, and
-/// gathers what is told of them.
+/// gathers what their settings keep of them.
 fn make_some<S: Sink, G: Gather>(
     rt: &(impl Threads + Sync),
     alloc: Global,

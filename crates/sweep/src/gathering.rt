@@ -35,7 +35,7 @@ impl Gather for NothingGathered {
 pub struct Gathering {
     /// How many runs each setting has.
     each: u64,
-    /// What is told of the settings whose runs are all made.
+    /// The summaries of the settings whose runs are all made.
     summaries: Vec<SettingSummary>,
     /// The figures of the setting whose runs are not all made yet.
     figures: SettingFigures,
@@ -59,7 +59,7 @@ impl Gathering {
         }
     }
 
-    /// What is told of the settings, in their order.
+    /// The summaries of the settings, in their order.
     pub fn into_summaries(self) -> Vec<SettingSummary>
         ensures { result.items ≡ summaries_in self }
     {

@@ -24,7 +24,7 @@ pub struct Refused {
 }
 
 /// Reads the scenario of each setting that a sweep asks for, with its first seed: another seed changes no verdict, so this is what
-/// reading the scenario of each run gives. The first run that breaks a rule is told, with the least rule that it breaks.
+/// reading the scenario of each run gives. The first run that breaks a rule is returned, with the least rule that it breaks.
 pub fn judge(alloc: Global, plan: &Plan, document: &Value) -> Result<(), Refused>
     requires { IsAskedFor plan.now }
     ensures accepted { OnOk result (AreAccepted (view document.now) plan.now) }

@@ -33,7 +33,7 @@ pub fn read_run(
     }
 }
 
-/// The want of memory that a refusal tells.
+/// The want of memory that a refusal stands for.
 fn memory_of(_refusal: Refusal) -> Memory
     requires { _refusal.rule ≡ 11 }
 {

@@ -2,7 +2,7 @@
 ghost use Rattle.std.specs.Prelude.{◌≡◌, ◌⊎◌, ◌+◌, ◌<◌, ◌≤◌, true, false, IfOk, IfSome, IsNone};
 ghost use Rattle.sweep_plan.specs.Sweep.{run_count};
 ghost use Rattle.sweep.specs.Runs.{IsAskedFor};
-ghost use Rattle.sweep.specs.Sums.{AreLinesOf, BeginsWithLine, BeginsWithLines, HasLineOf, IsOlder, IsPlaced, IsToldOf};
+ghost use Rattle.sweep.specs.Sums.{AreLinesOf, BeginsWithLine, BeginsWithLines, HasLineOf, IsOlder, IsPlaced, IsBehindMetadata};
 ghost use Rattle.figures.specs.Notes.{IsNoteWord, Note};
 
 use crate::begun::rest_behind;
@@ -111,7 +111,7 @@ fn is_placed(
         return Ok(false);
     };
     match metadata_of(alloc, word)? {
-        Some(metadata) => is_told_of(alloc, plan, key, number, &metadata, behind),
+        Some(metadata) => is_behind_metadata(alloc, plan, key, number, &metadata, behind),
         None => Ok(false),
     }
 }
@@ -132,7 +132,7 @@ fn metadata_of(alloc: Global, word: &[u8]) -> Result<Option<RunMetadata>, Memory
 }
 
 /// Whether a text is what the line of the run of this number has behind this metadata.
-fn is_told_of(
+fn is_behind_metadata(
     alloc: Global,
     plan: &Plan,
     key: &LineKey,
@@ -142,8 +142,8 @@ fn is_told_of(
 ) -> Result<bool, Memory>
     requires asked { IsAskedFor plan.now }
     requires within { number < run_count plan.now }
-    ensures told { IfOk result (λ it. it ≡ true → IsToldOf key.now plan.now number metadata.now behind.now) }
-    ensures none { IfOk result (λ it. it ≡ false → ¬ (IsToldOf key.now plan.now number metadata.now behind.now)) }
+    ensures is { IfOk result (λ it. it ≡ true → IsBehindMetadata key.now plan.now number metadata.now behind.now) }
+    ensures none { IfOk result (λ it. it ≡ false → ¬ (IsBehindMetadata key.now plan.now number metadata.now behind.now)) }
 {
     let run = planned(alloc, plan, number)?;
     let values = value_cells(alloc, &run.setting)?;

@@ -12,7 +12,7 @@ use std::alloc::Global;
 use sweep_plan::{Choice, Plan};
 use toml::Value;
 
-/// What the checksums of a sweep's lines have in common: `mark` tells which scenario's text is meant.
+/// What the checksums of a sweep's lines have in common: `mark` is that of the scenario's text.
 pub fn sweep_key(alloc: Global, plan: &Plan, mark: &str) -> Result<[u8; 32], Memory>
     ensures { IfOk result (λ key. key ≡ sweep_key mark.now plan.now) }
 {
@@ -25,13 +25,13 @@ pub fn sweep_key(alloc: Global, plan: &Plan, mark: &str) -> Result<[u8; 32], Mem
 pub struct LineKey {
     /// The key of their checksums.
     pub digest: [u8; 32],
-    /// Whether they tell of members taken for alive again.
+    /// Whether they count members that were taken for alive again.
     pub revived: bool,
     /// The seed of the scenario's text, where it is known.
     pub own: Option<u64>,
 }
 
-/// What makes the lines of a sweep genuine: `mark` tells which scenario's text is meant, of which the seed may be known.
+/// What makes the lines of a sweep genuine: `mark` is that of the scenario's text, whose seed may be known.
 pub fn line_key(
     alloc: Global,
     plan: &Plan,

@@ -3,34 +3,18 @@ ghost use Rattle.std.specs.Prelude.{◌≡◌, ◌<◌, ◌++◌, length, slice_
 ghost use Rattle.sweep_plan.specs.Sweep.{setting_count};
 ghost use Rattle.sweep_plan.specs.Settings.{settings_of};
 ghost use Rattle.sweep_plan.specs.declared.choice.Choice.{Choice as AnyChoice};
-ghost use Rattle.toml.specs.View.{view};
-ghost use Rattle.sweep.specs.Table.{counts_revived};
 ghost use Rattle.sweep.specs.Texts.{column_width, widths_of, settings_text, marked_header, marked_line};
 
-use crate::revived::counts_revived;
 use crate::values::{lent, names, texts};
 use base::Memory;
 use figures::{SettingSummary, push_setting_header, push_setting_line};
 use goals::{is_on_front, push_header, push_marked};
 use std::alloc::Global;
 use sweep_plan::{Plan, Swept};
-use toml::Value;
 
-/// The text of the settings of a sweep of this document: a header, and for each setting a line with the values of the
-/// keys that are set, its figures and a mark, `*` where no other setting beats it, in aligned columns. There must be a summary for each setting, in their order.
-pub fn settings_text(
-    alloc: Global,
-    plan: &Plan,
-    document: &Value,
-    settings: &[SettingSummary],
-) -> Result<String, Memory>
-    requires { length settings.now ≡ setting_count plan.now.swept_keys }
-    ensures { IfOk result (λ text. string_bytes text ≡ settings_text (counts_revived (view document.now)) plan.now settings.now) }
-{
-    lines_of_settings(alloc, plan, counts_revived(document), settings)
-}
-
-/// The same text; whether it tells of members that were taken for alive again is given.
+/// The text of the settings of a sweep: a header, and for each setting a line with the values of the keys that are set, its
+/// figures and a mark, `*` where no other setting beats it, in aligned columns. There must be a summary for each setting, in
+/// their order. Whether it counts members that were taken for alive again is given.
 pub fn lines_of_settings(
     alloc: Global,
     plan: &Plan,

@@ -12,7 +12,7 @@ use std::alloc::Global;
 use sweep_plan::{Choice, Swept};
 use trace::{Put, Sink, WriteError};
 
-/// Puts the first line of the table, with the names of the keys that are set. Whether it tells of members
+/// Puts the first line of the table, with the names of the keys that are set. Whether it counts members
 /// that were taken for alive again is given.
 pub(crate) fn write_names<S: Sink>(
     alloc: Global,
@@ -30,8 +30,8 @@ pub(crate) fn write_names<S: Sink>(
     write_header(alloc, &keys, revived, table)
 }
 
-/// The line of a run, with the values of its setting, and with its note before it; whether it tells of
-/// members that were taken for alive again is given.
+/// The line of a run, with the values of its setting, and with its note before it; whether it
+/// counts members that were taken for alive again is given.
 pub(crate) fn line_of(
     alloc: Global,
     setting: &[Choice],
@@ -65,26 +65,9 @@ fn write_noted<S: Sink>(
     ensures part { OnErr result (AppendsBeginning (S.held table.old) (S.held table.new) (note_cell note.now ++ run_line revived (texts_of setting.now) seed figures.now)) }
     ensures failures { S.failed table.new ≡ S.failed table.old + failures_of_write result }
 {
-    write_metadata(alloc, note, table)?;
-    write_values(alloc, setting, seed, figures, revived, table)
-}
-
-/// Puts the line of a run, with the values of its setting; the rest as for the first line.
-fn write_values<S: Sink>(
-    alloc: Global,
-    setting: &[Choice],
-    seed: u64,
-    figures: &RunFigures,
-    revived: bool,
-    table: &mut S,
-) -> Result<(), WriteError>
-    requires { S.failed table.old < 2 ^ 63 }
-    ensures whole { OnOk result (Appends (S.held table.old) (S.held table.new) (run_line revived (texts_of setting.now) seed figures.now)) }
-    ensures part { OnErr result (AppendsBeginning (S.held table.old) (S.held table.new) (run_line revived (texts_of setting.now) seed figures.now)) }
-    ensures failures { S.failed table.new ≡ S.failed table.old + failures_of_write result }
-{
     let texts = texts(alloc, setting)?;
     let values = lent(alloc, &texts)?;
+    write_metadata(alloc, note, table)?;
     write_run(alloc, &values, seed, figures, revived, table)
 }
 

@@ -5,4 +5,4 @@ mod Pairs
 mod Refused
 mod Tables
 mod Ways
-mod Told
+mod Printed

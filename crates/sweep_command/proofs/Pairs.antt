@@ -7,7 +7,6 @@ use Rattle.base.specs.declared.fault.Fault.{Fault}
 use Rattle.files.specs.Files.{HoldsNow, ClosesAs, KeepsOthers, KeepsAllOthers}
 use Rattle.trace.specs.Sinks.{AppendsBeginning}
 use Rattle.trace.proofs.Beginnings.{Appends-none}
-use Rattle.shards.specs.Shards.{whole}
 use Rattle.command_line.specs.declared.words.SweepWords.{SweepWords}
 use Rattle.scenario_files.specs.Shelves.{Shelf, HoldsBeginning}
 use Rattle.scenario_files.proofs.Pairs.{first_begins, first_holds, others_kept, second_begins, second_holds}
@@ -41,10 +40,10 @@ module _ (sweep : SweepWords) (start made between end : Shelf) (page : Text) (ap
     paged_stored release lines makes = record {
       made = makes.makes.made;
       are = makes.makes.are;
-      stored = table_holds (runs_table sweep.plan.until tree mark sweep.plan whole makes.makes.made) makes.makes.written;
+      stored = table_holds (runs_table sweep.plan.until tree mark sweep.plan makes.makes.made) makes.makes.written;
       settings = makes.settings;
       all = makes.makes.all;
-      told = makes.makes.told;
+      summed = makes.makes.summed;
       text = makes.text;
       shown = makes.paged.0;
       is = makes.paged.1;
@@ -58,10 +57,10 @@ module _ (sweep : SweepWords) (start made between end : Shelf) (page : Text) (ap
     paged_begun Refused cause begins caused = record { made = begins.made; are = begins.are; written = by begins.written; others = kept; caused = caused }
       where
         text : List ℕ
-        text = runs_table sweep.plan.until tree mark sweep.plan whole begins.made
+        text = runs_table sweep.plan.until tree mark sweep.plan begins.made
 
-        by : (AppendsBeginning old new text × Keeps page_old page_new) ⊎ (Appends old new text × ((told : List ℕ) × IsPageOfRuns sweep begins.made told × AppendsBeginning page_old page_new told))
+        by : (AppendsBeginning old new text × Keeps page_old page_new) ⊎ (Appends old new text × ((page_text : List ℕ) × IsPageOfRuns sweep begins.made page_text × AppendsBeginning page_old page_new page_text))
             → (HoldsBeginning (start sweep.table.now) (end sweep.table.now) text × HoldsNow (start page) (end page) [])
-            ⊎ (HoldsNow (start sweep.table.now) (end sweep.table.now) text × ((told : List ℕ) × IsPageOfRuns sweep begins.made told × HoldsBeginning (start page) (end page) told))
+            ⊎ (HoldsNow (start sweep.table.now) (end sweep.table.now) text × ((page_text : List ℕ) × IsPageOfRuns sweep begins.made page_text × HoldsBeginning (start page) (end page) page_text))
         by (inl none) = inl (table_begins text none.0, page_holds [] (Appends-none page_old page_new none.1))
         by (inr some) = inr (table_holds text some.0, (some.1.0, some.1.1, page_begins some.1.0 some.1.2))

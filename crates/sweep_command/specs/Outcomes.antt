@@ -33,9 +33,9 @@ use Rattle.command_line.specs.declared.failure.ShardFault.{ShardFault}
 use Rattle.command_line.specs.declared.failure.ShardFault.TheVariants as shard
 use Rattle.scenario_files.specs.Shelves.{Shelf, word_given, IsRefused, IsUnread, HoldsBeginning}
 use Rattle.scenario_files.specs.Loading.{HasDocument, HasMarkedDocument, HasNoDocument}
-use Rattle.sweep_command.specs.Runs.{RunsBy, Standing, AreBegun, AreRuns, AreRunsBehind, AreSummedUp, BeginsAllRuns, BeginsRuns, BeginsRunsBehind, FitShard, MakesRuns, RefusesTable, WritesRuns, WritesRunsBehind, rest_table, runs_table}
+use Rattle.sweep_command.specs.Runs.{RunsBy, Standing, AreBegun, AreRuns, AreRunsBehind, AreSummedUp, BeginsAllRuns, BeginsRuns, FitShard, MakesRuns, RefusesTable, WritesRuns, nothing, rest_table, runs_table}
 
--- the words ask for a sweep that tells how far it has come
+-- the words ask for a sweep that prints how far it has come
 abbrev pub AsksForProgress : List Text → Type 0
 AsksForProgress words = (sweep : SweepWords) × AsksForSweep words sweep × (sweep.progress ≡ true)
 
@@ -55,39 +55,59 @@ pub record PassesSweepChecks (before : Shelf) (sweep : SweepWords) (workers : �
   pub there : missing_of tree sweep.plan.swept_keys ≡ None
   pub accepted : AreAccepted tree sweep.plan
 
--- this is what is told of all settings, by the summaries of their runs
+-- this is the text of all settings, by the summaries of their runs
 pub record AreLinesOf (tree : Data) (sweep : SweepWords) (made : RunsBy sweep.plan.until) (lines : List ℕ) : Type 0 where
   pub settings : List SettingSummary
   pub all : length settings ≡ setting_count sweep.plan.swept_keys
-  pub told : AreSummedUp sweep.plan.until sweep.plan made settings
+  pub summed : AreSummedUp sweep.plan.until sweep.plan made settings
   pub text : TellsSettings sweep.jsonl (counts_revived tree) sweep.plan sweep.wants.items settings lines
 
--- all runs were made and their table was appended to what was held, and this is what is told of their settings
+-- all runs were made and their table was appended to what was held, and this is the text of their settings
 pub record MakesLines (tree : Data) (mark : List ℕ) (sweep : SweepWords) (old new : Option (List ℕ)) (lines : List ℕ) : Type 0 where
   pub settings : List SettingSummary
   pub makes : MakesRuns sweep.plan.until tree mark sweep.plan old new settings
   pub text : TellsSettings sweep.jsonl (counts_revived tree) sweep.plan sweep.wants.items settings lines
 
--- The runs of the shard were made, these: the file holds their table, and no other file has changed.
-pub record StoresRuns (tree : Data) (mark : List ℕ) (sweep : SweepWords) (p : Shard) (made : RunsBy sweep.plan.until) (before after : Shelf) : Type 0 where
-  pub are : AreRuns sweep.plan.until tree sweep.plan p made
-  pub stored : HoldsNow (before sweep.table.now) (after sweep.table.now) (runs_table sweep.plan.until tree mark sweep.plan p made)
+-- what the file held of a table that was cut off; where there is no file, nothing
+abbrev pub HeldSoFar : KnownFile → List ℕ → Type 0
+HeldSoFar known text = Holds known text ⊎ (IsAbsent known × (text ≡ []))
+
+-- of a shard's table so much stood in the file: so many bytes stay, with the lines of these runs
+pub record Stood (tree : Data) (mark : List ℕ) (sweep : SweepWords) (p : Shard) (known : KnownFile) (kept : ℕ) (stands : Standing) : Type 0 where
+  pub text : List ℕ
+  pub held : HeldSoFar known text
+  pub begun : AreBegun sweep.plan.until tree mark sweep.plan p text kept stands
+
+-- so much of a shard's table stays of what the file held, these bytes: of one that goes on what stood there, of one that is made anew nothing
+abbrev pub Stays : Bool → Data → List ℕ → SweepWords → Shard → KnownFile → List ℕ → ℕ → Standing → Type 0
+Stays false tree mark sweep p known stay kept stands = (stay ≡ []) × (kept ≡ 0) × (stands ≡ nothing)
+Stays true tree mark sweep p known stay kept stands = (stood : Stood tree mark sweep p known kept stands) × (stay ≡ take kept stood.text)
+
+-- The runs of a shard that were left were made: the file holds what stays of its table, and behind that the rest of it, with the lines of these runs; and no
+-- other file has changed.
+pub record StoresRuns (resume : Bool) (tree : Data) (mark : List ℕ) (sweep : SweepWords) (p : Shard) (before after : Shelf) : Type 0 where
+  pub stay : List ℕ
+  pub kept : ℕ
+  pub stands : Standing
+  pub stays : Stays resume tree mark sweep p (before sweep.table.now) stay kept stands
+  pub made : RunsBy sweep.plan.until
+  pub are : AreRunsBehind sweep.plan.until tree sweep.plan p stands made
+  pub stored : HoldsNow (before sweep.table.now) (after sweep.table.now) (stay ++ rest_table sweep.plan.until tree mark sweep.plan p kept made)
   pub others : KeepsOthers before after sweep.table.now
 
--- all runs were, and this is what is told of their settings
+-- all runs of a whole sweep were, and this is the text of their settings
 abbrev pub StoresTable : Data → List ℕ → SweepWords → Shelf → Shelf → List ℕ → Type 0
-StoresTable tree mark sweep before after lines =
-    (made : RunsBy sweep.plan.until) × StoresRuns tree mark sweep whole made before after × AreLinesOf tree sweep made lines
+StoresTable tree mark sweep before after lines = (stores : StoresRuns false tree mark sweep whole before after) × AreLinesOf tree sweep stores.made lines
 
--- All runs were made, and this is what is told of their settings: the file of the table holds that, the file of this name a page of the settings, and no
+-- All runs were made, and this is the text of their settings: the file of the table holds that, the file of this name a page of the settings, and no
 -- other file has changed.
 pub record StoresPaged (tree : Data) (mark : List ℕ) (sweep : SweepWords) (release : List ℕ) (page : Text) (before after : Shelf) (lines : List ℕ) : Type 0 where
   pub made : RunsBy sweep.plan.until
-  pub are : AreRuns sweep.plan.until tree sweep.plan whole made
-  pub stored : HoldsNow (before sweep.table.now) (after sweep.table.now) (runs_table sweep.plan.until tree mark sweep.plan whole made)
+  pub are : AreRuns sweep.plan.until tree sweep.plan made
+  pub stored : HoldsNow (before sweep.table.now) (after sweep.table.now) (runs_table sweep.plan.until tree mark sweep.plan made)
   pub settings : List SettingSummary
   pub all : length settings ≡ setting_count sweep.plan.swept_keys
-  pub told : AreSummedUp sweep.plan.until sweep.plan made settings
+  pub summed : AreSummedUp sweep.plan.until sweep.plan made settings
   pub text : TellsSettings sweep.jsonl (counts_revived tree) sweep.plan sweep.wants.items settings lines
   pub shown : List ℕ
   pub is : IsSweepPage sweep.tick sweep.file.now release sweep.plan sweep.wants.items settings shown
@@ -115,40 +135,14 @@ IsPageOfRuns sweep made text = (release : List ℕ) × (settings : List SettingS
 -- a beginning was appended: of the table, and nothing of a page; or the whole table, and a beginning of a page
 pub record BeginsPaged (tree : Data) (mark : List ℕ) (sweep : SweepWords) (old new page_old page_new : Option (List ℕ)) : Type 0 where
   pub made : RunsBy sweep.plan.until
-  pub are : AreRuns sweep.plan.until tree sweep.plan whole made
-  pub written : (AppendsBeginning old new (runs_table sweep.plan.until tree mark sweep.plan whole made) × Keeps page_old page_new)
-      ⊎ (Appends old new (runs_table sweep.plan.until tree mark sweep.plan whole made) × ((text : List ℕ) × IsPageOfRuns sweep made text × AppendsBeginning page_old page_new text))
+  pub are : AreRuns sweep.plan.until tree sweep.plan made
+  pub written : (AppendsBeginning old new (runs_table sweep.plan.until tree mark sweep.plan made) × Keeps page_old page_new)
+      ⊎ (Appends old new (runs_table sweep.plan.until tree mark sweep.plan made) × ((text : List ℕ) × IsPageOfRuns sweep made text × AppendsBeginning page_old page_new text))
 
--- what the file held of a table that was cut off; where there is no file, nothing
-abbrev pub HeldSoFar : KnownFile → List ℕ → Type 0
-HeldSoFar known text = Holds known text ⊎ (IsAbsent known × (text ≡ []))
-
--- of a shard's table so much stood in the file: so many bytes stay, with the lines of these runs
-pub record Stood (tree : Data) (mark : List ℕ) (sweep : SweepWords) (p : Shard) (known : KnownFile) (kept : ℕ) (stands : Standing) : Type 0 where
-  pub text : List ℕ
-  pub held : HeldSoFar known text
-  pub begun : AreBegun sweep.plan.until tree mark sweep.plan p text kept stands
-
--- The runs of a shard that were left were made: the file holds what stays of the table that stood there, and behind it the rest of the
--- table, with the lines of these runs; and no other file has changed.
-pub record StoresRest (tree : Data) (mark : List ℕ) (sweep : SweepWords) (p : Shard) (before after : Shelf) : Type 0 where
-  pub kept : ℕ
-  pub stands : Standing
-  pub stood : Stood tree mark sweep p (before sweep.table.now) kept stands
-  pub made : RunsBy sweep.plan.until
-  pub are : AreRunsBehind sweep.plan.until tree sweep.plan p stands made
-  pub stored : HoldsNow (before sweep.table.now) (after sweep.table.now) (take kept stood.text ++ rest_table sweep.plan.until tree mark sweep.plan p kept made)
-  pub others : KeepsOthers before after sweep.table.now
-
--- the shard was made anew, or went on where it was cut off
-abbrev pub StoresPart : Bool → Data → List ℕ → SweepWords → Shard → Shelf → Shelf → Type 0
-StoresPart false tree mark sweep p before after = (made : RunsBy sweep.plan.until) × StoresRuns tree mark sweep p made before after
-StoresPart true tree mark sweep p before after = StoresRest tree mark sweep p before after
-
--- what is asked for was stored, where no page is: the whole, and this is what is told of its settings; or a shard, of which nothing is told
+-- what is asked for was stored, where no page is: the whole, and this is the text of its settings; or a shard, of which there is none
 abbrev pub StoresPlain : Option Shard → Data → List ℕ → SweepWords → Shelf → Shelf → List ℕ → Type 0
 StoresPlain None tree mark sweep before after lines = StoresTable tree mark sweep before after lines
-StoresPlain (Some p) tree mark sweep before after lines = StoresPart sweep.resume tree mark sweep p before after × (lines ≡ [])
+StoresPlain (Some p) tree mark sweep before after lines = StoresRuns sweep.resume tree mark sweep p before after × (lines ≡ [])
 
 -- the same, or the whole with a page where one is asked for
 abbrev pub StoresAsked : Option (Bor Text) → Data → List ℕ → SweepWords → List ℕ → Shelf → Shelf → List ℕ → Type 0
@@ -160,23 +154,15 @@ abbrev pub AreApart : Option (Bor Text) → Making → Text → Text → Type 0
 AreApart None making file table = making.are_one file table ≡ false
 AreApart (Some page) making file table = AreThreeFiles making file table page.now
 
--- the same of what was appended to what was held; of a shard that went on, behind so many bytes, with the lines of these runs
-abbrev pub MakesPart : Bool → Data → List ℕ → SweepWords → Shard → ℕ → Standing → Option (List ℕ) → Option (List ℕ) → Type 0
-MakesPart false tree mark sweep p kept stands old new = WritesRuns sweep.plan.until tree mark sweep.plan p old new
-MakesPart true tree mark sweep p kept stands old new = WritesRunsBehind sweep.plan.until tree mark sweep.plan p kept stands old new
-
+-- the same of what was appended to what was held; of a shard behind so many bytes, with the lines of these runs
 abbrev pub MakesAsked : Option Shard → Data → List ℕ → SweepWords → ℕ → Standing → Option (List ℕ) → Option (List ℕ) → List ℕ → Type 0
 MakesAsked None tree mark sweep kept stands old new lines = MakesLines tree mark sweep old new lines
-MakesAsked (Some p) tree mark sweep kept stands old new lines = MakesPart sweep.resume tree mark sweep p kept stands old new × (lines ≡ [])
+MakesAsked (Some p) tree mark sweep kept stands old new lines = WritesRuns sweep.plan.until tree mark sweep.plan p kept stands old new × (lines ≡ [])
 
 -- a beginning of it was appended
-abbrev pub BeginsPart : Bool → Data → List ℕ → SweepWords → Shard → ℕ → Standing → Option (List ℕ) → Option (List ℕ) → Type 0
-BeginsPart false tree mark sweep p kept stands old new = BeginsRuns sweep.plan.until tree mark sweep.plan p old new
-BeginsPart true tree mark sweep p kept stands old new = BeginsRunsBehind sweep.plan.until tree mark sweep.plan p kept stands old new
-
 abbrev pub BeginsAsked : Option Shard → Data → List ℕ → SweepWords → ℕ → Standing → Option (List ℕ) → Option (List ℕ) → Type 0
 BeginsAsked None tree mark sweep kept stands old new = BeginsAllRuns sweep.plan.until tree mark sweep.plan old new
-BeginsAsked (Some p) tree mark sweep kept stands old new = BeginsPart sweep.resume tree mark sweep p kept stands old new
+BeginsAsked (Some p) tree mark sweep kept stands old new = BeginsRuns sweep.plan.until tree mark sweep.plan p kept stands old new
 
 -- the shard that goes on, if one does
 abbrev pub shard_resumed : Bool → Option Shard → Option Shard
@@ -185,19 +171,18 @@ shard_resumed true asked = asked
 
 -- a shard goes on with so many bytes that stay of what stood in the file of its table; where none does, nothing stays
 abbrev pub GoesOnWith : Option Shard → Data → List ℕ → SweepWords → KnownFile → ℕ → Standing → Type 0
-GoesOnWith None tree mark sweep known kept stands = kept ≡ 0
+GoesOnWith None tree mark sweep known kept stands = (kept ≡ 0) × (stands ≡ nothing)
 GoesOnWith (Some p) tree mark sweep known kept stands = Stood tree mark sweep p known kept stands
 
 -- so does the shard that goes on, if one does
 abbrev pub GoesOn : Data → List ℕ → SweepWords → KnownFile → ℕ → Standing → Type 0
 GoesOn tree mark sweep known kept stands = GoesOnWith (shard_resumed sweep.resume sweep.shard) tree mark sweep known kept stands
 
--- it can go on behind these runs
-abbrev pub FitResumed : Data → List ℕ → SweepWords → Option Shard → ℕ → Standing → Type 0
-FitResumed tree mark sweep asked kept stands =
-    ForSome (shard_resumed sweep.resume asked) (λ p. FitShard sweep.plan.until sweep.plan p (shard_header (counts_revived tree) mark sweep.plan p) kept stands)
+-- the shard that is asked for, if one is, can go on behind these runs
+abbrev pub FitAsked : Data → List ℕ → SweepWords → Option Shard → ℕ → Standing → Type 0
+FitAsked tree mark sweep asked kept stands = ForSome asked (λ p. FitShard sweep.plan.until sweep.plan p (shard_header (counts_revived tree) mark sweep.plan p) kept stands)
 
--- the sweep passed its checks and was done, and this is what is told of its settings, where it is a whole one
+-- the sweep passed its checks and was done, and this is the text of its settings, where it is a whole one
 pub record SweepsAll (release : List ℕ) (before after : Shelf) (making : Making) (sweep : SweepWords) (lines : List ℕ) : Type 0 where
   pub workers : ℕ
   pub tree : Data
@@ -234,7 +219,7 @@ FailsSweepCheck before sweep failure =
     ⊎ ((workers : ℕ) × (tree : Data) × MakeRuns (word_given sweep.workers) workers × HasDocument (before sweep.file.now) (Some tree)
     × (missing_of tree sweep.plan.swept_keys ≡ None) × RefusesSetting tree sweep.plan failure)))
 
--- a text is no beginning of the shard's table, or its lines have no checksums, and it is told by the name of its file
+-- a text is no beginning of the shard's table, or its lines have no checksums, and the failure names its file
 abbrev pub IsOther : Data → List ℕ → SweepWords → Shard → List ℕ → ShardFault → Type 0
 IsOther tree mark sweep p text (shard.Other name) = (name.now ≡ sweep.table.now) × RefusesTable sweep.plan.until tree mark sweep.plan p text begun_fault.Other
 IsOther tree mark sweep p text (shard.Older name) = (name.now ≡ sweep.table.now) × RefusesTable sweep.plan.until tree mark sweep.plan p text begun_fault.Older
@@ -260,14 +245,6 @@ pub record IsCaused (Refused : Type 0) (tree : Data) (plan : Sweep) (cause : Fau
   pub caused : HasCause tree plan cause
   pub refused : cause ≡ fault.Write → Refused
 
--- the runs of the shard were ended by the fault: the file holds a beginning of their table, and no other has changed
-pub record BreaksOffRuns (Refused : Type 0) (tree : Data) (mark : List ℕ) (sweep : SweepWords) (p : Shard) (before after : Shelf) (cause : Fault) : Type 0 where
-  pub made : RunsBy sweep.plan.until
-  pub are : AreRuns sweep.plan.until tree sweep.plan p made
-  pub begun : HoldsBeginning (before sweep.table.now) (after sweep.table.now) (runs_table sweep.plan.until tree mark sweep.plan p made)
-  pub others : KeepsOthers before after sweep.table.now
-  pub caused : IsCaused Refused tree sweep.plan cause
-
 -- the file holds these bytes now, and behind them a beginning of the text
 pub record HoldsBehind (old new : KnownFile) (stay text : List ℕ) : Type 0 where
   pub front : List ℕ
@@ -275,26 +252,23 @@ pub record HoldsBehind (old new : KnownFile) (stay text : List ℕ) : Type 0 whe
   pub whole : front ++ rest ≡ text
   pub written : HoldsNow old new (stay ++ front)
 
--- The runs that were left of a shard that went on were ended by the fault: the file holds all that stays of the table that stood there,
--- and behind it a beginning of the rest, and no other has changed.
-pub record BreaksOffRest (Refused : Type 0) (tree : Data) (mark : List ℕ) (sweep : SweepWords) (p : Shard) (before after : Shelf) (cause : Fault) : Type 0 where
+-- The runs that were left of a shard were ended by the fault: the file holds all that stays of its table, and behind that a beginning of the rest, and no other
+-- has changed.
+pub record BreaksOffRuns (resume : Bool) (Refused : Type 0) (tree : Data) (mark : List ℕ) (sweep : SweepWords) (p : Shard) (before after : Shelf) (cause : Fault) : Type 0 where
+  pub stay : List ℕ
   pub kept : ℕ
   pub stands : Standing
-  pub stood : Stood tree mark sweep p (before sweep.table.now) kept stands
+  pub stays : Stays resume tree mark sweep p (before sweep.table.now) stay kept stands
   pub made : RunsBy sweep.plan.until
   pub are : AreRunsBehind sweep.plan.until tree sweep.plan p stands made
-  pub begun : HoldsBehind (before sweep.table.now) (after sweep.table.now) (take kept stood.text) (rest_table sweep.plan.until tree mark sweep.plan p kept made)
+  pub begun : HoldsBehind (before sweep.table.now) (after sweep.table.now) stay (rest_table sweep.plan.until tree mark sweep.plan p kept made)
   pub others : KeepsOthers before after sweep.table.now
   pub caused : IsCaused Refused tree sweep.plan cause
 
-abbrev pub BreaksOffPart : Bool → Type 0 → Data → List ℕ → SweepWords → Shard → Shelf → Shelf → Fault → Type 0
-BreaksOffPart false Refused tree mark sweep p before after cause = BreaksOffRuns Refused tree mark sweep p before after cause
-BreaksOffPart true Refused tree mark sweep p before after cause = BreaksOffRest Refused tree mark sweep p before after cause
-
--- and of what is asked for
+-- and those of what is asked for
 abbrev pub BreaksOff : Option Shard → Type 0 → Data → List ℕ → SweepWords → Shelf → Shelf → Fault → Type 0
-BreaksOff None Refused tree mark sweep before after cause = BreaksOffRuns Refused tree mark sweep whole before after cause
-BreaksOff (Some p) Refused tree mark sweep before after cause = BreaksOffPart sweep.resume Refused tree mark sweep p before after cause
+BreaksOff None Refused tree mark sweep before after cause = BreaksOffRuns false Refused tree mark sweep whole before after cause
+BreaksOff (Some p) Refused tree mark sweep before after cause = BreaksOffRuns sweep.resume Refused tree mark sweep p before after cause
 
 -- No whole table was stored: its file can't be made, memory was refused, or the runs broke off. Before they began no file has changed.
 abbrev pub TableFails : Type 0 → Data → List ℕ → Shelf → Shelf → Making → SweepWords → Failure → Type 0
@@ -308,9 +282,9 @@ TableFails Refused tree mark before after making sweep _ = ⊥
 -- of a table and a page: the one has a beginning while the other is empty, or the one is whole and the other has a beginning
 pub record BreaksOffPaged (Refused : Type 0) (tree : Data) (mark : List ℕ) (sweep : SweepWords) (page : Text) (before after : Shelf) (cause : Fault) : Type 0 where
   pub made : RunsBy sweep.plan.until
-  pub are : AreRuns sweep.plan.until tree sweep.plan whole made
-  pub written : (HoldsBeginning (before sweep.table.now) (after sweep.table.now) (runs_table sweep.plan.until tree mark sweep.plan whole made) × HoldsNow (before page) (after page) [])
-      ⊎ (HoldsNow (before sweep.table.now) (after sweep.table.now) (runs_table sweep.plan.until tree mark sweep.plan whole made)
+  pub are : AreRuns sweep.plan.until tree sweep.plan made
+  pub written : (HoldsBeginning (before sweep.table.now) (after sweep.table.now) (runs_table sweep.plan.until tree mark sweep.plan made) × HoldsNow (before page) (after page) [])
+      ⊎ (HoldsNow (before sweep.table.now) (after sweep.table.now) (runs_table sweep.plan.until tree mark sweep.plan made)
       × ((text : List ℕ) × IsPageOfRuns sweep made text × HoldsBeginning (before page) (after page) text))
   pub others : KeepsAllOthers before after sweep.table.now page
   pub caused : IsCaused Refused tree sweep.plan cause

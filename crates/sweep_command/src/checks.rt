@@ -66,7 +66,7 @@ fn find_items(alloc: Global, plan: &Plan, document: &Value) -> Result<(), Failur
     }
 }
 
-/// The failure that the key of an item is told by which isn't there.
+/// The failure that names the key of an item which isn't there.
 fn item_failure(alloc: Global, key: SweptKey) -> Failure<'static>
     ensures { (tree : Data) (plan : Sweep) → missing_of tree plan.swept_keys ≡ Some key → LacksItem tree plan result }
 {
@@ -88,7 +88,7 @@ fn judge_settings(alloc: Global, plan: &Plan, document: &Value) -> Result<(), Fa
     }
 }
 
-/// The failure that a refused setting is told by.
+/// The failure that names a refused setting.
 fn setting_failure(alloc: Global, refused: &Refused) -> Failure<'static>
     ensures { (tree : Data) (plan : Sweep) → (refused.now.refusal.rule ≢ 11 → IsFirstRefused tree plan (planned_as refused.now.setting.items refused.now.seed) refused.now.refusal.rule)
         → RefusesSetting tree plan result }

@@ -1,4 +1,4 @@
-//! The runs of a whole sweep.
+//! The runs of a whole sweep, or of a shard of it.
 ghost use Rattle.std.specs.Prelude.{◌≡◌, ◌<◌, ◌≤◌, ◌^◌, ◌+◌, IfOk, IfErr, OnErr, OnOk};
 ghost use Rattle.toml.specs.View.{view};
 ghost use Rattle.run_output.specs.Written.{sink_failures};
@@ -7,23 +7,23 @@ ghost use Rattle.sweep.specs.Runs.{IsAskedFor};
 ghost use Rattle.sweep.specs.Judged.{AreAccepted};
 ghost use Rattle.sweep.specs.Shards.{shard_header};
 ghost use Rattle.sweep.specs.Table.{HasCause, counts_revived};
-ghost use Rattle.sweep_command.specs.Runs.{BeginsAllRuns, BeginsRuns, BeginsRunsBehind, FitShard, MakesRuns, WritesRuns, WritesRunsBehind, standing};
+ghost use Rattle.sweep_command.specs.Runs.{BeginsAllRuns, BeginsRuns, FitShard, MakesRuns, WritesRuns, standing};
 
 use base::Fault;
-use figures::{RunMetadata, SettingSummary};
+use figures::SettingSummary;
 use scenario::Workers;
 use shards::Shard;
 use std::alloc::Global;
 use std::thread::Threads;
-use sweep::{Begun, Progress, sweep, write_rest, write_shard};
+use sweep::{Begun, NothingGathered, Progress, sweep, write_table};
 use sweep_plan::Plan;
-use sweep_until::{sweep_until, write_rest_until, write_shard_until};
+use sweep_until::{sweep_until, write_table_until};
 use toml::Value;
 use trace::Sink;
 
 /// Makes the runs of a sweep, and writes their table, with `mark` as that of the scenario's text: each
 /// setting with each seed; where the plan says how wide the interval of a setting may be, with only as many
-/// as make it no wider, or all where none do. Gives what is told of each setting, in their order. The
+/// as make it no wider, or all where none do. Returns the summary of each setting, in their order. The
 /// document of each run must have been judged to be accepted. After a fault the table has got a
 /// beginning.
 ///
@@ -55,14 +55,15 @@ pub(crate) fn make_runs<S: Sink, P: Progress>(
     }
 }
 
-/// Makes the runs of a shard of a sweep, and writes its table. Where the plan says how wide the interval of a setting may be, it is
-/// a shard of whole settings. All else is as in `make_runs`.
+/// Makes the runs of a shard of a sweep that are left, and writes its table behind what stands of it. Where the plan says how
+/// wide the interval of a setting may be, it is a shard of whole settings. All else is as in `make_runs`.
 pub(crate) fn make_shard<S: Sink, P: Progress>(
     rt: &(impl Threads + Sync),
     alloc: Global,
     plan: &Plan,
     shard: Shard,
     mark: &str,
+    begun: &Begun,
     document: &Value,
     workers: Workers,
     progress: &mut P,
@@ -71,58 +72,32 @@ pub(crate) fn make_shard<S: Sink, P: Progress>(
     requires asked { IsAskedFor plan.now }
     requires shard { IsShard shard }
     requires judged { AreAccepted (view document.now) plan.now }
+    requires few { FitShard plan.now.until plan.now shard (shard_header (counts_revived (view document.now)) mark.now plan.now shard) begun.now.kept
+        (standing begun.now.count begun.now.started.items) }
     requires countable { S.failed table.old < 2 ^ 63 }
-    ensures whole { OnOk result (WritesRuns plan.now.until (view document.now) mark.now plan.now shard (S.held table.old) (S.held table.new)) }
-    ensures part { OnErr result (BeginsRuns plan.now.until (view document.now) mark.now plan.now shard (S.held table.old) (S.held table.new)) }
+    ensures whole { OnOk result (WritesRuns plan.now.until (view document.now) mark.now plan.now shard begun.now.kept (standing begun.now.count begun.now.started.items)
+        (S.held table.old) (S.held table.new)) }
+    ensures part { OnErr result (BeginsRuns plan.now.until (view document.now) mark.now plan.now shard begun.now.kept (standing begun.now.count begun.now.started.items)
+        (S.held table.old) (S.held table.new)) }
     ensures causes { IfErr result (HasCause (view document.now) plan.now) }
     ensures failures { S.failed table.new ≡ S.failed table.old + sink_failures result }
 {
     match plan.until() {
-        Some(_) => write_shard_until(
-            rt, alloc, plan, shard, mark, document, workers, progress, table,
+        Some(_) => write_table_until(
+            rt, alloc, plan, shard, mark, begun, document, workers, progress, table,
         ),
-        None => write_shard(
-            rt, alloc, plan, shard, mark, document, workers, progress, table,
+        None => write_table(
+            rt,
+            alloc,
+            plan,
+            shard,
+            mark,
+            begun,
+            document,
+            workers,
+            progress,
+            &mut NothingGathered,
+            table,
         ),
-    }
-}
-
-/// Makes the runs of a shard that are left, and writes its table behind the bytes that stay of it. These have the lines of so
-/// many runs; where the plan says how wide the interval of a setting may be, of so many whole settings, and of the runs of the next
-/// one with this metadata. All else is as in `make_shard`.
-pub(crate) fn make_rest<S: Sink, P: Progress>(
-    rt: &(impl Threads + Sync),
-    alloc: Global,
-    plan: &Plan,
-    shard: Shard,
-    mark: &str,
-    kept: usize,
-    count: usize,
-    started: &[RunMetadata],
-    document: &Value,
-    workers: Workers,
-    progress: &mut P,
-    table: &mut S,
-) -> Result<(), Fault>
-    requires asked { IsAskedFor plan.now }
-    requires shard { IsShard shard }
-    requires judged { AreAccepted (view document.now) plan.now }
-    requires few { FitShard plan.now.until plan.now shard (shard_header (counts_revived (view document.now)) mark.now plan.now shard) kept (standing count started.now) }
-    requires countable { S.failed table.old < 2 ^ 63 }
-    ensures whole { OnOk result (WritesRunsBehind plan.now.until (view document.now) mark.now plan.now shard kept (standing count started.now) (S.held table.old) (S.held table.new)) }
-    ensures part { OnErr result (BeginsRunsBehind plan.now.until (view document.now) mark.now plan.now shard kept (standing count started.now) (S.held table.old) (S.held table.new)) }
-    ensures causes { IfErr result (HasCause (view document.now) plan.now) }
-    ensures failures { S.failed table.new ≡ S.failed table.old + sink_failures result }
-{
-    match plan.until() {
-        Some(_) => write_rest_until(
-            rt, alloc, plan, shard, mark, kept, count, started, document, workers, progress, table,
-        ),
-        None => {
-            let begun = Begun { kept, runs: count };
-            write_rest(
-                rt, alloc, plan, shard, mark, begun, document, workers, progress, table,
-            )
-        }
     }
 }

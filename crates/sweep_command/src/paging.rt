@@ -64,7 +64,7 @@ pub(crate) fn store_paged<'a, F: Files, P: Write>(
 }
 
 /// Makes the runs, writes their table to one writer and a page of their settings to the other, and gives
-/// both back, with what is told of the settings.
+/// both back, with the text of the settings.
 fn fill_both<T: Write, U: Write, P: Write>(
     rt: &(impl Threads + Sync),
     alloc: Global,
@@ -90,12 +90,12 @@ fn fill_both<T: Write, U: Write, P: Write>(
     let mut page = Put::new(page);
     if words.progress {
         let mut lines = RunLines { out: progress };
-        let outcome = tell_both(
+        let outcome = write_both(
             rt, alloc, release, words, prepared, &mut lines, &mut table, &mut page,
         );
         return (table, page, outcome);
     }
-    let outcome = tell_both(
+    let outcome = write_both(
         rt,
         alloc,
         release,
@@ -108,9 +108,9 @@ fn fill_both<T: Write, U: Write, P: Write>(
     (table, page, outcome)
 }
 
-/// Makes the runs, writes their table and then a page of their settings, and answers what is told of the
+/// Makes the runs, writes their table and then a page of their settings, and returns the text of the
 /// settings.
-fn tell_both<S: Sink, U: Sink, P: Progress>(
+fn write_both<S: Sink, U: Sink, P: Progress>(
     rt: &(impl Threads + Sync),
     alloc: Global,
     release: &Release<'_>,

@@ -5,31 +5,17 @@ ghost use Rattle.toml.specs.View.{view};
 ghost use Rattle.shards.specs.Shards.{IsShard};
 ghost use Rattle.scenario_files.specs.Shelves.{IsUnread};
 ghost use Rattle.sweep.specs.Runs.{IsAskedFor};
-ghost use Rattle.sweep.specs.Resumed.{IsBegun, RefusesBegun};
-ghost use Rattle.table_rows.specs.Begun.{IsBegunSettings, RefusesBegunSettings};
 ghost use Rattle.sweep_command.specs.Outcomes.{CannotGoOn, GoesOn, HeldSoFar, RefusesSoFar, shard_resumed};
 ghost use Rattle.sweep_command.specs.Runs.{AreBegun, RefusesTable, standing};
 
 use command_line::{Failure, ShardFault, SweepWords};
-use figures::RunMetadata;
 use files::{Files, ReadFault};
 use scenario_files::MarkedDocument;
 use shards::Shard;
 use std::alloc::Global;
-use sweep::{BegunFault, begun_of};
+use sweep::{Begun, BegunFault, begun_of};
 use sweep_plan::Plan;
 use table_rows::begun_settings_of;
-
-/// What stays of a shard's table that was made before it was cut off; nothing where no shard goes on.
-#[derive(Drop)]
-pub(crate) struct Stays {
-    /// How many bytes.
-    pub(crate) kept: usize,
-    /// Of how many runs they have the lines, or of how many whole settings where these have as many runs as are enough.
-    pub(crate) count: usize,
-    /// The metadata of their lines of the next such setting.
-    pub(crate) started: Vec<RunMetadata>,
-}
 
 /// What stays of the table that the words name, where they ask for a shard that goes on.
 ///
@@ -40,7 +26,7 @@ pub(crate) fn find_standing<'a, F: Files>(
     words: &SweepWords<'a>,
     marked: &MarkedDocument,
     files: &mut F,
-) -> Result<Stays, Failure<'a>>
+) -> Result<Begun, Failure<'a>>
     requires asked { IsAskedFor words.now.plan }
     requires shard { ForSome words.now.shard IsShard }
     ensures stood { IfOk result (λ s. GoesOn (view marked.now.document) (string_bytes marked.now.mark) words.now (F.known files.old words.now.table.now) s.kept (standing s.count s.started.items)) }
@@ -54,11 +40,7 @@ pub(crate) fn find_standing<'a, F: Files>(
             let text = text_so_far(alloc, words.table, files)?;
             stays_in(alloc, words, shard, marked, text.as_slice())
         }
-        None => Ok(Stays {
-            kept: 0,
-            count: 0,
-            started: Vec::new(alloc),
-        }),
+        None => Ok(Begun::nothing(alloc)),
     }
 }
 
@@ -96,7 +78,7 @@ fn stays_in<'a>(
     shard: Shard,
     marked: &MarkedDocument,
     text: &[u8],
-) -> Result<Stays, Failure<'a>>
+) -> Result<Begun, Failure<'a>>
     requires asked { IsAskedFor words.now.plan }
     requires shard { IsShard shard }
     ensures begun { IfOk result (λ s. AreBegun words.now.plan.until (view marked.now.document) (string_bytes marked.now.mark) words.now.plan shard text.now
@@ -104,7 +86,7 @@ fn stays_in<'a>(
     ensures refused { IfErr result (RefusesSoFar (view marked.now.document) (string_bytes marked.now.mark) words.now shard text.now) }
 {
     match begun_in(alloc, &words.plan, shard, marked, text) {
-        Ok(stays) => Ok(stays),
+        Ok(begun) => Ok(begun),
         Err(BegunFault::Other) => Err(Failure::Shards(ShardFault::Other(words.table))),
         Err(BegunFault::Older) => Err(Failure::Shards(ShardFault::Older(words.table))),
         Err(BegunFault::Memory) => Err(Failure::Memory),
@@ -118,65 +100,16 @@ fn begun_in(
     shard: Shard,
     marked: &MarkedDocument,
     text: &[u8],
-) -> Result<Stays, BegunFault>
+) -> Result<Begun, BegunFault>
     requires asked { IsAskedFor plan.now }
     requires shard { IsShard shard }
     ensures begun { IfOk result (λ s. AreBegun plan.now.until (view marked.now.document) (string_bytes marked.now.mark) plan.now shard text.now s.kept (standing s.count s.started.items)) }
     ensures refused { IfErr result (RefusesTable plan.now.until (view marked.now.document) (string_bytes marked.now.mark) plan.now shard text.now) }
 {
+    let mark = marked.mark.as_str();
+    let document = &marked.document;
     match plan.until() {
-        Some(width) => settings_begun(alloc, plan, shard, marked, width, text),
-        None => runs_begun(alloc, plan, shard, marked, text),
-    }
-}
-
-/// The same of a shard whose settings run with all seeds.
-fn runs_begun(
-    alloc: Global,
-    plan: &Plan,
-    shard: Shard,
-    marked: &MarkedDocument,
-    text: &[u8],
-) -> Result<Stays, BegunFault>
-    requires asked { IsAskedFor plan.now }
-    requires shard { IsShard shard }
-    ensures begun { IfOk result (λ s. IsBegun (view marked.now.document) (string_bytes marked.now.mark) plan.now shard text.now s.kept s.count) }
-    ensures refused { IfErr result (RefusesBegun (view marked.now.document) (string_bytes marked.now.mark) plan.now shard text.now) }
-{
-    let mark = marked.mark.as_str();
-    match begun_of(alloc, plan, shard, mark, &marked.document, text) {
-        Ok(begun) => Ok(Stays {
-            kept: begun.kept,
-            count: begun.runs,
-            started: Vec::new(alloc),
-        }),
-        Err(fault) => Err(fault),
-    }
-}
-
-/// The same of a shard whose settings have as many runs as make their intervals at most so many hundredths wide.
-fn settings_begun(
-    alloc: Global,
-    plan: &Plan,
-    shard: Shard,
-    marked: &MarkedDocument,
-    width: u64,
-    text: &[u8],
-) -> Result<Stays, BegunFault>
-    requires asked { IsAskedFor plan.now }
-    requires shard { IsShard shard }
-    requires wanted { plan.now.until ≡ Some width }
-    ensures begun { IfOk result
-        (λ s. IsBegunSettings (view marked.now.document) (string_bytes marked.now.mark) plan.now width shard text.now s.kept s.count s.started.items) }
-    ensures refused { IfErr result (RefusesBegunSettings (view marked.now.document) (string_bytes marked.now.mark) plan.now shard text.now) }
-{
-    let mark = marked.mark.as_str();
-    match begun_settings_of(alloc, plan, shard, mark, width, &marked.document, text) {
-        Ok(begun) => Ok(Stays {
-            kept: begun.kept,
-            count: begun.settings,
-            started: begun.started,
-        }),
-        Err(fault) => Err(fault),
+        Some(width) => begun_settings_of(alloc, plan, shard, mark, width, document, text),
+        None => begun_of(alloc, plan, shard, mark, document, text),
     }
 }

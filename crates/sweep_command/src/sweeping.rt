@@ -1,5 +1,5 @@
 //! Many runs of the scenario of a file, and the file that takes their table.
-ghost use Rattle.std.specs.Prelude.{◌≡◌, ◌<◌, ◌^◌, ◌+◌, All, Some, false, [], IfOk, IfErr, OnOk, OnErr, string_bytes};
+ghost use Rattle.std.specs.Prelude.{◌≡◌, ◌<◌, ◌^◌, ◌+◌, All, false, [], IfOk, IfErr, OnOk, OnErr, string_bytes};
 ghost use Rattle.std.specs.Option.{ForSome};
 ghost use Rattle.toml.specs.View.{view};
 ghost use Rattle.shards.specs.Shards.{IsShard};
@@ -8,15 +8,16 @@ ghost use Rattle.trace.specs.Writers.{put_failures, writer_under};
 ghost use Rattle.run_output.specs.Written.{sink_failures};
 ghost use Rattle.sweep.specs.Runs.{IsAskedFor};
 ghost use Rattle.sweep.specs.Judged.{AreAccepted};
-ghost use Rattle.sweep.specs.Table.{HasCause};
-ghost use Rattle.sweep_command.specs.Outcomes.{AreApart, BeginsAsked, BeginsPart, FitResumed, GoesOn, MakesAsked, MakesLines, MakesPart, StoreFails, StoresAsked, StoresPlain, SweepFails, SweepsAll, TableFails};
-ghost use Rattle.sweep_command.specs.Runs.{BeginsAllRuns, standing};
+ghost use Rattle.sweep.specs.Shards.{shard_header};
+ghost use Rattle.sweep.specs.Table.{HasCause, counts_revived};
+ghost use Rattle.sweep_command.specs.Outcomes.{AreApart, BeginsAsked, FitAsked, GoesOn, MakesAsked, MakesLines, StoreFails, StoresAsked, StoresPlain, SweepFails, SweepsAll, TableFails};
+ghost use Rattle.sweep_command.specs.Runs.{BeginsAllRuns, BeginsRuns, FitShard, WritesRuns, standing};
 
 use crate::checks::{PreparedSweep, prepare_sweep};
-use crate::making::{make_rest, make_runs, make_shard};
+use crate::making::{make_runs, make_shard};
 use crate::paging::store_paged;
 use crate::progressing::RunLines;
-use crate::resuming::{Stays, find_standing};
+use crate::resuming::find_standing;
 use base::Fault;
 use command_line::{Failure, Release, SweepWords};
 use files::Files;
@@ -25,15 +26,15 @@ use shards::Shard;
 use std::alloc::Global;
 use std::io::Write;
 use std::thread::Threads;
-use sweep::{NoProgress, Progress, counts_revived};
+use sweep::{Begun, NoProgress, Progress, counts_revived};
 use sweep_output::settings_printed;
 use trace::{Put, Sink};
 
 /// Makes the runs that the words of a sweep ask for, and writes their table to a file, and a page of
 /// the settings to another where one is asked for. They are each setting with each seed, or with only as
 /// many as make its interval narrow enough; or those of a shard, or what is left of these. They are
-/// made once all checks have passed. Answers what is told of the settings; nothing for a shard.
-/// `release` is what the page tells of the program. How far it has come goes to `progress`, where
+/// made once all checks have passed. Returns the text of the settings; an empty one for a shard.
+/// `release` is what the page says of the program. How far it has come goes to `progress`, where
 /// the words ask for that.
 pub fn sweep_file<'a, F: Files, P: Write>(
     rt: &(impl Threads + Sync),
@@ -52,9 +53,9 @@ pub fn sweep_file<'a, F: Files, P: Write>(
     ensures unasked { words.now.progress ≡ false → progress.new ≡ progress.old }
 {
     let prepared = prepare_sweep(rt, alloc, words, files)?;
-    let stood = find_standing(alloc, words, &prepared.marked, files)?;
+    let begun = find_standing(alloc, words, &prepared.marked, files)?;
     store_asked(
-        rt, alloc, release, words, &prepared, &stood, files, progress,
+        rt, alloc, release, words, &prepared, &begun, files, progress,
     )
 }
 
@@ -65,7 +66,7 @@ fn store_asked<'a, F: Files, P: Write>(
     release: &Release<'_>,
     words: &SweepWords<'a>,
     prepared: &PreparedSweep,
-    stood: &Stays,
+    begun: &Begun,
     files: &mut F,
     progress: &mut P,
 ) -> Result<String, Failure<'a>>
@@ -73,7 +74,7 @@ fn store_asked<'a, F: Files, P: Write>(
     requires shard { ForSome words.now.shard IsShard }
     requires wants { All IsBounded words.now.wants.items }
     requires judged { AreAccepted (view prepared.now.marked.document) words.now.plan }
-    requires stood { GoesOn (view prepared.now.marked.document) (string_bytes prepared.now.marked.mark) words.now (F.known files.old words.now.table.now) stood.now.kept (standing stood.now.count stood.now.started.items) }
+    requires stood { GoesOn (view prepared.now.marked.document) (string_bytes prepared.now.marked.mark) words.now (F.known files.old words.now.table.now) begun.now.kept (standing begun.now.count begun.now.started.items) }
     ensures done { IfOk result (λ lines. StoresAsked words.now.page (view prepared.now.marked.document) (string_bytes prepared.now.marked.mark) words.now release.now.version.now
         (F.known files.old) (F.known files.new) (string_bytes lines)) }
     ensures apart { OnOk result (AreApart words.now.page (F.making files.old) words.now.file.now words.now.table.now) }
@@ -83,7 +84,7 @@ fn store_asked<'a, F: Files, P: Write>(
 {
     match words.page {
         Some(page) => store_paged(rt, alloc, release, words, prepared, page, files, progress),
-        None => store_table(rt, alloc, words, prepared, stood, files, progress),
+        None => store_table(rt, alloc, words, prepared, begun, files, progress),
     }
 }
 
@@ -93,7 +94,7 @@ fn store_table<'a, F: Files, P: Write>(
     alloc: Global,
     words: &SweepWords<'a>,
     prepared: &PreparedSweep,
-    stood: &Stays,
+    begun: &Begun,
     files: &mut F,
     progress: &mut P,
 ) -> Result<String, Failure<'a>>
@@ -101,7 +102,7 @@ fn store_table<'a, F: Files, P: Write>(
     requires shard { ForSome words.now.shard IsShard }
     requires wants { All IsBounded words.now.wants.items }
     requires judged { AreAccepted (view prepared.now.marked.document) words.now.plan }
-    requires stood { GoesOn (view prepared.now.marked.document) (string_bytes prepared.now.marked.mark) words.now (F.known files.old words.now.table.now) stood.now.kept (standing stood.now.count stood.now.started.items) }
+    requires stood { GoesOn (view prepared.now.marked.document) (string_bytes prepared.now.marked.mark) words.now (F.known files.old words.now.table.now) begun.now.kept (standing begun.now.count begun.now.started.items) }
     ensures done { IfOk result (λ lines. StoresPlain words.now.shard (view prepared.now.marked.document) (string_bytes prepared.now.marked.mark) words.now
         (F.known files.old) (F.known files.new) (string_bytes lines)) }
     ensures apart { OnOk result ((F.making files.old).are_one words.now.file.now words.now.table.now ≡ false) }
@@ -109,22 +110,22 @@ fn store_table<'a, F: Files, P: Write>(
         (F.known files.old) (F.known files.new) (F.making files.old) words.now) }
     ensures unasked { words.now.progress ≡ false → progress.new ≡ progress.old }
 {
-    let made = match files.make_after(words.file, words.table, stood.kept as u64) {
+    let made = match files.make_after(words.file, words.table, begun.kept as u64) {
         Ok(made) => made,
         Err(fault) => return Err(file_failure(fault, words.table)),
     };
-    let (made, outcome) = fill_table(rt, alloc, words, prepared, stood, made, progress);
+    let (made, outcome) = fill_table(rt, alloc, words, prepared, begun, made, progress);
     files.close(words.table, made);
     run_result(outcome)
 }
 
-/// Makes the runs, writes their table to a writer, and gives it back, with what is told of the settings.
+/// Makes the runs, writes their table to a writer, and gives it back, with the text of the settings.
 fn fill_table<T: Write, P: Write>(
     rt: &(impl Threads + Sync),
     alloc: Global,
     words: &SweepWords<'_>,
     prepared: &PreparedSweep,
-    stood: &Stays,
+    begun: &Begun,
     table: T,
     progress: &mut P,
 ) -> (Put<T>, Result<String, Fault>)
@@ -132,11 +133,11 @@ fn fill_table<T: Write, P: Write>(
     requires shard { ForSome words.now.shard IsShard }
     requires wants { All IsBounded words.now.wants.items }
     requires judged { AreAccepted (view prepared.now.marked.document) words.now.plan }
-    requires few { FitResumed (view prepared.now.marked.document) (string_bytes prepared.now.marked.mark) words.now words.now.shard stood.now.kept
-        (standing stood.now.count stood.now.started.items) }
-    ensures whole { IfOk result.1 (λ lines. MakesAsked words.now.shard (view prepared.now.marked.document) (string_bytes prepared.now.marked.mark) words.now stood.now.kept (standing stood.now.count stood.now.started.items)
+    requires few { FitAsked (view prepared.now.marked.document) (string_bytes prepared.now.marked.mark) words.now words.now.shard begun.now.kept
+        (standing begun.now.count begun.now.started.items) }
+    ensures whole { IfOk result.1 (λ lines. MakesAsked words.now.shard (view prepared.now.marked.document) (string_bytes prepared.now.marked.mark) words.now begun.now.kept (standing begun.now.count begun.now.started.items)
         (T.contents table) (T.contents (writer_under result.0)) (string_bytes lines)) }
-    ensures part { OnErr result.1 (BeginsAsked words.now.shard (view prepared.now.marked.document) (string_bytes prepared.now.marked.mark) words.now stood.now.kept (standing stood.now.count stood.now.started.items)
+    ensures part { OnErr result.1 (BeginsAsked words.now.shard (view prepared.now.marked.document) (string_bytes prepared.now.marked.mark) words.now begun.now.kept (standing begun.now.count begun.now.started.items)
         (T.contents table) (T.contents (writer_under result.0))) }
     ensures causes { IfErr result.1 (HasCause (view prepared.now.marked.document) words.now.plan) }
     ensures failures { put_failures result.0 ≡ sink_failures result.1 }
@@ -145,28 +146,28 @@ fn fill_table<T: Write, P: Write>(
     let mut table = Put::new(table);
     if words.progress {
         let mut lines = RunLines { out: progress };
-        let outcome = tell_asked(rt, alloc, words, prepared, stood, &mut lines, &mut table);
+        let outcome = write_asked(rt, alloc, words, prepared, begun, &mut lines, &mut table);
         return (table, outcome);
     }
-    let outcome = tell_asked(
+    let outcome = write_asked(
         rt,
         alloc,
         words,
         prepared,
-        stood,
+        begun,
         &mut NoProgress,
         &mut table,
     );
     (table, outcome)
 }
 
-/// Makes the runs that are asked for, writes their table, and answers what is told of the settings; nothing for a shard.
-fn tell_asked<S: Sink, P: Progress>(
+/// Makes the runs that are asked for, writes their table, and returns the text of the settings; an empty one for a shard.
+fn write_asked<S: Sink, P: Progress>(
     rt: &(impl Threads + Sync),
     alloc: Global,
     words: &SweepWords<'_>,
     prepared: &PreparedSweep,
-    stood: &Stays,
+    begun: &Begun,
     progress: &mut P,
     table: &mut S,
 ) -> Result<String, Fault>
@@ -174,29 +175,29 @@ fn tell_asked<S: Sink, P: Progress>(
     requires shard { ForSome words.now.shard IsShard }
     requires wants { All IsBounded words.now.wants.items }
     requires judged { AreAccepted (view prepared.now.marked.document) words.now.plan }
-    requires few { FitResumed (view prepared.now.marked.document) (string_bytes prepared.now.marked.mark) words.now words.now.shard stood.now.kept
-        (standing stood.now.count stood.now.started.items) }
+    requires few { FitAsked (view prepared.now.marked.document) (string_bytes prepared.now.marked.mark) words.now words.now.shard begun.now.kept
+        (standing begun.now.count begun.now.started.items) }
     requires countable { S.failed table.old < 2 ^ 63 }
-    ensures whole { IfOk result (λ lines. MakesAsked words.now.shard (view prepared.now.marked.document) (string_bytes prepared.now.marked.mark) words.now stood.now.kept (standing stood.now.count stood.now.started.items)
+    ensures whole { IfOk result (λ lines. MakesAsked words.now.shard (view prepared.now.marked.document) (string_bytes prepared.now.marked.mark) words.now begun.now.kept (standing begun.now.count begun.now.started.items)
         (S.held table.old) (S.held table.new) (string_bytes lines)) }
-    ensures part { OnErr result (BeginsAsked words.now.shard (view prepared.now.marked.document) (string_bytes prepared.now.marked.mark) words.now stood.now.kept (standing stood.now.count stood.now.started.items)
+    ensures part { OnErr result (BeginsAsked words.now.shard (view prepared.now.marked.document) (string_bytes prepared.now.marked.mark) words.now begun.now.kept (standing begun.now.count begun.now.started.items)
         (S.held table.old) (S.held table.new)) }
     ensures causes { IfErr result (HasCause (view prepared.now.marked.document) words.now.plan) }
     ensures failures { S.failed table.new ≡ S.failed table.old + sink_failures result }
 {
     match words.shard {
-        Some(shard) => tell_shard(rt, alloc, words, prepared, stood, shard, progress, table),
-        None => tell_runs(rt, alloc, words, prepared, progress, table),
+        Some(shard) => write_shard(rt, alloc, words, prepared, begun, shard, progress, table),
+        None => write_whole(rt, alloc, words, prepared, progress, table),
     }
 }
 
-/// Makes the runs of a shard, all or what is left of them, and writes their table; there is nothing to tell of it.
-fn tell_shard<S: Sink, P: Progress>(
+/// Makes the runs of a shard that are left, and writes its table behind what stands of it; there is no text of its settings.
+fn write_shard<S: Sink, P: Progress>(
     rt: &(impl Threads + Sync),
     alloc: Global,
     words: &SweepWords<'_>,
     prepared: &PreparedSweep,
-    stood: &Stays,
+    begun: &Begun,
     shard: Shard,
     progress: &mut P,
     table: &mut S,
@@ -204,42 +205,13 @@ fn tell_shard<S: Sink, P: Progress>(
     requires asked { IsAskedFor words.now.plan }
     requires shard { IsShard shard }
     requires judged { AreAccepted (view prepared.now.marked.document) words.now.plan }
-    requires few { FitResumed (view prepared.now.marked.document) (string_bytes prepared.now.marked.mark) words.now (Some shard) stood.now.kept
-        (standing stood.now.count stood.now.started.items) }
+    requires few { FitShard words.now.plan.until words.now.plan shard (shard_header (counts_revived (view prepared.now.marked.document)) (string_bytes prepared.now.marked.mark) words.now.plan shard) begun.now.kept
+        (standing begun.now.count begun.now.started.items) }
     requires countable { S.failed table.old < 2 ^ 63 }
-    ensures whole { OnOk result (MakesPart words.now.resume (view prepared.now.marked.document) (string_bytes prepared.now.marked.mark) words.now shard stood.now.kept (standing stood.now.count stood.now.started.items)
+    ensures whole { OnOk result (WritesRuns words.now.plan.until (view prepared.now.marked.document) (string_bytes prepared.now.marked.mark) words.now.plan shard begun.now.kept (standing begun.now.count begun.now.started.items)
         (S.held table.old) (S.held table.new)) }
-    ensures untold { IfOk result (λ lines. string_bytes lines ≡ []) }
-    ensures part { OnErr result (BeginsPart words.now.resume (view prepared.now.marked.document) (string_bytes prepared.now.marked.mark) words.now shard stood.now.kept (standing stood.now.count stood.now.started.items)
-        (S.held table.old) (S.held table.new)) }
-    ensures causes { IfErr result (HasCause (view prepared.now.marked.document) words.now.plan) }
-    ensures failures { S.failed table.new ≡ S.failed table.old + sink_failures result }
-{
-    write_part(rt, alloc, words, prepared, stood, shard, progress, table)?;
-    Ok(String::new(alloc))
-}
-
-/// Makes the runs of a shard, and writes their table: that of all, or, where the shard goes on, what comes behind the bytes
-/// that stay of it.
-fn write_part<S: Sink, P: Progress>(
-    rt: &(impl Threads + Sync),
-    alloc: Global,
-    words: &SweepWords<'_>,
-    prepared: &PreparedSweep,
-    stood: &Stays,
-    shard: Shard,
-    progress: &mut P,
-    table: &mut S,
-) -> Result<(), Fault>
-    requires asked { IsAskedFor words.now.plan }
-    requires shard { IsShard shard }
-    requires judged { AreAccepted (view prepared.now.marked.document) words.now.plan }
-    requires few { FitResumed (view prepared.now.marked.document) (string_bytes prepared.now.marked.mark) words.now (Some shard) stood.now.kept
-        (standing stood.now.count stood.now.started.items) }
-    requires countable { S.failed table.old < 2 ^ 63 }
-    ensures whole { OnOk result (MakesPart words.now.resume (view prepared.now.marked.document) (string_bytes prepared.now.marked.mark) words.now shard stood.now.kept (standing stood.now.count stood.now.started.items)
-        (S.held table.old) (S.held table.new)) }
-    ensures part { OnErr result (BeginsPart words.now.resume (view prepared.now.marked.document) (string_bytes prepared.now.marked.mark) words.now shard stood.now.kept (standing stood.now.count stood.now.started.items)
+    ensures silent { IfOk result (λ lines. string_bytes lines ≡ []) }
+    ensures part { OnErr result (BeginsRuns words.now.plan.until (view prepared.now.marked.document) (string_bytes prepared.now.marked.mark) words.now.plan shard begun.now.kept (standing begun.now.count begun.now.started.items)
         (S.held table.old) (S.held table.new)) }
     ensures causes { IfErr result (HasCause (view prepared.now.marked.document) words.now.plan) }
     ensures failures { S.failed table.new ≡ S.failed table.old + sink_failures result }
@@ -248,21 +220,14 @@ fn write_part<S: Sink, P: Progress>(
     let document = &prepared.marked.document;
     let plan = &words.plan;
     let workers = prepared.workers;
-    if words.resume {
-        let kept = stood.kept;
-        let count = stood.count;
-        let started = stood.started.as_slice();
-        return make_rest(
-            rt, alloc, plan, shard, mark, kept, count, started, document, workers, progress, table,
-        );
-    }
     make_shard(
-        rt, alloc, plan, shard, mark, document, workers, progress, table,
-    )
+        rt, alloc, plan, shard, mark, begun, document, workers, progress, table,
+    )?;
+    Ok(String::new(alloc))
 }
 
-/// Makes the runs of a whole sweep, writes their table, and answers what is told of the settings.
-fn tell_runs<S: Sink, P: Progress>(
+/// Makes the runs of a whole sweep, writes their table, and returns the text of the settings.
+fn write_whole<S: Sink, P: Progress>(
     rt: &(impl Threads + Sync),
     alloc: Global,
     words: &SweepWords<'_>,

@@ -17,8 +17,7 @@ use Rattle.sweep.specs.Runs.{AreMadeBetween, Made}
 use Rattle.sweep.specs.Judged.{AreAccepted}
 use Rattle.sweep.specs.Sums.{sweep_key}
 use Rattle.sweep.specs.Table.{noted_line, counts_revived}
-use Rattle.sweep.specs.Shards.{shard_header}
-use Rattle.sweep.specs.Resumed.{rest_text}
+use Rattle.sweep.specs.Shards.{rest_text, shard_header}
 use Rattle.sweep_until.specs.Until.{AreMadeBehind, AreMadeFrom, AreMadeWithFirst, BeginsSettings, BeginsWide, FinishesSetting, HasSettings, IsMadeBehind, all_of, setting_course}
 use Rattle.sweep_until.specs.Shards.{AreSettingsBehind, BeginsRestUntil, CanGoOn, WritesRestUntil, first_setting, rest_settings, settings_in}
 use Rattle.sweep_until.proofs.Same.{OneRun, made_long}

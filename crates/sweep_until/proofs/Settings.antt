@@ -46,7 +46,7 @@ module _ (tree : Data) (sweep : Sweep) (stretch : Stretch) where
   module _ (width : ℕ) where
     -- no setting yet
     pub no_setting : (old new : Option (List ℕ)) → Appends old new front → HasSettings tree sweep width stretch old new 0 []
-    no_setting old new p = record { made = []; are = tt; written = subst (Appends old new) (sym (append-nil front)) p; told = tt }
+    no_setting old new p = record { made = []; are = tt; written = subst (Appends old new) (sym (append-nil front)) p; summed = tt }
 
     -- one setting more
     pub setting_added : (old mid new : Option (List ℕ)) (count number : ℕ) (settings all : List SettingSummary) (setting : SettingSummary) → stretch.first + count ≡ number → all ≡ settings ++ setting ∷ []
@@ -55,13 +55,13 @@ module _ (tree : Data) (sweep : Sweep) (stretch : Stretch) where
       made = has.made ++ makes.made ∷ [];
       are = one_setting tree sweep width stretch.first count number has.made makes.made is has.are makes.are;
       written = subst (Appends old new) (text_more has.made makes.made) (Appends-then old mid new (stretch_text tree stretch has.made) (flat_map line makes.made) has.written makes.written);
-      told = subst (AllZip SumsUp (has.made ++ makes.made ∷ [])) (sym pushed) (all_zipped_more SumsUp has.made settings makes.made setting has.told makes.told);
+      summed = subst (AllZip SumsUp (has.made ++ makes.made ∷ [])) (sym pushed) (all_zipped_more SumsUp has.made settings makes.made setting has.summed makes.summed);
     }
 
     pub settings_kept : (old mid new : Option (List ℕ)) (count : ℕ) (settings : List SettingSummary) → Keeps mid new → HasSettings tree sweep width stretch old mid count settings
         → HasSettings tree sweep width stretch old new count settings
     settings_kept old mid new count settings kept has =
-        record { made = has.made; are = has.are; written = Appends-kept old mid new (stretch_text tree stretch has.made) has.written kept; told = has.told }
+        record { made = has.made; are = has.are; written = Appends-kept old mid new (stretch_text tree stretch has.made) has.written kept; summed = has.summed }
 
     module _ (one : OneRun) (exists : (s : Setup) → IsSound s → (rows : List Row) × IsRunOf s rows) (ok : AreAccepted tree sweep) (within : stretch.first + stretch.settings ≤ setting_count sweep.swept_keys)
         (old new : Option (List ℕ)) where
@@ -171,5 +171,5 @@ module _ (tree : Data) (sweep : Sweep) (key : List ℕ) (width : ℕ) (before : 
         };
       };
       written = ended.gone.come.lines.written;
-      told = sums _ ended.gone.come.gathered;
+      summed = sums _ ended.gone.come.gathered;
     }

@@ -95,13 +95,13 @@ module _ (tree : Data) (sweep : Sweep) (one : OneRun) (ok : AreAccepted tree swe
       }
 
 module _ (tree : Data) (sweep : Sweep) (width : ℕ) (before : List Note) where
-  module _ (course : Course) (held : Option (List ℕ)) (kept : SettingRuns) (number : ℕ) (answer : Bool) (tells : (runs : List Note) → AreKept runs kept → answer ≡ is_narrow_of width runs) where
+  module _ (course : Course) (held : Option (List ℕ)) (kept : SettingRuns) (number : ℕ) (answer : Bool) (answers : (runs : List Note) → AreKept runs kept → answer ≡ is_narrow_of width runs) where
     pub goes_on : answer ≡ false → HasGone tree sweep width before course held kept number → GoesOn tree sweep width before course held kept number
-    goes_on is gone = record { gone = gone; open_yet = sym (tells _ gone.come.gathered) ∙ is }
+    goes_on is gone = record { gone = gone; open_yet = sym (answers _ gone.come.gathered) ∙ is }
 
     pub ends_here : (first past : ℕ) → first < number → number ≤ past → answer ≡ true → HasGone tree sweep width before course held kept number
         → HasEnded tree sweep width before course held kept first past
-    ends_here first past more high is gone = record { next = number; more = more; high = high; gone = gone; ends = inl (sym (tells _ gone.come.gathered) ∙ is) }
+    ends_here first past more high is gone = record { next = number; more = more; high = high; gone = gone; ends = inl (sym (answers _ gone.come.gathered) ∙ is) }
 
   -- no line more
   pub begins_so : (course : Course) (held : Option (List ℕ)) (kept : SettingRuns) (number : ℕ) → number ≤ course.till → HasGone tree sweep width before course held kept number

@@ -4,15 +4,12 @@ use Rattle.std.specs.List.{AllZip, range_with_len}
 use Rattle.std.specs.Io.KnownBytes.{Appends}
 use Rattle.toml.specs.Data.{Data}
 use Rattle.trace.specs.Sinks.{AppendsBeginning}
-use Rattle.sweep_plan.specs.Sweep.{Sweep, setting_count, seed_count}
+use Rattle.sweep_plan.specs.Sweep.{Sweep, seed_count}
 use Rattle.figures.specs.declared.summary.SettingSummary.{SettingSummary}
 use Rattle.figures.specs.Settings.{IsSummaryOf, runs_with}
 use Rattle.figures.specs.Notes.{Note}
 use Rattle.sweep.specs.Runs.{Made, AreMadeBetween, noted}
-use Rattle.shards.specs.Shards.{whole}
-use Rattle.sweep.specs.Sums.{sweep_key}
 use Rattle.sweep.specs.Table.{Course, BeginsLines, noted_line, counts_revived}
-use Rattle.sweep.specs.Shards.{shard_header, table_text}
 use Rattle.sweep.specs.Summaries.{HasCome}
 use Rattle.sweep_until.specs.Widths.{is_narrow}
 use Rattle.sweep_until.specs.Kept.{AreKept}
@@ -51,10 +48,6 @@ IsMadeUntil tree sweep width number made = IsMadeBehind tree sweep width number 
 abbrev pub AreMadeFrom : Data → Sweep → ℕ → ℕ → ℕ → List (List Made) → Type 0
 AreMadeFrom tree sweep width first settings made = AllZip (IsMadeUntil tree sweep width) (range_with_len first settings) made
 
--- those of the first settings
-abbrev pub AreMadeUntil : Data → Sweep → ℕ → ℕ → List (List Made) → Type 0
-AreMadeUntil tree sweep width settings made = AreMadeFrom tree sweep width 0 settings made
-
 -- The runs of so many settings, from that of a number on, where these were made before of the first one: its other runs, and those of the others.
 pub record AreMadeWithFirst (tree : Data) (sweep : Sweep) (width first settings : ℕ) (before : List Note) (made : List (List Made)) : Type 0 where
   pub one : List Made
@@ -73,10 +66,6 @@ AreMadeBehind tree sweep width first settings (note ∷ notes) made = AreMadeWit
 abbrev pub all_of : List (List Made) → List Made
 all_of made = flat_map (λ setting. setting) made
 
--- the table of the runs of some settings
-abbrev pub settings_table : Data → List ℕ → Sweep → List (List Made) → List ℕ
-settings_table tree mark sweep made = table_text tree mark sweep (all_of made)
-
 -- the summary of a setting's runs
 abbrev pub SumsUp : List Made → SettingSummary → Type 0
 SumsUp made setting = IsSummaryOf setting (map noted made)
@@ -88,10 +77,6 @@ pub record Stretch : Type 0 where
   pub first : ℕ
   pub settings : ℕ
 
--- all settings, behind the first line of the only shard
-abbrev pub all_settings : Data → List ℕ → Sweep → Stretch
-all_settings tree mark sweep = record { key = sweep_key mark sweep; front = shard_header (counts_revived tree) mark sweep whole; first = 0; settings = setting_count sweep.swept_keys }
-
 -- what is put, with the lines of the runs of these settings
 abbrev pub stretch_text : Data → Stretch → List (List Made) → List ℕ
 stretch_text tree stretch made = stretch.front ++ flat_map (noted_line (counts_revived tree) stretch.key) (all_of made)
@@ -101,21 +86,13 @@ pub record HasSettings (tree : Data) (sweep : Sweep) (width : ℕ) (stretch : St
   pub made : List (List Made)
   pub are : AreMadeFrom tree sweep width stretch.first number made
   pub written : Appends old new (stretch_text tree stretch made)
-  pub told : AllZip SumsUp made settings
-
--- those of all settings
-abbrev pub MakesUntil : Data → List ℕ → Sweep → ℕ → Option (List ℕ) → Option (List ℕ) → List SettingSummary → Type 0
-MakesUntil tree mark sweep width old new settings = HasSettings tree sweep width (all_settings tree mark sweep) old new (setting_count sweep.swept_keys) settings
+  pub summed : AllZip SumsUp made settings
 
 -- a beginning of the lines of all these settings was appended
 pub record BeginsSettings (tree : Data) (sweep : Sweep) (width : ℕ) (stretch : Stretch) (old new : Option (List ℕ)) : Type 0 where
   pub made : List (List Made)
   pub are : AreMadeFrom tree sweep width stretch.first stretch.settings made
   pub written : AppendsBeginning old new (stretch_text tree stretch made)
-
--- a beginning of the table was
-abbrev pub BeginsUntil : Data → List ℕ → Sweep → ℕ → Option (List ℕ) → Option (List ℕ) → Type 0
-BeginsUntil tree mark sweep width old new = BeginsSettings tree sweep width (all_settings tree mark sweep) old new
 
 -- ---- how far a setting has come
 
@@ -152,8 +129,8 @@ pub record MakesSetting (tree : Data) (sweep : Sweep) (key : List ℕ) (width nu
   pub made : List Made
   pub are : IsMadeBehind tree sweep width number before made
   pub written : Appends old new (flat_map (noted_line (counts_revived tree) key) made)
-  pub told : IsSummaryOf setting (before ++ map noted made)
+  pub summed : IsSummaryOf setting (before ++ map noted made)
 
--- they were, whatever is told of them
+-- they were, whatever their summary
 abbrev pub FinishesSetting : Data → Sweep → List ℕ → ℕ → ℕ → List Note → Option (List ℕ) → Option (List ℕ) → Type 0
 FinishesSetting tree sweep key width number before old new = (setting : SettingSummary) × MakesSetting tree sweep key width number before old new setting

@@ -9,6 +9,6 @@ spread k n = 400000000 * (38416 * (k * (n - k))) + 10000 * (38416 * 38416 * n)
 abbrev pub room : ℕ → ℕ → ℕ
 room width n = width * width * (n * ((10000 * n + 38416) * (10000 * n + 38416)))
 
--- the interval is at most so many hundredths wide; no runs tell nothing
+-- the interval is at most so many hundredths wide; no runs show nothing
 abbrev pub is_narrow : ℕ → ℕ → ℕ → Bool
 is_narrow width k n = nat_lt 0 n && nat_le (spread k n) (room width n)

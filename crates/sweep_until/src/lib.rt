@@ -4,10 +4,9 @@
 mod lots;
 mod parts;
 mod runs;
-mod setting_shards;
+mod tables;
 mod until;
 mod widths;
 
 pub use runs::SettingRuns;
-pub use setting_shards::{write_rest_until, write_shard_until};
-pub use until::sweep_until;
+pub use tables::{sweep_until, write_table_until};

@@ -1,10 +1,10 @@
-//! What is told while the runs of a shard are made.
+//! How far the runs of a shard have come.
 use sweep::Progress;
 
-/// Tells of the runs of a shard alone.
+/// Reports the runs of a shard alone.
 #[derive(Drop)]
 pub(crate) struct ShardProgress<'p, P: Progress> {
-    /// Whom it is told.
+    /// What gets it.
     pub(crate) whole: &'p mut P,
     /// How many runs there are before its first.
     pub(crate) before: usize,

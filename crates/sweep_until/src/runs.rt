@@ -46,7 +46,7 @@ impl SettingRuns {
         is_narrow(width, self.runs_with.min(runs), runs)
     }
 
-    /// What is told of the runs.
+    /// The summary of the runs.
     pub fn into_summary(self) -> Result<SettingSummary, Memory>
         requires { 0 < runs_in self }
         ensures { IfOk result (λ summary. (runs : List Note) → AreKept runs self → IsSummaryOf summary runs) }

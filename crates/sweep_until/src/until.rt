@@ -1,4 +1,4 @@
-//! The sweep, setting by setting.
+//! The runs of settings, one setting after the other.
 ghost use Rattle.std.specs.Prelude.{◌≡◌, ◌<◌, ◌≤◌, ◌^◌, ◌+◌, ◌-◌, ◌*◌, ◌++◌, ◌∷◌, [], OnOk, OnErr, Option, List, ℕ, IfOk, IfErr};
 ghost use Rattle.toml.specs.View.{view};
 ghost use Rattle.sweep_plan.specs.Sweep.{setting_count, run_count, seed_count};
@@ -8,16 +8,14 @@ ghost use Rattle.sweep.specs.Runs.{IsAskedFor};
 ghost use Rattle.sweep.specs.Table.{Course, HasCause};
 ghost use Rattle.figures.specs.Notes.{Note};
 ghost use Rattle.sweep_until.specs.Kept.{AreKept};
-ghost use Rattle.sweep_until.specs.Until.{AreTooFew, BeginsSettings, BeginsUntil, BeginsWide, GoesOn, HasSettings, HasEnded, MakesSetting, MakesUntil, Stretch, setting_course};
+ghost use Rattle.sweep_until.specs.Until.{AreTooFew, BeginsSettings, BeginsWide, GoesOn, HasSettings, HasEnded, MakesSetting, Stretch, setting_course};
 
 use crate::lots::make_lot;
 use crate::runs::SettingRuns;
-use crate::setting_shards::write_settings;
 use base::{Fault, Memory};
 use figures::{RunMetadata, SettingSummary};
 use scenario::Workers;
 use sequential_run::{a_run_exists, the_run_is_one};
-use shards::Shard;
 use std::alloc::Global;
 use std::marker::Sync;
 use std::thread::Threads;
@@ -33,62 +31,7 @@ const LOT: LotSize = LotSize {
     runs: 32,
 };
 
-/// Makes the runs of a sweep, of each setting with more and more of the seeds, in rising order, until the 95 % interval of
-/// the share of its runs in which members were thrown out, by Wilson, is at most so many hundredths wide, or with all
-/// seeds that are asked for. How many runs a setting has depends on its own runs alone. Their table is written, which is
-/// that of the sweep's only shard: a header, ahead of which stands the shard's name, and a line for each run, in the
-/// order of the settings and of the seeds, each with its checksum and what its setting keeps of it before it; at the end it
-/// is flushed. `mark` tells which scenario's text is meant. Runs of a setting are made some at a time, as many side by
-/// side as there are workers; what was made beyond the last run that is wanted is thrown away. Each time it is told how
-/// many runs were made, those that are left out among them. Gives what is told of each setting, in their order. Each
-/// document must have been judged to be accepted. After a fault the table has got a beginning of that.
-///
-/// Faults: `Memory`; `CounterOverflow` where a counter of some run, or a count of its tallies, would pass 2^63; `Write` where the sink
-/// failed.
-pub fn sweep_until<S: Sink, P: Progress>(
-    rt: &(impl Threads + Sync),
-    alloc: Global,
-    plan: &Plan,
-    mark: &str,
-    width: u64,
-    document: &Value,
-    workers: Workers,
-    progress: &mut P,
-    table: &mut S,
-) -> Result<Vec<SettingSummary>, Fault>
-    requires asked { IsAskedFor plan.now }
-    requires judged { AreAccepted (view document.now) plan.now }
-    requires most { width ≤ 100 }
-    requires countable { S.failed table.old < 2 ^ 63 }
-
-    // How many workers there are doesn't count: the table and what is told are the same.
-    ensures whole { IfOk result (λ settings. MakesUntil (view document.now) mark.now plan.now width (S.held table.old) (S.held table.new) settings.items) }
-    ensures part { OnErr result (BeginsUntil (view document.now) mark.now plan.now width (S.held table.old) (S.held table.new)) }
-
-    // No fault comes without its cause.
-    ensures causes { IfErr result (HasCause (view document.now) plan.now) }
-    ensures failures { S.failed table.new ≡ S.failed table.old + sink_failures result }
-{
-    let mut settings = Vec::new(alloc);
-    write_settings(
-        rt,
-        alloc,
-        plan,
-        Shard::whole(),
-        mark,
-        width,
-        0,
-        0,
-        document,
-        workers,
-        progress,
-        &mut settings,
-        table,
-    )?;
-    Ok(settings)
-}
-
-/// Makes the runs of the settings from one number to before another, writes their lines, and adds what is told of each. `key` is
+/// Makes the runs of the settings from one number to before another, writes their lines, and adds the summary of each. `key` is
 /// that of the lines' checksums.
 pub(crate) fn make_settings<S: Sink, P: Progress>(
     rt: &(impl Threads + Sync),
@@ -140,7 +83,7 @@ pub(crate) fn make_settings<S: Sink, P: Progress>(
     Ok(())
 }
 
-/// Adds what is told of a setting.
+/// Adds the summary of a setting.
 pub(crate) fn push_setting(
     settings: &mut Vec<SettingSummary>,
     setting: SettingSummary,
@@ -152,7 +95,7 @@ pub(crate) fn push_setting(
 }
 
 /// Makes the runs of the setting of this number, behind those that were made of it before, which are too few; writes their lines, and
-/// gives what is told of the setting.
+/// returns the summary of the setting.
 pub(crate) fn make_setting<S: Sink, P: Progress>(
     rt: &(impl Threads + Sync),
     alloc: Global,
@@ -250,7 +193,7 @@ fn make_runs_of<S: Sink, P: Progress>(
             return Ok(());
         }
         next = reached;
-        // the last of a setting are told by whoever makes it
+        // the caller reports the last of a setting
         if next < past {
             progress.runs_made(next, all);
         }

@@ -6,7 +6,7 @@ ghost use Rattle.sweep_until.specs.Widths.{is_narrow, room, spread};
 /// The square of 1.96, in ten thousandths.
 const SQUARE: u128 = 38_416;
 
-/// Whether the interval is at most so many hundredths wide, as 5 for 5 %. No runs tell nothing. There is room for 1,000,000
+/// Whether the interval is at most so many hundredths wide, as 5 for 5 %. No runs show nothing. There is room for 1,000,000
 /// runs.
 pub fn is_narrow(width: u64, k: u64, n: u64) -> bool
     requires most { width ≤ 100 }

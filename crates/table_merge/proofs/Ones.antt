@@ -1,4 +1,4 @@
--- What the first line of a text tells is one.
+-- What the first line of a text says is one.
 use Rattle.std.proofs.Common.{◌≡◌, ◌∙◌, ◌<◌, ◌≤◌, ◌^◌, ℕ, Bool, List, ◌++◌, refl, sym, ap, subst, arith, append_assoc}
 use Rattle.std.specs.Prelude.{Option, Some, None, Vec}
 use Rattle.std.specs.declared.alloc.Global.{Global}
@@ -20,27 +20,27 @@ use Rattle.table_merge.specs.Seeds.{with_seeds}
 use Rattle.table_merge.specs.Found.{BeginsAsTable, IsTableAt}
 
 -- two first lines of one text are one, and so is what comes behind them
-pub record AreOne (mark other : List ℕ) (revived told : Bool) (s t : Sweep) (p q : Shard) (x y : List ℕ) : Type 0 where
+pub record AreOne (mark other : List ℕ) (revived revived_too : Bool) (s t : Sweep) (p q : Shard) (x y : List ℕ) : Type 0 where
   pub marks : mark ≡ other
-  pub column : revived ≡ told
+  pub column : revived ≡ revived_too
   pub sweep : s ≡ t
   pub shard : p ≡ q
   pub rest : x ≡ y
 
-pub one_head : (text mark other : List ℕ) (revived told : Bool) (s t : Sweep) (p q : Shard) (a : BeginsAs text mark revived s p) (b : BeginsAs text other told t q)
-    → AreOne mark other revived told s t p q a.rest b.rest
-one_head text mark other revived told s t p q a b =
-    let same = same_heads mark other s t p q (header_line revived (names_of s.swept_keys) ++ a.rest) (header_line told (names_of t.swept_keys) ++ b.rest) a.marked b.marked a.asked b.asked a.sound b.sound
+pub one_head : (text mark other : List ℕ) (revived revived_too : Bool) (s t : Sweep) (p q : Shard) (a : BeginsAs text mark revived s p) (b : BeginsAs text other revived_too t q)
+    → AreOne mark other revived revived_too s t p q a.rest b.rest
+one_head text mark other revived revived_too s t p q a b =
+    let same = same_heads mark other s t p q (header_line revived (names_of s.swept_keys) ++ a.rest) (header_line revived_too (names_of t.swept_keys) ++ b.rest) a.marked b.marked a.asked b.asked a.sound b.sound
     (sym (append_assoc (head_cell mark s p) (header_line revived (names_of s.swept_keys)) a.rest) ∙ sym a.written ∙ b.written
-    ∙ append_assoc (head_cell other t q) (header_line told (names_of t.swept_keys)) b.rest) in
-    let rest : header_line revived (names_of s.swept_keys) ++ a.rest ≡ header_line told (names_of s.swept_keys) ++ b.rest =
-    same.rest ∙ ap (λ (z : Sweep). header_line told (names_of z.swept_keys) ++ b.rest) (sym same.sweep) in
+    ∙ append_assoc (head_cell other t q) (header_line revived_too (names_of t.swept_keys)) b.rest) in
+    let rest : header_line revived (names_of s.swept_keys) ++ a.rest ≡ header_line revived_too (names_of s.swept_keys) ++ b.rest =
+    same.rest ∙ ap (λ (z : Sweep). header_line revived_too (names_of z.swept_keys) ++ b.rest) (sym same.sweep) in
     record {
       marks = same.marks;
-      column = same_revived revived told (names_of s.swept_keys) a.rest b.rest rest;
+      column = same_revived revived revived_too (names_of s.swept_keys) a.rest b.rest rest;
       sweep = same.sweep;
       shard = same.shard;
-      rest = behind_header revived told (names_of s.swept_keys) a.rest b.rest rest;
+      rest = behind_header revived revived_too (names_of s.swept_keys) a.rest b.rest rest;
     }
 
 -- sweeps that are one have one range of seeds

@@ -5,13 +5,14 @@ use Rattle.std.specs.List.{AllZip, flat_map, range_with_len}
 use Rattle.std.proofs.lemmas.List.{drop-append-le, drop-drop, drop-map, drop_at, length-map, take-append-le, take-map}
 use Rattle.std.proofs.lemmas.List.FromFn.{length-range_with_len}
 use Rattle.toml.specs.Data.{Data}
-use Rattle.sweep_plan.specs.Sweep.{Sweep, seed_count, setting_count}
+use Rattle.sweep_plan.specs.Sweep.{Sweep, run_count, seed_count, setting_count}
 use Rattle.sweep_plan.specs.Settings.{settings_of}
 use Rattle.sweep_plan.specs.declared.choice.Choice.{Choice}
 use Rattle.sweep_plan.specs.declared.seeds.Seeds.{Seeds}
-use Rattle.sweep.specs.Runs.{AreMade, IsMadeAs, Made, Planned, planned_as, runs_of, seeds_of}
+use Rattle.sweep.specs.Runs.{AreMadeBetween, IsMadeAs, Made, Planned, planned_as, runs_of, seeds_of}
 use Rattle.sweep.proofs.Flat.{settings_counted}
 use Rattle.sweep.proofs.Numbers.{range_split}
+use Rattle.sweep.proofs.Steps.{all_made, are_all}
 use Rattle.table_merge.specs.Seeds.{part, with_seeds}
 use Rattle.table_merge.specs.Genuine.{runs_with}
 use Rattle.table_merge.proofs.Turns.{zipped_append, zipped_drop, zipped_take}
@@ -99,10 +100,11 @@ module _ {X Y : Type 0} (R : X → Y → Type 0) where
           (zipped_take R count (drop from xs) (drop from ys) (zipped_drop R from xs ys held)) (by (a + 1) m)
 
 pub made_part : (tree : Data) (sweep : Sweep) (all r : Seeds) (made : List Made) → sweep ≡ with_seeds sweep all → all.first ≤ r.first → r.first ≤ r.last → r.last ≤ all.last
-    → AreMade tree sweep made → AreMade tree (with_seeds sweep r) (runs_with sweep all made r)
+    → AreMadeBetween tree sweep 0 (run_count sweep) made → AreMadeBetween tree (with_seeds sweep r) 0 (run_count (with_seeds sweep r)) (runs_with sweep all made r)
 made_part tree sweep all r made is_with low ordered high are =
-    let whole = subst (λ (s : Sweep). AllZip (IsMadeAs tree) (runs_of s) made) is_with are in
+    let whole = subst (λ (s : Sweep). AllZip (IsMadeAs tree) (runs_of s) made) is_with (all_made tree sweep made are) in
     let count : seed_count (Some all) ≡ seed_count sweep.seeds = ap (λ (s : Sweep). seed_count s.seeds) (sym is_with) in
-    subst (λ m. AllZip (IsMadeAs tree) (runs_of (with_seeds sweep r)) (part (setting_count sweep.swept_keys) m all.first made r)) count
+    are_all tree (with_seeds sweep r) (runs_with sweep all made r)
+    (subst (λ m. AllZip (IsMadeAs tree) (runs_of (with_seeds sweep r)) (part (setting_count sweep.swept_keys) m all.first made r)) count
     (subst (λ l. AllZip (IsMadeAs tree) l (part (setting_count sweep.swept_keys) (seed_count (Some all)) all.first made r)) (planned_part sweep all r is_with low ordered high)
-    (zipped_part (IsMadeAs tree) (setting_count sweep.swept_keys) (seed_count (Some all)) all.first (runs_of (with_seeds sweep all)) made r whole))
+    (zipped_part (IsMadeAs tree) (setting_count sweep.swept_keys) (seed_count (Some all)) all.first (runs_of (with_seeds sweep all)) made r whole)))

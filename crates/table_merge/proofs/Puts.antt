@@ -77,7 +77,7 @@ line_before text left l is =
 pub left_short : (text left : List ℕ) (l : Line) → text ≡ shard_line l ++ left → length left ≤ length text
 left_short text left l is = omega (arith, ap length is, length-append (shard_line l) left)
 
--- and what stands behind its checksum is what it tells
+-- and what stands behind its checksum is what else it has
 pub behind_cut : (line front back : List ℕ) (l : Line) → IsLine l → line ≡ shard_line l → IsCut 32 line front back → back ≡ behind_sum l
 behind_cut line front back l sound is cut = (cut_once 32 front l.sum back (behind_sum l) cut.lacks sound.spaceless (sym cut.written ∙ is)).1
 
@@ -91,7 +91,7 @@ line_put key start left g h old new l sound is gathers put = record {
   gathered = gathers;
 }
 
--- a line has a space before what it tells
+-- a line has a space before what else it has
 pub must_cut : (line : List ℕ) → (l : Line) × IsLine l × (line ≡ shard_line l) → All (λ x. (x == 32) ≡ false) line → ⊥
 must_cut line its lacks = not_cut 32 line its.0.sum (behind_sum its.0) lacks its.2
 
@@ -130,7 +130,7 @@ settings_more number tables =
 
 pub puts_all : (key k : List ℕ) (settings n each m : ℕ) (starts : List (Ranged (List ℕ))) (g h : Gathering) (old new : Option (List ℕ)) (summaries : List SettingSummary) → key ≡ k → settings ≡ n
     → each ≡ m → PutsLines key (in_turn settings starts) g h old new → IsGathered each [] g → summaries ≡ summaries_in h → PutsAll k (in_turn n starts) m old new summaries
-puts_all key k settings n each m starts g h old new summaries same_key same_settings same_each put none told =
+puts_all key k settings n each m starts g h old new summaries same_key same_settings same_each put none is_summed =
     let own = subst (λ q. PutsLines q (in_turn n starts) g h old new) same_key (subst (λ q. PutsLines key (in_turn q starts) g h old new) same_settings put) in
     record {
       lines = own.lines;
@@ -139,5 +139,5 @@ puts_all key k settings n each m starts g h old new summaries same_key same_sett
       written = own.written;
       gathering = h;
       gathered = own.gathered m [] (subst (λ q. IsGathered q [] g) same_each none);
-      told = told;
+      summed = is_summed;
     }

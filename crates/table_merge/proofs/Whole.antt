@@ -115,8 +115,8 @@ module _ (texts : List (Vec ℕ Global)) (mark : List ℕ) (revived : Bool) (swe
           subst (λ l. Appends old full (shard_header revived mark (with_seeds sweep all) whole ++ flat_map shard_line (map (resummed key) l))) same
           (Appends-then old begun full _ _ head puts.written)
           ) kept;
-      count = ap length puts.told ∙ all_through (with_seeds sweep all) (notes_of puts.lines) puts.gathering long puts.gathered;
-      told = subst (λ l. SumUp (seed_count (Some all)) (notes_of l) settings) same (subst (SumUp (seed_count (Some all)) (notes_of puts.lines)) (sym puts.told) puts.gathered.told);
+      count = ap length puts.summed ∙ all_through (with_seeds sweep all) (notes_of puts.lines) puts.gathering long puts.gathered;
+      summed = subst (λ l. SumUp (seed_count (Some all)) (notes_of l) settings) same (subst (SumUp (seed_count (Some all)) (notes_of puts.lines)) (sym puts.summed) puts.gathered.summed);
     }
 
 -- the same in the words of the first line that was put
@@ -137,7 +137,7 @@ module _ (texts : List (Vec ℕ Global)) (mark m : List ℕ) (revived b : Bool) 
 pub few_seeds : (texts : List (Vec ℕ Global)) (old new : Option (List ℕ)) (sweep : Sweep) (revived : Bool) (settings : List SettingSummary) → JoinsSeeds texts old new sweep revived settings
     → All HasFewRuns settings
 few_seeds texts old new sweep revived settings joins =
-    few_with_all (seed_count sweep.seeds) (notes_of (in_turn (setting_count sweep.swept_keys) joins.tables)) settings (few_runs sweep joins.asked) joins.told
+    few_with_all (seed_count sweep.seeds) (notes_of (in_turn (setting_count sweep.swept_keys) joins.tables)) settings (few_runs sweep joins.asked) joins.summed
 
 -- what is said of a success, and what follows from that
 pub if_ok_then : {T E : Type 0} (r : Result T E) (P Q : T → Type 0) → IfOk r P → ((x : T) → P x → Q x) → IfOk r Q

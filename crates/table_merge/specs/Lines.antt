@@ -12,7 +12,7 @@ use Rattle.table_rows.specs.Lines.{AreLines, HasLine, IsLine, Line, notes_of, sh
 use Rattle.shard_merge.specs.Behind.{GathersMore}
 use Rattle.table_merge.specs.Seeds.{Ranged}
 
--- what a line tells behind its checksum
+-- what a line has behind its checksum
 abbrev pub behind_sum : Line → List ℕ
 behind_sum l = note_text l.note ++ 44 ∷ (l.body ++ 10 ∷ [])
 

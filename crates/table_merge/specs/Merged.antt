@@ -46,7 +46,7 @@ pub record JoinsSeeds (texts : List (Vec ℕ Global)) (old new : Option (List �
   pub each : All (IsRangeTable texts mark revived sweep) tables
   pub written : Appends old new (shard_header revived mark sweep whole ++ flat_map shard_line (merged_lines mark sweep tables))
   pub count : length settings ≡ setting_count sweep.swept_keys
-  pub told : SumUp (seed_count sweep.seeds) (notes_of (in_turn (setting_count sweep.swept_keys) tables)) settings
+  pub summed : SumUp (seed_count sweep.seeds) (notes_of (in_turn (setting_count sweep.swept_keys) tables)) settings
 
 -- The texts were put together: tables of a sweep with seeds that follow one another, or else all shards of a sweep.
 abbrev pub Joins : List (Vec ℕ Global) → Option (List ℕ) → Option (List ℕ) → Sweep → Bool → List SettingSummary → Type 0

@@ -37,4 +37,4 @@ pub record PutsAll (key : List ℕ) (starts : List (List ℕ)) (each : ℕ) (old
   pub written : Appends old new (flat_map shard_line (map (resummed key) lines))
   pub gathering : Gathering
   pub gathered : IsGathered each (notes_of lines) gathering
-  pub told : settings ≡ summaries_in gathering
+  pub summed : settings ≡ summaries_in gathering

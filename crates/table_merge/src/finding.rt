@@ -26,14 +26,14 @@ pub(crate) struct Found {
     pub(crate) seeds: Seeds,
 }
 
-/// The first of several tables of a sweep: what its first line tells, and its seeds.
+/// The first of several tables of a sweep: what its first line says, and its seeds.
 #[derive(Drop)]
 pub(crate) struct First<'a> {
     pub(crate) head: Head<'a>,
     pub(crate) seeds: Seeds,
 }
 
-/// What the first text tells, where it is a table with seeds, each of whose settings runs with all of them, and there are others.
+/// What the first line of the first text says, where it is a table with seeds, each of whose settings runs with all of them, and there are others.
 pub(crate) fn first_of_several<'a>(
     alloc: Global,
     texts: &'a [Vec<u8>],
@@ -131,7 +131,7 @@ fn begins_with(
     begins_as(alloc, text, &head, head.shard)
 }
 
-/// What the first line of the table of the sweep of the first tells that has these seeds; nothing where it has too many runs.
+/// What the first line of the table of the sweep of the first says that has these seeds; nothing where it has too many runs.
 pub(crate) fn head_with<'a>(
     alloc: Global,
     first: &First<'a>,

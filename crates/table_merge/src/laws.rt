@@ -4,10 +4,10 @@ ghost use Rattle.std.specs.declared.alloc.Global.{Global};
 ghost use Rattle.toml.specs.Data.{Data};
 ghost use Rattle.sweep_plan.specs.Sweep.{Sweep, setting_count, run_count};
 ghost use Rattle.sweep_plan.specs.declared.seeds.Seeds.{Seeds};
-ghost use Rattle.sweep.specs.Runs.{Made, AreMade, IsAskedFor};
+ghost use Rattle.sweep.specs.Runs.{Made, AreMadeBetween, IsAskedFor};
 ghost use Rattle.figures.specs.declared.summary.SettingSummary.{SettingSummary};
-ghost use Rattle.sweep_until.specs.Until.{AreMadeUntil};
-ghost use Rattle.table_rows.specs.Made.{IsTellable};
+ghost use Rattle.sweep_until.specs.Until.{AreMadeFrom};
+ghost use Rattle.table_rows.specs.Made.{FitsLine};
 ghost use Rattle.shard_merge.specs.Joined.{IsMark};
 ghost use Rattle.shard_merge.specs.Genuine.{AreAll, AreShards, AreShardsOfSettings, IsAgain, IsWhole, IsWholeUntil};
 ghost use Rattle.table_merge.specs.Seeds.{with_seeds};
@@ -18,20 +18,20 @@ ghost use Rattle.table_merge.specs.Genuine.{AreTables, runs_with};
 /// seeds, that is the table of the whole, and the summaries are those of its settings.
 pub fn tables_of_all_seeds_are_the_whole()
     ensures { (texts : List (Vec ℕ Global)) (old new : Option (List ℕ)) (read : Sweep) (revived : Bool) (settings : List SettingSummary) (mark : List ℕ) (tree : Data) (sweep : Sweep) (all : Seeds) (made : List Made)
-        → Joins texts old new read revived settings → IsMark mark → IsAskedFor sweep → sweep ≡ with_seeds sweep all → read.seeds ≡ Some all → length made ≡ run_count sweep → All IsTellable made
+        → Joins texts old new read revived settings → IsMark mark → IsAskedFor sweep → sweep ≡ with_seeds sweep all → read.seeds ≡ Some all → length made ≡ run_count sweep → All FitsLine made
         → AreTables tree texts mark sweep all made → IsWhole tree mark sweep made old new read revived settings }
 {}
 
 /// The runs of a sweep that have the seeds of a range are those that the sweep with these seeds asks for.
 pub fn runs_with_seeds_are_those_of_their_sweep()
     ensures { (tree : Data) (sweep : Sweep) (all r : Seeds) (made : List Made) → sweep ≡ with_seeds sweep all → all.first ≤ r.first → r.first ≤ r.last → r.last ≤ all.last
-        → AreMade tree sweep made → AreMade tree (with_seeds sweep r) (runs_with sweep all made r) }
+        → AreMadeBetween tree sweep 0 (run_count sweep) made → AreMadeBetween tree (with_seeds sweep r) 0 (run_count (with_seeds sweep r)) (runs_with sweep all made r) }
 {}
 
 /// Where each of the texts is some shard of a sweep of which each setting runs with each seed, they are put together to the whole.
 pub fn all_shards_are_the_whole()
     ensures { (texts : List (Vec ℕ Global)) (old new : Option (List ℕ)) (read : Sweep) (revived : Bool) (settings : List SettingSummary) (mark : List ℕ) (tree : Data) (sweep : Sweep) (of : ℕ) (made : List Made)
-        → Joins texts old new read revived settings → IsMark mark → IsAskedFor sweep → sweep.until ≡ None → length made ≡ run_count sweep → All IsTellable made
+        → Joins texts old new read revived settings → IsMark mark → IsAskedFor sweep → sweep.until ≡ None → length made ≡ run_count sweep → All FitsLine made
         → AreShards tree texts mark sweep of made → IsWhole tree mark sweep made old new read revived settings }
 {}
 
@@ -39,13 +39,13 @@ pub fn all_shards_are_the_whole()
 pub fn all_shards_of_settings_are_the_whole()
     ensures { (texts : List (Vec ℕ Global)) (old new : Option (List ℕ)) (read : Sweep) (revived : Bool) (settings : List SettingSummary) (mark : List ℕ) (tree : Data) (sweep : Sweep) (width of : ℕ)
         (made : List (List Made)) → Joins texts old new read revived settings → IsMark mark → IsAskedFor sweep → sweep.until ≡ Some width
-        → AreMadeUntil tree sweep width (setting_count sweep.swept_keys) made → All (All IsTellable) made
+        → AreMadeFrom tree sweep width 0 (setting_count sweep.swept_keys) made → All (All FitsLine) made
         → AreShardsOfSettings tree texts mark sweep of made → IsWholeUntil tree mark sweep width old new read revived settings }
 {}
 
 /// Where the table to which texts were put together is put together alone, it is put again, of the same sweep.
 pub fn the_table_alone_is_put_again()
-    ensures { (texts again : List (Vec ℕ Global)) (table put : List ℕ) (sweep read : Sweep) (revived told : Bool) (settings others : List SettingSummary)
-        → Joins texts (Some []) (Some table) sweep revived settings → AreAll again table → Joins again (Some []) (Some put) read told others
-        → IsAgain table sweep revived put read told }
+    ensures { (texts again : List (Vec ℕ Global)) (table put : List ℕ) (sweep read : Sweep) (revived revived_too : Bool) (settings others : List SettingSummary)
+        → Joins texts (Some []) (Some table) sweep revived settings → AreAll again table → Joins again (Some []) (Some put) read revived_too others
+        → IsAgain table sweep revived put read revived_too }
 {}

@@ -21,11 +21,12 @@ use Rattle.figures.specs.Notes.{Note}
 use Rattle.sweep.specs.Runs.{Made, noted}
 use Rattle.sweep.specs.Table.{noted_line, counts_revived}
 use Rattle.sweep.proofs.Steps.{zipped_long}
-use Rattle.sweep_until.specs.Shards.{AreSettingsBehind as AreLeft, AreSettingsIn, WritesShardUntil, WritesRestUntil, settings_in, first_setting}
+use Rattle.sweep_until.specs.Shards.{AreSettingsBehind as AreLeft, WritesRestUntil, settings_in, first_setting}
 use Rattle.sweep_until.specs.Until.{AreEnough, AreMadeBehind, AreMadeFrom, AreMadeWithFirst, IsMadeUntil, all_of}
+use Rattle.sweep_until.proofs.ShardSettings.{all_left, all_of_shard}
 use Rattle.table_rows.specs.Settings.{IsSetting, shard_setting}
 use Rattle.table_rows.specs.Lines.{Line, notes_of}
-use Rattle.table_rows.specs.Made.{IsTellable}
+use Rattle.table_rows.specs.Made.{FitsLine}
 use Rattle.table_rows.specs.Open.{BeginsWithOpen}
 use Rattle.table_rows.proofs.Beginnings.{one_begins_with_other}
 use Rattle.table_rows.proofs.Items.{cut_items, none_left}
@@ -94,12 +95,15 @@ module _ (tree : Data) (mark : List ℕ) (sweep : Sweep) (width : ℕ) (p : Shar
   abbrev table : List ℕ
   table = flat_map (noted_line revived key) (all_of made)
 
+  cut_are : AreMadeFrom tree sweep width (first_setting sweep p) (settings_in sweep p) made
+  cut_are = all_of_shard tree sweep width p made cut.are
+
   true_sound : All (IsSetting width each) true_settings
-  true_sound = settings_sound revived key tree sweep width (range_with_len (first_setting sweep p) (settings_in sweep p)) made cut.are cut.told
+  true_sound = settings_sound revived key tree sweep width (range_with_len (first_setting sweep p) (settings_in sweep p)) made cut_are cut.fits
 
   count_true : length true_settings ≡ settings_in sweep p
   count_true =
-      let long = zipped_long (IsMadeUntil tree sweep width) (range_with_len (first_setting sweep p) (settings_in sweep p)) made cut.are in
+      let long = zipped_long (IsMadeUntil tree sweep width) (range_with_len (first_setting sweep p) (settings_in sweep p)) made cut_are in
       let count = length-range_with_len (first_setting sweep p) (settings_in sweep p) in
       omega (arith, long, count, length-map made (setting_from revived key))
 
@@ -160,10 +164,10 @@ module _ (tree : Data) (mark : List ℕ) (sweep : Sweep) (width : ℕ) (p : Shar
         sym (drop_at own split.0 settings many) ∙ ap (drop settings) (sym split.1) ∙ drop-map (setting_from revived key) settings made
 
     rest_are : AreMadeFrom tree sweep width (first_setting sweep p + settings) (settings_in sweep p - settings) rest_made
-    rest_are = later_made tree sweep width (first_setting sweep p) (settings_in sweep p) settings made few cut.are
+    rest_are = later_made tree sweep width (first_setting sweep p) (settings_in sweep p) settings made few cut_are
 
-    rest_told : All (All IsTellable) rest_made
-    rest_told = All-drop (All IsTellable) settings made cut.told
+    rest_fit : All (All FitsLine) rest_made
+    rest_fit = All-drop (All FitsLine) settings made cut.fits
 
     abbrev one_first : ℕ
     one_first = first_setting sweep p + settings
@@ -176,15 +180,15 @@ module _ (tree : Data) (mark : List ℕ) (sweep : Sweep) (width : ℕ) (p : Shar
           sym (append_assoc (shard_setting b.lines) (it.after ++ it.unread) cut.rest)
           ∙ ap (λ l. l ++ cut.rest) (sym (append_assoc (shard_setting b.lines) it.after it.unread) ∙ ap (λ l. l ++ it.unread) (sym b.written))
 
-      its_first : (one : List Made) (others : List (List Made)) → rest_made ≡ one ∷ others → IsMadeUntil tree sweep width one_first one → All IsTellable one
+      its_first : (one : List Made) (others : List (List Made)) → rest_made ≡ one ∷ others → IsMadeUntil tree sweep width one_first one → All FitsLine one
           → (length before ≤ length one) × (map noted (take (length before) one) ≡ before) × (shard_setting b.lines ≡ flat_map (noted_line revived key) (take (length before) one))
-      its_first one others is made_one told =
+      its_first one others is made_one fits =
           let whole = setting_from revived key one in
           let there : shard_setting b.lines ++ ((it.after ++ it.unread) ++ cut.rest) ≡ shard_setting whole ++ (flat_map shard_setting (settings_from revived key others) ++ []) =
           tail_text ∙ split.2 ∙ ap (λ l. flat_map shard_setting l ++ []) (rest_lines ∙ ap (settings_from revived key) is)
           ∙ append_assoc (shard_setting whole) (flat_map shard_setting (settings_from revived key others)) [] in
           let enough : AreEnough width each (notes_of whole) = subst (AreEnough width each) (sym (setting_noted revived key one)) made_one.enough in
-          let tail = begin_setting width each b.lines whole b.are.few enough _ _ b.are.sound (lines_sound revived key one told) there in
+          let tail = begin_setting width each b.lines whole b.are.few enough _ _ b.are.sound (lines_sound revived key one fits) there in
           let size : length b.lines ≡ length before = sym (length-map b.lines (λ (l : Line). l.note)) ∙ ap length b.noted in
           let lines : b.lines ≡ setting_from revived key (take (length before) one) =
           sym (ap (take (length before)) tail.1 ∙ take_at b.lines tail.0 (length before) size) ∙ take-map (line_from revived key) (length before) one in
@@ -203,27 +207,27 @@ module _ (tree : Data) (mark : List ℕ) (sweep : Sweep) (width : ℕ) (p : Shar
     behind_made = subst (λ w. AreLeft tree sweep w p settings before writes.made) (same_width writes.width width (sym writes.wanted ∙ cut.wanted)) writes.are
 
     -- behind the bytes that stay they come behind the first line and the lines that stand there
-    so : (all : List (List Made)) (lines : List ℕ) → AreSettingsIn tree sweep width p all → lines ++ later ≡ flat_map (noted_line revived key) (all_of all)
-        → take kept text ++ drop kept header ≡ header ++ lines → WritesShardUntil tree mark sweep p (Some []) new
+    so : (all : List (List Made)) (lines : List ℕ) → AreMadeFrom tree sweep width (first_setting sweep p) (settings_in sweep p) all → lines ++ later ≡ flat_map (noted_line revived key) (all_of all)
+        → take kept text ++ drop kept header ≡ header ++ lines → WritesRestUntil tree mark sweep p 0 0 [] (Some []) new
     so all lines are text_is again = record {
       width = width;
       wanted = cut.wanted;
       made = all;
-      are = are;
+      are = all_left tree sweep width p all are;
       written = subst (Appends (Some []) new) (append_assoc header lines later ∙ ap (λ l. header ++ l) text_is) (goes_behind header text kept (header ++ lines) again new later writes.written);
     }
 
     -- where only whole settings stand there, the others come behind them
     settings_again : (lines : List ℕ) → lines ≡ flat_map (noted_line revived key) (all_of (take settings made)) → before ≡ [] → take kept text ++ drop kept header ≡ header ++ lines
-        → WritesShardUntil tree mark sweep p (Some []) new
+        → WritesRestUntil tree mark sweep p 0 0 [] (Some []) new
     settings_again lines are none again =
         so (take settings made ++ writes.made) lines
-        (both_made tree sweep width (first_setting sweep p) (settings_in sweep p) settings made writes.made is.few cut.are (subst (λ l. AreLeft tree sweep width p settings l writes.made) none behind_made))
+        (both_made tree sweep width (first_setting sweep p) (settings_in sweep p) settings made writes.made is.few cut_are (subst (λ l. AreLeft tree sweep width p settings l writes.made) none behind_made))
         (ap (λ l. l ++ later) are ∙ joined (take settings made) writes.made) again
 
     -- the whole settings, and what comes behind them
     whole_behind : (it : AreSettingsBehind own_key sweep width (first_setting sweep p) (settings_in sweep p) header text kept settings before) → it.after ≡ it.left → before ≡ []
-        → WritesShardUntil tree mark sweep p (Some []) new
+        → WritesRestUntil tree mark sweep p 0 0 [] (Some []) new
     whole_behind it same none =
         let own = flat_map shard_setting it.begins.settings in
         let whole : it.rest ≡ own ++ (it.left ++ it.unread) = it.read.written ∙ ap (λ l. l ++ it.unread) it.begins.written ∙ append_assoc own it.left it.unread in
@@ -234,9 +238,9 @@ module _ (tree : Data) (mark : List ℕ) (sweep : Sweep) (width : ℕ) (p : Shar
     module _ (it : AreSettingsBehind own_key sweep width (first_setting sweep p) (settings_in sweep p) header text kept settings before)
         (b : BeginsWithOpen own_key sweep width (first_setting sweep p + settings) it.left it.after before) where
       open_again : (one : List Made) (others : List (List Made)) → drop settings made ≡ one ∷ others → AreMadeWithFirst tree sweep width (first_setting sweep p + settings) (settings_in sweep p - settings) before writes.made
-          → IsMadeUntil tree sweep width (first_setting sweep p + settings) one → All IsTellable one → WritesShardUntil tree mark sweep p (Some []) new
-      open_again one others left goes made_one told =
-          let its = its_first kept settings before it is.few b one others left made_one told in
+          → IsMadeUntil tree sweep width (first_setting sweep p + settings) one → All FitsLine one → WritesRestUntil tree mark sweep p 0 0 [] (Some []) new
+      open_again one others left goes made_one fits =
+          let its = its_first kept settings before it is.few b one others left made_one fits in
           let own = flat_map shard_setting it.begins.settings in
           let opened = shard_setting b.lines in
           let whole : it.rest ≡ (own ++ opened) ++ (it.after ++ it.unread) =
@@ -260,19 +264,19 @@ module _ (tree : Data) (mark : List ℕ) (sweep : Sweep) (width : ℕ) (p : Shar
           ∙ sym (flat_map-append line setting (all_of goes.others)))
           ∙ joined (take settings made) rest in
           so (take settings made ++ rest) (own ++ opened)
-          (both_made tree sweep width (first_setting sweep p) (settings_in sweep p) settings made rest is.few cut.are are)
+          (both_made tree sweep width (first_setting sweep p) (settings_in sweep p) settings made rest is.few cut_are are)
           text_is
           (long_again header text kept (own ++ opened) (it.after ++ it.unread) (it.written ∙ ap (λ l. header ++ l) whole) it.stay)
 
-      one_there : AreMadeWithFirst tree sweep width (first_setting sweep p + settings) (settings_in sweep p - settings) before writes.made → WritesShardUntil tree mark sweep p (Some []) new
-      one_there goes = by (drop settings made) refl (settings_in sweep p - settings) refl (rest_are kept settings before it is.few) (rest_told kept settings before it is.few)
+      one_there : AreMadeWithFirst tree sweep width (first_setting sweep p + settings) (settings_in sweep p - settings) before writes.made → WritesRestUntil tree mark sweep p 0 0 [] (Some []) new
+      one_there goes = by (drop settings made) refl (settings_in sweep p - settings) refl (rest_are kept settings before it is.few) (rest_fit kept settings before it is.few)
         where
           by : (rest : List (List Made)) → drop settings made ≡ rest → (count : ℕ) → settings_in sweep p - settings ≡ count → AreMadeFrom tree sweep width (first_setting sweep p + settings) count rest
-              → All (All IsTellable) rest → WritesShardUntil tree mark sweep p (Some []) new
-          by [] left zero none are told = absurd (omega (arith, goes.some, none))
-          by [] left (suc count) some are told = absurd are
-          by (one ∷ others) left zero none are told = absurd are
-          by (one ∷ others) left (suc count) some are told = open_again one others left goes are.0 (All-head (All IsTellable) one others told)
+              → All (All FitsLine) rest → WritesRestUntil tree mark sweep p 0 0 [] (Some []) new
+          by [] left zero none are fits = absurd (omega (arith, goes.some, none))
+          by [] left (suc count) some are fits = absurd are
+          by (one ∷ others) left zero none are fits = absurd are
+          by (one ∷ others) left (suc count) some are fits = open_again one others left goes are.0 (All-head (All FitsLine) one others fits)
 
     -- without metadata no line of the next setting stands there
     none_open : (it : AreSettingsBehind own_key sweep width (first_setting sweep p) (settings_in sweep p) header text kept settings before)
@@ -283,22 +287,22 @@ module _ (tree : Data) (mark : List ℕ) (sweep : Sweep) (width : ℕ) (p : Shar
 
     behind_open : (it : AreSettingsBehind own_key sweep width (first_setting sweep p) (settings_in sweep p) header text kept settings before)
         → BeginsWithOpen own_key sweep width (first_setting sweep p + settings) it.left it.after before → (notes : List Note) → before ≡ notes
-        → AreMadeBehind tree sweep width (first_setting sweep p + settings) (settings_in sweep p - settings) notes writes.made → WritesShardUntil tree mark sweep p (Some []) new
+        → AreMadeBehind tree sweep width (first_setting sweep p + settings) (settings_in sweep p - settings) notes writes.made → WritesRestUntil tree mark sweep p 0 0 [] (Some []) new
     behind_open it b [] same goes = whole_behind it (none_open it b same) same
     behind_open it b (note ∷ notes) same goes =
         one_there it b (subst (λ l. AreMadeWithFirst tree sweep width (first_setting sweep p + settings) (settings_in sweep p - settings) l writes.made) (sym same) goes)
 
-    pub going_on : WritesShardUntil tree mark sweep p (Some []) new
+    pub going_on : WritesRestUntil tree mark sweep p 0 0 [] (Some []) new
     going_on = by is.stands
       where
         by : (IsShort header text kept settings × (before ≡ [])) ⊎ AreSettingsBehind own_key sweep width (first_setting sweep p) (settings_in sweep p) header text kept settings before
-            → WritesShardUntil tree mark sweep p (Some []) new
+            → WritesRestUntil tree mark sweep p 0 0 [] (Some []) new
         by (inl it) =
             let short = it.0 in
             let none : [] ≡ flat_map (noted_line revived key) (all_of (take settings made)) = ap (λ n. flat_map (noted_line revived key) (all_of (take n made))) (sym short.no_run) in
             settings_again [] none it.1 (short_again header text kept short.rest short.written short.all ∙ sym (append-nil header))
         by (inr it) = on it.started
           where
-            on : AreLinesBehind own_key sweep width (first_setting sweep p) (settings_in sweep p) settings it.left it.after before → WritesShardUntil tree mark sweep p (Some []) new
+            on : AreLinesBehind own_key sweep width (first_setting sweep p) (settings_in sweep p) settings it.left it.after before → WritesRestUntil tree mark sweep p 0 0 [] (Some []) new
             on (inl none) = whole_behind it none.2 none.1
             on (inr b) = behind_open it b.1 before refl behind_made

@@ -23,7 +23,7 @@ use Rattle.sweep.specs.Table.{made_line, noted_line, texts_of}
 use Rattle.sweep_until.specs.Until.{AreEnough, IsMadeUntil, SumsUp, all_of}
 use Rattle.table_rows.specs.Settings.{IsSetting, SumsUpLines, shard_setting}
 use Rattle.table_rows.specs.Lines.{Line, IsLine, notes_of, shard_line}
-use Rattle.table_rows.specs.Made.{IsTellable}
+use Rattle.table_rows.specs.Made.{FitsLine}
 use Rattle.table_rows.proofs.Bytes.{field_lacks, lacks_joined}
 use Rattle.sweep.proofs.Cells.{value_lacks}
 
@@ -46,20 +46,20 @@ module _ (revived : Bool) (key : List ℕ) where
   abbrev pub settings_from : List (List Made) → List (List Line)
   settings_from made = map setting_from made
 
-  cells_lack : (m : Made) → IsTellable m → Lacks 10 (cells_joined (fields_of m))
-  cells_lack m told =
+  cells_lack : (m : Made) → FitsLine m → Lacks 10 (cells_joined (fields_of m))
+  cells_lack m fits =
       let figs = figures_in_order revived (figures_of m.scenario m.rows) in
       let values : All (Lacks 10) (texts_of m.setting) =
       All-map (Lacks 10) (λ (c : Choice). value_text c.value) m.setting
-      (All-weaker (λ (c : Choice). FitsToml c.value) (λ (c : Choice). Lacks 10 (value_text c.value)) (λ c fits. value_lacks 10 c.value fits (lit< tt)) m.setting told.values) in
-      let cells : All (Lacks 10) (map cell figs) = All-map (Lacks 10) cell figs (All-weaker Small (λ f. Lacks 10 (cell f)) cell_lacks figs (told.figures revived)) in
-      let seed : Lacks 10 (decimal m.scenario.seed) = decimal_lacks m.scenario.seed 10 (omega (arith, told.seed)) (lit< tt) in
+      (All-weaker (λ (c : Choice). FitsToml c.value) (λ (c : Choice). Lacks 10 (value_text c.value)) (λ c fit. value_lacks 10 c.value fit (lit< tt)) m.setting fits.values) in
+      let cells : All (Lacks 10) (map cell figs) = All-map (Lacks 10) cell figs (All-weaker Small (λ f. Lacks 10 (cell f)) cell_lacks figs (fits.figures revived)) in
+      let seed : Lacks 10 (decimal m.scenario.seed) = decimal_lacks m.scenario.seed 10 (omega (arith, fits.seed)) (lit< tt) in
       let fields = All-append (Lacks 10) (texts_of m.setting) (decimal m.scenario.seed ∷ map cell figs) values (All-cons (Lacks 10) (decimal m.scenario.seed) (map cell figs) seed cells) in
       lacks_joined 10 44 (map (field_text default_writer) (fields_of m)) refl
       (All-map (Lacks 10) (field_text default_writer) (fields_of m) (All-weaker (Lacks 10) (λ xs. Lacks 10 (field_text default_writer xs)) field_lacks (fields_of m) fields))
 
-  pub line_sound : (m : Made) → IsTellable m → IsLine (line_from m)
-  line_sound m told = record { spaceless = sum_no_space key (note_cell (noted m) ++ made_line revived m); small = told.note; one = cells_lack m told }
+  pub line_sound : (m : Made) → FitsLine m → IsLine (line_from m)
+  line_sound m fits = record { spaceless = sum_no_space key (note_cell (noted m) ++ made_line revived m); small = fits.note; one = cells_lack m fits }
 
   cells_fed : (m : Made) → made_line revived m ≡ cells_joined (fields_of m) ++ 10 ∷ []
   unfolding table_line
@@ -70,9 +70,9 @@ module _ (revived : Bool) (key : List ℕ) where
       ap (λ l. checksum key (note_cell (noted m) ++ made_line revived m) ++ 32 ∷ l)
       (ap (λ l. note_text (noted m) ++ 44 ∷ l) (sym (cells_fed m)) ∙ sym (append_assoc (note_text (noted m)) (44 ∷ []) (made_line revived m)))
 
-  pub lines_sound : (made : List Made) → All IsTellable made → All IsLine (setting_from made)
-  lines_sound [] told = All-nil IsLine
-  lines_sound (m ∷ made) told = All-cons IsLine (line_from m) (setting_from made) (line_sound m (All-head IsTellable m made told)) (lines_sound made (All-tail IsTellable m made told))
+  pub lines_sound : (made : List Made) → All FitsLine made → All IsLine (setting_from made)
+  lines_sound [] fits = All-nil IsLine
+  lines_sound (m ∷ made) fits = All-cons IsLine (line_from m) (setting_from made) (line_sound m (All-head FitsLine m made fits)) (lines_sound made (All-tail FitsLine m made fits))
 
   pub setting_in_shard : (made : List Made) → shard_setting (setting_from made) ≡ flat_map (noted_line revived key) made
   setting_in_shard [] = refl
@@ -87,21 +87,21 @@ module _ (revived : Bool) (key : List ℕ) where
   settings_in_shard (setting ∷ made) =
       (λ i. setting_in_shard setting i ++ settings_in_shard made i) ∙ sym (flat_map-append (noted_line revived key) setting (all_of made))
 
-  pub settings_sound : (tree : Data) (sweep : Sweep) (width : ℕ) (numbers : List ℕ) (made : List (List Made)) → AllZip (IsMadeUntil tree sweep width) numbers made → All (All IsTellable) made
+  pub settings_sound : (tree : Data) (sweep : Sweep) (width : ℕ) (numbers : List ℕ) (made : List (List Made)) → AllZip (IsMadeUntil tree sweep width) numbers made → All (All FitsLine) made
       → All (IsSetting width (seed_count sweep.seeds)) (settings_from made)
-  settings_sound tree sweep width [] [] are told = All-nil (IsSetting width (seed_count sweep.seeds))
-  settings_sound tree sweep width [] (setting ∷ made) are told = absurd are
-  settings_sound tree sweep width (number ∷ numbers) [] are told = absurd are
-  settings_sound tree sweep width (number ∷ numbers) (setting ∷ made) are told =
+  settings_sound tree sweep width [] [] are fits = All-nil (IsSetting width (seed_count sweep.seeds))
+  settings_sound tree sweep width [] (setting ∷ made) are fits = absurd are
+  settings_sound tree sweep width (number ∷ numbers) [] are fits = absurd are
+  settings_sound tree sweep width (number ∷ numbers) (setting ∷ made) are fits =
       All-cons (IsSetting width (seed_count sweep.seeds)) (setting_from setting) (settings_from made)
       (record {
-        sound = lines_sound setting (All-head (All IsTellable) setting made told);
+        sound = lines_sound setting (All-head (All FitsLine) setting made fits);
         enough = subst (AreEnough width (seed_count sweep.seeds)) (sym (setting_noted setting)) are.0.enough;
       })
-      (settings_sound tree sweep width numbers made are.1 (All-tail (All IsTellable) setting made told))
+      (settings_sound tree sweep width numbers made are.1 (All-tail (All FitsLine) setting made fits))
 
   pub sums_so : (made : List (List Made)) (settings : List SettingSummary) → AllZip SumsUpLines (settings_from made) settings → AllZip SumsUp made settings
-  sums_so [] [] told = tt
-  sums_so [] (c ∷ settings) told = absurd told
-  sums_so (setting ∷ made) [] told = absurd told
-  sums_so (setting ∷ made) (c ∷ settings) told = (subst (λ notes. IsSummaryOf c notes) (setting_noted setting) told.0, sums_so made settings told.1)
+  sums_so [] [] sums = tt
+  sums_so [] (c ∷ settings) sums = absurd sums
+  sums_so (setting ∷ made) [] sums = absurd sums
+  sums_so (setting ∷ made) (c ∷ settings) sums = (subst (λ notes. IsSummaryOf c notes) (setting_noted setting) sums.0, sums_so made settings sums.1)

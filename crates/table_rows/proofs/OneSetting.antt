@@ -84,12 +84,12 @@ module _ (width : ℕ) (text left next : List ℕ) (before after : SettingRuns) 
   wide_yet : IsWide width both
   wide_yet = subst (IsWide width) (sym (noted_both lines (line ∷ []))) (wide_push width (notes_of lines) line.note goes.wide goes.open_yet)
 
-  module _ (answer : Bool) (tells : (runs : List Note) → AreKept runs after → answer ≡ is_narrow_of width runs) where
-    told : answer ≡ is_narrow_of width both
-    told = tells both line_added.holds
+  module _ (answer : Bool) (answers : (runs : List Note) → AreKept runs after → answer ≡ is_narrow_of width runs) where
+    answered : answer ≡ is_narrow_of width both
+    answered = answers both line_added.holds
 
     pub goes_further : answer ≡ false → GoesSo width text next after (count + 1)
-    goes_further is = record { so = line_added; wide = wide_yet; open_yet = sym told ∙ is }
+    goes_further is = record { so = line_added; wide = wide_yet; open_yet = sym answered ∙ is }
 
     pub setting_ends : (each : ℕ) → count < each → answer ≡ true → ReadsSetting width each text next after
     setting_ends each within is = record {
@@ -97,7 +97,7 @@ module _ (width : ℕ) (text left next : List ℕ) (before after : SettingRuns) 
         one = lines ++ line ∷ [];
         sound = record {
           sound = line_added.sound;
-          enough = record { few = omega (arith, within, line_added.many, noted_long (lines ++ line ∷ [])); wide = wide_yet; ends = inl (sym told ∙ is) };
+          enough = record { few = omega (arith, within, line_added.many, noted_long (lines ++ line ∷ [])); wide = wide_yet; ends = inl (sym answered ∙ is) };
         };
         written = line_added.written;
       };

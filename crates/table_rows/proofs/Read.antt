@@ -45,7 +45,7 @@ lines_read Had Has text left at count counted none so =
 -- the summaries of settings come behind others
 pub record AreSummedUp (before after : List SettingSummary) (own : List (List Line)) : Type 0 where
   pub summaries : List SettingSummary
-  pub told : AllZip SumsUpLines own summaries
+  pub summed : AllZip SumsUpLines own summaries
   pub added : after ≡ before ++ summaries
 
 module _ (width each : ℕ) where
@@ -53,7 +53,7 @@ module _ (width each : ℕ) where
   SumsUpSome text left before after count = Reads (IsSetting width each) shard_setting (AreSummedUp before after) text left count
 
   pub no_settings : (text : List ℕ) (settings : List SettingSummary) → SumsUpSome text text settings settings 0
-  no_settings text settings = none_read (IsSetting width each) shard_setting (AreSummedUp settings settings) text (record { summaries = []; told = tt; added = sym (append-nil settings) })
+  no_settings text settings = none_read (IsSetting width each) shard_setting (AreSummedUp settings settings) text (record { summaries = []; summed = tt; added = sym (append-nil settings) })
 
   pub settings_more : (text left next : List ℕ) (before between after : List SettingSummary) (count : ℕ) → SumsUpSome text left before between count
       → SumsUpSetting width each left next between after → SumsUpSome text next before after (count + 1)
@@ -61,7 +61,7 @@ module _ (width each : ℕ) where
       one_more (IsSetting width each) shard_setting (AreSummedUp before between) (AreSummedUp before after) text left next count so one.begins
       (record {
         summaries = so.holds.summaries ++ one.summary ∷ [];
-        told = zipped_both SumsUpLines so.items (one.begins.one ∷ []) so.holds.summaries (one.summary ∷ []) so.holds.told (one.told, tt);
+        summed = zipped_both SumsUpLines so.items (one.begins.one ∷ []) so.holds.summaries (one.summary ∷ []) so.holds.summed (one.summed, tt);
         added = one.added ∙ ap (λ l. l ++ one.summary ∷ []) so.holds.added ∙ append_assoc before so.holds.summaries (one.summary ∷ []);
       })
 
@@ -69,4 +69,4 @@ module _ (width each : ℕ) where
       → ReadsSettings width each text count before after
   settings_read text left before after at count counted none so =
       let all = all_read (IsSetting width each) shard_setting (AreSummedUp before after) text left at count counted none so in
-      record { are = all.0; summaries = all.1.summaries; told = all.1.told; added = all.1.added }
+      record { are = all.0; summaries = all.1.summaries; summed = all.1.summed; added = all.1.added }

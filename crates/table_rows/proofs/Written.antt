@@ -27,10 +27,10 @@ use Rattle.figures.specs.Notes.{note_cell, note_text}
 use Rattle.line_sums.proofs.Cuts.{sum_no_feed}
 use Rattle.sweep_plan.specs.Items.{item_text}
 use Rattle.sweep.specs.Runs.{IsMadeAs, IsRunAt, Made, Planned, noted}
-use Rattle.sweep.specs.Sums.{AreLinesOf, IsFed, IsLineOf, IsPlaced, IsToldOf, known_seed}
+use Rattle.sweep.specs.Sums.{AreLinesOf, IsFed, IsLineOf, IsPlaced, IsBehindMetadata, known_seed}
 use Rattle.sweep.specs.declared.summing.LineKey.{LineKey}
 use Rattle.sweep.specs.Table.{made_line, noted_line, texts_of}
-use Rattle.table_rows.specs.Made.{IsTellable}
+use Rattle.table_rows.specs.Made.{FitsLine}
 use Rattle.table_rows.specs.Open.{HasRowOf}
 use Rattle.table_rows.proofs.Bytes.{lacks_both, lacks_cons}
 use Rattle.figures.proofs.SameNotes.{note_lacks}
@@ -69,7 +69,7 @@ seed_of tree setting seed m ms is accepted =
     judged_so _ m (least_broken (with_entry key.Seed (integer (pos seed)) (fold with_choice tree setting))) accepted in
     ap (λ (s : Setup). s.seed) (sym read) ∙ ap (λ (t : Data). (setup_of_tree (with_entry key.Seed (integer (pos seed)) t)).seed) inner.1 ∙ seed_read seed inner.0
 
-module _ (key : LineKey) (members : Members) (sweep : Sweep) (number : ℕ) (p : Planned) (m : Made) (there : IsRunAt sweep number p) (is : IsMadeAs (table members) p m) (told : IsTellable m)
+module _ (key : LineKey) (members : Members) (sweep : Sweep) (number : ℕ) (p : Planned) (m : Made) (there : IsRunAt sweep number p) (is : IsMadeAs (table members) p m) (fits : FitsLine m)
     (own : p.seed ≡ None → ForSome key.own (λ s. m.scenario.seed ≡ s)) where
   abbrev revived : Bool
   revived = key.revived
@@ -86,20 +86,20 @@ module _ (key : LineKey) (members : Members) (sweep : Sweep) (number : ℕ) (p :
           λ k one. same ∙ same_Some seed k one
 
   -- what stands behind its metadata
-  told_line : IsToldOf key sweep number (noted m) (made_line revived m)
-  told_line = record {
+  its_cells : IsBehindMetadata key sweep number (noted m) (made_line revived m)
+  its_cells = record {
     planned = p;
     there = there;
     seed = m.scenario.seed;
     seeded = seeded;
     run = figures_of m.scenario m.rows;
     agrees = made_agrees m.scenario m.rows;
-    small = All-cons Small (Some m.scenario.seed) (figures_in_order revived (figures_of m.scenario m.rows)) (λ n one. subst (λ k. k < 2 ^ 63) (same_Some m.scenario.seed n one) told.seed) (told.figures revived);
+    small = All-cons Small (Some m.scenario.seed) (figures_in_order revived (figures_of m.scenario m.rows)) (λ n one. subst (λ k. k < 2 ^ 63) (same_Some m.scenario.seed n one) fits.seed) (fits.figures revived);
     written = ap (λ chosen. run_line revived (texts_of chosen) m.scenario.seed (figures_of m.scenario m.rows)) is.same;
   }
 
   placed : IsPlaced key sweep number (note_cell (noted m) ++ made_line revived m)
-  placed = record { note = noted m; small = told.note; behind = made_line revived m; told = told_line; written = refl }
+  placed = record { note = noted m; small = fits.note; behind = made_line revived m; cells = its_cells; written = refl }
 
   -- it has one line feed
   fed : IsFed (noted_line revived key.digest m)
@@ -110,7 +110,7 @@ module _ (key : LineKey) (members : Members) (sweep : Sweep) (number : ℕ) (p :
         body = l.sum ++ 32 ∷ rest;
         one = lacks_both 10 l.sum (32 ∷ rest) (sum_no_feed key.digest (note_cell (noted m) ++ made_line revived m))
             (lacks_cons 10 32 rest refl
-            (lacks_both 10 (note_text l.note) (44 ∷ l.body) (note_lacks 10 (lit< tt) refl l.note told.note) (lacks_cons 10 44 l.body refl (line_sound revived key.digest m told).one)));
+            (lacks_both 10 (note_text l.note) (44 ∷ l.body) (note_lacks 10 (lit< tt) refl l.note fits.note) (lacks_cons 10 44 l.body refl (line_sound revived key.digest m fits).one)));
         fed = sym (line_in_shard revived key.digest m)
             ∙ ap (λ x. l.sum ++ 32 ∷ x) (sym (append_assoc (note_text l.note) (44 ∷ l.body) (10 ∷ [])))
             ∙ sym (append_assoc l.sum (32 ∷ rest) (10 ∷ []));
@@ -125,7 +125,7 @@ module _ (key : LineKey) (members : Members) (sweep : Sweep) (number : ℕ) (p :
     record {
       one = line_from revived key.digest m;
       sound = record {
-        sound = line_sound revived key.digest m told;
+        sound = line_sound revived key.digest m fits;
         placed = subst (λ l. AreLinesOf key sweep number l 1) (sym (line_in_shard revived key.digest m))
             (record { lines = noted_line revived key.digest m ∷ []; are = (line_written, tt); written = sym (append-nil (noted_line revived key.digest m)) ∙ sym (append-nil (noted_line revived key.digest m ++ [])) });
       };

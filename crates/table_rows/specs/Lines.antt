@@ -3,7 +3,7 @@ use Rattle.std.specs.Prelude.{◌≡◌, ◌==◌, ℕ, List, [], ◌∷◌, ◌
 use Rattle.figures.specs.Notes.{Note, IsSmall, note_text}
 use Rattle.table_rows.specs.Items.{BeginsWith, IsAllOf}
 
--- a line: its checksum, the note before it, and what it tells, without its line feed
+-- a line: its checksum, the note before it, and what else it has, without its line feed
 pub record Line : Type 0 where
   pub sum : List ℕ
   pub note : Note

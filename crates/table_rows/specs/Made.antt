@@ -1,4 +1,4 @@
--- What a run that was made tells in its line.
+-- Runs whose lines can be read again.
 use Rattle.std.specs.Prelude.{◌<◌, ◌^◌, Bool, All}
 use Rattle.std.specs.Option.{ForSome}
 use Rattle.sweep_plan.specs.Values.{FitsToml}
@@ -8,7 +8,7 @@ use Rattle.figures.specs.Notes.{IsSmall}
 use Rattle.sweep.specs.Runs.{Made, noted}
 
 -- it is written in few digits: each of its values, its figures and those of its note is at most 2^63 - 1
-pub record IsTellable (m : Made) : Type 0 where
+pub record FitsLine (m : Made) : Type 0 where
   pub note : IsSmall (noted m)
   pub values : All (λ c. FitsToml c.value) m.setting
   pub seed : m.scenario.seed < 2 ^ 63

@@ -38,7 +38,7 @@ pub record ReadsSetting (width each : ℕ) (text left : List ℕ) (kept : Settin
 pub record SumsUpSetting (width each : ℕ) (text left : List ℕ) (before after : List SettingSummary) : Type 0 where
   pub begins : BeginsWith (IsSetting width each) shard_setting text left
   pub summary : SettingSummary
-  pub told : SumsUpLines begins.one summary
+  pub summed : SumsUpLines begins.one summary
   pub added : after ≡ before ++ summary ∷ []
 
 -- the text is so many settings
@@ -49,7 +49,7 @@ AreSettings width each text count = IsAllOf (IsSetting width each) shard_setting
 pub record ReadsSettings (width each : ℕ) (text : List ℕ) (count : ℕ) (before after : List SettingSummary) : Type 0 where
   pub are : AreSettings width each text count
   pub summaries : List SettingSummary
-  pub told : AllZip SumsUpLines are.items summaries
+  pub summed : AllZip SumsUpLines are.items summaries
   pub added : after ≡ before ++ summaries
 
 -- ---- settings whose lines are those of the runs at their places

@@ -16,20 +16,9 @@ use figures::RunMetadata;
 use shards::Shard;
 use std::alloc::Global;
 use std::str::from_utf8;
-use sweep::{BegunFault, LineKey, key_of_text, lines_behind};
+use sweep::{Begun, BegunFault, LineKey, key_of_text, lines_behind};
 use sweep_plan::Plan;
 use toml::Value;
-
-/// What of the table of a shard was made before it was cut off, where a setting has as many runs as it needs.
-#[derive(Drop)]
-pub struct BegunSettings {
-    /// How many bytes of it stay: its first line, or a beginning of that, and whole lines behind it.
-    pub kept: usize,
-    /// How many settings have the lines of all their runs there.
-    pub settings: usize,
-    /// The metadata of the other lines there: those of the next setting, which needs more runs.
-    pub started: Vec<RunMetadata>,
-}
 
 /// What stands of a shard's table in a text, where a setting has as many runs as make its interval so many hundredths wide at
 /// most: its first line or a beginning of that, and behind it the lines of its first settings, and of the first runs of the next one.
@@ -44,17 +33,17 @@ pub fn begun_settings_of(
     width: u64,
     document: &Value,
     text: &[u8],
-) -> Result<BegunSettings, BegunFault>
+) -> Result<Begun, BegunFault>
     requires asked { IsAskedFor plan.now }
     requires shard { IsShard shard }
     requires wanted { plan.now.until ≡ Some width }
-    ensures begun { IfOk result (λ begun. IsBegunSettings (view document.now) mark.now plan.now width shard text.now begun.kept begun.settings begun.started.items) }
+    ensures begun { IfOk result (λ begun. IsBegunSettings (view document.now) mark.now plan.now width shard text.now begun.kept begun.count begun.started.items) }
     ensures refused { IfErr result (RefusesBegunSettings (view document.now) mark.now plan.now shard text.now) }
 {
     let Some(lines) = lines_behind(alloc, plan, shard, mark, document, text)? else {
-        return Ok(BegunSettings {
+        return Ok(Begun {
             kept: text.len(),
-            settings: 0,
+            count: 0,
             started: Vec::new(alloc),
         });
     };
@@ -64,9 +53,8 @@ pub fn begun_settings_of(
     let most = shard.past(count) - first;
     let words = read_front(lines);
     let stood = settings_of_runs(alloc, plan, &key, width, first, most, words)?;
-    let settings = stood.count;
     let mut started = Vec::new(alloc);
-    let number = first + settings;
+    let number = first + stood.count;
     let left = behind_open(
         alloc,
         plan,
@@ -77,9 +65,9 @@ pub fn begun_settings_of(
         &mut started,
     )?;
     let kept = kept_of(text, lines, words, left);
-    Ok(BegunSettings {
+    Ok(Begun {
         kept,
-        settings,
+        count: stood.count,
         started,
     })
 }

@@ -7,11 +7,11 @@ ghost use Rattle.sweep.specs.Runs.{IsMadeAs, IsRunAt, Made, Planned};
 ghost use Rattle.sweep.specs.Sums.{IsLineOf};
 ghost use Rattle.sweep.specs.Table.{noted_line};
 ghost use Rattle.sweep.specs.declared.summing.LineKey.{LineKey};
-ghost use Rattle.table_rows.specs.Made.{IsTellable};
+ghost use Rattle.table_rows.specs.Made.{FitsLine};
 ghost use Rattle.table_rows.specs.Open.{HasRowOf};
 ghost use Rattle.figures.specs.Notes.{Note};
 ghost use Rattle.shards.specs.declared.shard.Shard.{Shard};
-ghost use Rattle.sweep_until.specs.Shards.{WritesShardUntil, WritesRestUntil};
+ghost use Rattle.sweep_until.specs.Shards.{WritesRestUntil};
 ghost use Rattle.sweep.specs.declared.begun.BegunFault.TheVariants as begun_fault;
 ghost use Rattle.table_rows.specs.Begun.{IsBegunSettings, RefusesBegunSettings};
 ghost use Rattle.table_rows.specs.Cut.{IsCutShardOfSettings};
@@ -20,10 +20,10 @@ ghost use Rattle.table_rows.specs.Cut.{IsCutShardOfSettings};
 /// seed that is asked for there or, where none is and it is known, that of the run's text, and its metadata agrees with its figures.
 pub fn a_written_line_is_its_runs()
     ensures genuine { (key : LineKey) (members : Members) (sweep : Sweep) (number : ℕ) (p : Planned) (m : Made) → IsRunAt sweep number p
-        → IsMadeAs (table members) p m → IsTellable m → (p.seed ≡ None → ForSome key.own (λ s. m.scenario.seed ≡ s))
+        → IsMadeAs (table members) p m → FitsLine m → (p.seed ≡ None → ForSome key.own (λ s. m.scenario.seed ≡ s))
         → IsLineOf key sweep number (noted_line key.revived key.digest m) }
     ensures read { (key : LineKey) (members : Members) (sweep : Sweep) (number : ℕ) (p : Planned) (m : Made) (behind : List ℕ) → IsRunAt sweep number p
-        → IsMadeAs (table members) p m → IsTellable m → (p.seed ≡ None → ForSome key.own (λ s. m.scenario.seed ≡ s))
+        → IsMadeAs (table members) p m → FitsLine m → (p.seed ≡ None → ForSome key.own (λ s. m.scenario.seed ≡ s))
         → HasRowOf key sweep number (noted_line key.revived key.digest m ++ behind) }
 {}
 
@@ -32,7 +32,7 @@ pub fn a_written_line_is_its_runs()
 pub fn a_cut_shard_of_settings_goes_on()
     ensures goes_on { (tree : Data) (mark : List ℕ) (sweep : Sweep) (width : ℕ) (p : Shard) (made : List (List Made)) (text : List ℕ) (kept settings : ℕ) (before : List Note) (new : Option (List ℕ))
         → IsCutShardOfSettings tree mark sweep width p made text → IsBegunSettings tree mark sweep width p text kept settings before
-        → WritesRestUntil tree mark sweep p kept settings before (Some (take kept text)) new → WritesShardUntil tree mark sweep p (Some []) new }
+        → WritesRestUntil tree mark sweep p kept settings before (Some (take kept text)) new → WritesRestUntil tree mark sweep p 0 0 [] (Some []) new }
     ensures taken { (tree : Data) (mark : List ℕ) (sweep : Sweep) (width : ℕ) (p : Shard) (made : List (List Made)) (text : List ℕ)
         → IsCutShardOfSettings tree mark sweep width p made text → ¬ (RefusesBegunSettings tree mark sweep p text begun_fault.Other) }
 {}

@@ -9,7 +9,7 @@ mod lines;
 mod opened;
 mod settings_of;
 
-pub use begun::{BegunSettings, begun_settings_of};
+pub use begun::begun_settings_of;
 pub use by_settings::{read_setting, read_settings};
 pub use fault::LineFault;
 pub use lines::{read_line, read_lines};

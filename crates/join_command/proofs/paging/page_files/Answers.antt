@@ -6,7 +6,7 @@ use Rattle.clap.specs.Words.{Text}
 use Rattle.files.specs.Files.{Making}
 use Rattle.scenario_files.specs.Shelves.{Shelf}
 use Rattle.join_command.specs.Outcomes.{FailsToStorePage, GathersSettings, StoresPage}
-use Rattle.join_command.proofs.Told.{on_ok_then}
+use Rattle.join_command.proofs.Held.{on_ok_then}
 use Rattle.join_command.proofs.paging.page_files.Goals as goal
 
 pub returns-clause-done : goal.returns-clause-done

@@ -1,7 +1,7 @@
 -- the files hold the texts, or one of them was not read
 use Rattle.std.proofs.Common.{◌≡◌, ◌∙◌, ◌∷◌, ◌++◌, [], rules, subst}
 use Rattle.scenario_files.proofs.Held.{handed_on}
-use Rattle.join_command.proofs.Told.{memory_at, text_more, unread_at}
+use Rattle.join_command.proofs.Held.{memory_at, text_more, unread_at}
 use Rattle.join_command.proofs.reading.load_texts.Goals as goal
 
 pub loop-name-preserved : goal.loop-name-preserved

@@ -1,7 +1,7 @@
 -- what the file holds of a text, where it was stored and where it wasn't
 use Rattle.scenario_files.proofs.Held.{told_failed, each_err_with}
 use Rattle.sweep_output.proofs.Counted.{one_closed}
-use Rattle.join_command.proofs.Stored.{begun, each_on_ok, is_refused, stored, told_on_ok}
+use Rattle.join_command.proofs.Stored.{begun, each_on_ok, is_refused, stored, handed_on_ok}
 use Rattle.join_command.proofs.storing.store.Goals as goal
 
 pub returns-clause-done : goal.returns-clause-done
@@ -9,7 +9,7 @@ returns-clause-done g c =
     let known = g.F.Files.known in
     let making = g.F.Files.making c.args.files.now in
     let filled = c.fill-made in
-    told_on_ok _ filled.result.1 c.run_result.result c.run_result.ensures
+    handed_on_ok _ filled.result.1 c.run_result.result c.run_result.ensures
     (each_on_ok filled.result.1 filled.ensures.whole (λ written.
     stored c.args.source.now c.args.name.now making (known c.args.files.now) (known c.make_whole.new.self) (known c.close.new.self) _ _
     c.in-Ok.ensures.apart c.in-Ok.ensures.others c.close.ensures.others c.in-Ok.ensures.empty c.in-Ok.ensures.made c.close.ensures.closed c.args.text.now written))

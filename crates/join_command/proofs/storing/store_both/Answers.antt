@@ -1,7 +1,7 @@
 -- what the files hold of a table and a page, where they were stored and where they weren't
 use Rattle.scenario_files.proofs.Held.{told_failed, each_err_with}
 use Rattle.sweep_output.proofs.Counted.{both_closed}
-use Rattle.join_command.proofs.Stored.{both_begun, both_stored, each_on_ok, is_refused, told_on_ok}
+use Rattle.join_command.proofs.Stored.{both_begun, both_stored, each_on_ok, is_refused, handed_on_ok}
 use Rattle.join_command.proofs.storing.store_both.Goals as goal
 
 pub returns-clause-done : goal.returns-clause-done
@@ -9,7 +9,7 @@ returns-clause-done g c =
     let known = g.F.Files.known in
     let making = g.F.Files.making c.args.files.now in
     let filled = c.fill_both-made in
-    told_on_ok _ filled.result.2 c.run_result.result c.run_result.ensures
+    handed_on_ok _ filled.result.2 c.run_result.result c.run_result.ensures
     (each_on_ok filled.result.2 filled.ensures.whole (λ written.
     both_stored c.args.source.now c.args.name.now c.args.page.now making (known c.args.files.now) (known c.make_both_whole.new.self) (known c.close.new.self) (known c.close-2.new.self)
     c.in-Ok.ensures.apart c.in-Ok.ensures.differ c.in-Ok.ensures.others c.close.ensures.others c.close-2.ensures.others

@@ -1,6 +1,6 @@
 use Rattle.std.proofs.Common.{ap, is_some, rules}
 use Rattle.figures.proofs.MetadataWords.{if_ok_then}
-use Rattle.shard_merge.proofs.Heads.{asked_by, no_plans_are, none_parted, none_split, one_parted, plans_are, told_number, words_cut}
+use Rattle.shard_merge.proofs.Heads.{asked_by, no_plans_are, none_parted, none_split, one_parted, plans_are, number_said, words_cut}
 use Rattle.shard_merge.proofs.head.read_plan.Goals as goal
 
 pub returns-then-is_empty-clause-refused : goal.returns-then-is_empty-clause-refused
@@ -27,7 +27,7 @@ returns-in_default-clause-refused c =
 
 pub returns-in_default-number-clause-refused : goal.returns-in_default-number-clause-refused
 returns-in_default-number-clause-refused c _ sweep asked is =
-    told_number c.as_slice-listed.result.now c.first_or-first.result.now c.in-Some.word.now c.args.words.now sweep asked is c.in-Some.ensures.some
+    number_said c.as_slice-listed.result.now c.first_or-first.result.now c.in-Some.word.now c.args.words.now sweep asked is c.in-Some.ensures.some
     (words_cut c.in_ok-all.all.items c.as_slice-listed.result.now c.first_or-first.result c.args.words c.args.words.now c.as_slice-listed.ensures.value c.first_or-first.ensures
     c.in_ok-all.ensures.all sweep asked is)
     (c.number.ensures.none (ap is_some c.in_default-number.is))

@@ -10,9 +10,9 @@ returns-in_default-clause-refused c = inr (_, c.text_at-bytes.ensures, inl (sear
 pub returns-in-None-clause-refused : goal.returns-in-None-clause-refused
 returns-in-None-clause-refused c =
     let same = (rw c.in-Ok.is at c.from_utf8.ensures.cases).0 in
-    let untold = c.in_ok-head.ensures.none (ap is_some c.in_default-2.is) in
-    let told = c.in_ok-head-2.ensures.none (ap is_some c.in-None.is) in
-    inr (_, c.text_at-bytes.ensures, inr (subst BeginsAsNone same (neither _ untold told)))
+    let without = c.in_ok-head.ensures.none (ap is_some c.in_default-2.is) in
+    let with_it = c.in_ok-head-2.ensures.none (ap is_some c.in-None.is) in
+    inr (_, c.text_at-bytes.ensures, inr (subst BeginsAsNone same (neither _ without with_it)))
 
 pub returns-in-Some-clause-first : goal.returns-in-Some-clause-first
 returns-in-Some-clause-first c =

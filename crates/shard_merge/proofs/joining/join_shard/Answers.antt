@@ -17,8 +17,8 @@ pub returns-in-Ok-clause-whole : goal.returns-in-Ok-clause-whole
 returns-in-Ok-clause-whole g c =
     let head = c.args.head.now in
     let behind = c.in_ok-behind.ensures.there in
-    let read = subst (λ p. ReadsBehind head.plan.until (line_key head.revived (Some c.args.seed) head.mark.now head.plan) head.plan p c.in_ok-behind.behind.lines.now c.args.told.now c.read.new.self) c.shard_at-shard.ensures.same
-    (subst (λ k. ReadsBehind head.plan.until k head.plan c.shard_at-shard.result c.in_ok-behind.behind.lines.now c.args.told.now c.read.new.self) c.in_ok-key.ensures c.in-Ok.ensures.read) in
+    let read = subst (λ p. ReadsBehind head.plan.until (line_key head.revived (Some c.args.seed) head.mark.now head.plan) head.plan p c.in_ok-behind.behind.lines.now c.args.so_far.now c.read.new.self) c.shard_at-shard.ensures.same
+    (subst (λ k. ReadsBehind head.plan.until k head.plan c.shard_at-shard.result c.in_ok-behind.behind.lines.now c.args.so_far.now c.read.new.self) c.in_ok-key.ensures c.in-Ok.ensures.read) in
     on_ok_then _ _ c.put_lines.result c.put_lines.ensures.whole (λ put. record {
       body = c.in_ok-behind.behind.lines.now;
       there = among c.args.texts.now _ _ _ behind.there behind.written;

@@ -5,7 +5,7 @@ use Rattle.sweep.specs.Table.{Course}
 use Rattle.sweep.specs.Summaries.{HasCome}
 use Rattle.sweep.proofs.chunks.make_runs.Given as goal
 
--- the lines of the first runs are written, what is told of them is gathered, and the table has not failed
+-- the lines of the first runs are written, what their settings keep of them is gathered, and the table has not failed
 abbrev pub invariant-loop-next : goal.invariant-loop-next
 invariant-loop-next g l = record {
   low : l.from ≤ l.next;

@@ -1,7 +1,7 @@
 use Rattle.std.proofs.Common.{◌≡◌, false, refl, true}
 use Rattle.figures.proofs.MetadataWords.{if_ok_then}
 use Rattle.sweep.specs.Sums.{IsPlaced}
-use Rattle.sweep.proofs.Cells.{no_comma, no_metadata, not_told, placed_so}
+use Rattle.sweep.proofs.Cells.{no_comma, no_metadata, not_so, placed_so}
 use Rattle.sweep.proofs.standing.is_placed.Goals as goal
 
 pub returns-in_default-clause-none : goal.returns-in_default-clause-none
@@ -13,12 +13,12 @@ returns-in-None-clause-none c = λ _.
 
 pub returns-in-Some-2-clause-placed : goal.returns-in-Some-2-clause-placed
 returns-in-Some-2-clause-placed c =
-    if_ok_then c.is_told_of.result _ (λ it. it ≡ true → IsPlaced c.args.key.now c.args.plan.now c.args.number c.args.line.now) c.is_told_of.ensures.told
-    (λ it told so.
-    placed_so c.args.key.now c.args.plan.now c.args.number c.args.line.now c.in-Some.word.now c.in-Some.behind.now c.in-Some.ensures.some _ (rw c.in-Some-2.is at c.in_ok-metadata.ensures.some) (told so))
+    if_ok_then c.is_behind_metadata.result _ (λ it. it ≡ true → IsPlaced c.args.key.now c.args.plan.now c.args.number c.args.line.now) c.is_behind_metadata.ensures.is
+    (λ it its so.
+    placed_so c.args.key.now c.args.plan.now c.args.number c.args.line.now c.in-Some.word.now c.in-Some.behind.now c.in-Some.ensures.some _ (rw c.in-Some-2.is at c.in_ok-metadata.ensures.some) (its so))
 
 pub returns-in-Some-2-clause-none : goal.returns-in-Some-2-clause-none
 returns-in-Some-2-clause-none c =
-    if_ok_then c.is_told_of.result _ (λ it. it ≡ false → ¬ (IsPlaced c.args.key.now c.args.plan.now c.args.number c.args.line.now)) c.is_told_of.ensures.none
+    if_ok_then c.is_behind_metadata.result _ (λ it. it ≡ false → ¬ (IsPlaced c.args.key.now c.args.plan.now c.args.number c.args.line.now)) c.is_behind_metadata.ensures.none
     (λ it none so.
-    not_told c.args.key.now c.args.plan.now c.args.number c.args.line.now c.in-Some.word.now c.in-Some.behind.now c.in-Some.ensures.some _ (rw c.in-Some-2.is at c.in_ok-metadata.ensures.some) (none so))
+    not_so c.args.key.now c.args.plan.now c.args.number c.args.line.now c.in-Some.word.now c.in-Some.behind.now c.in-Some.ensures.some _ (rw c.in-Some-2.is at c.in_ok-metadata.ensures.some) (none so))

@@ -18,8 +18,8 @@ push_setting_line-requires c =
     let values : map (λ value. value.now) lent ≡ texts_of setting =
     ap (map (λ value. value.now)) c.deref-3.ensures.value ∙ c.in_ok-values.ensures ∙ ap (map string_bytes) c.deref-2.ensures.value ∙ c.in_ok-texts.ensures ∙ ap texts_of c.deref.ensures.value in
     let long : length setting ≡ length swept_keys = setting_long swept_keys c.args.number setting c.in_ok-setting.ensures.setting in
-    let told : length lent ≡ length setting = sym (length-map lent (λ value. value.now)) ∙ ap length values ∙ length-map setting (λ chosen. value_text chosen.value) in
-    ap length c.requires.wide ∙ length-map swept_keys column_width ∙ sym long ∙ sym told
+    let many : length lent ≡ length setting = sym (length-map lent (λ value. value.now)) ∙ ap length values ∙ length-map setting (λ chosen. value_text chosen.value) in
+    ap length c.requires.wide ∙ length-map swept_keys column_width ∙ sym long ∙ sym many
 
 pub returns : goal.returns
 returns c chosen there =

@@ -12,16 +12,16 @@ pub fill_table-made-requires-clause-few : goal.fill_table-made-requires-clause-f
 fill_table-made-requires-clause-few g c _ _ =
     let words = c.args.words.now in
     let marked = c.args.prepared.now.marked in
-    stood_few (view marked.document) (string_bytes marked.mark) words (g.F.Files.known c.args.files.now words.table.now) c.args.stood.now.kept (standing c.args.stood.now.count c.args.stood.now.started.items)
-    c.requires.asked c.requires.stood
+    stood_few (view marked.document) (string_bytes marked.mark) words (g.F.Files.known c.args.files.now words.table.now) c.args.begun.now.kept (standing c.args.begun.now.count c.args.begun.now.started.items)
+    c.requires.asked c.requires.shard c.requires.stood
 
 pub returns-clause-done : goal.returns-clause-done
 returns-clause-done g c =
     let known = g.F.Files.known in
     let filled = c.fill_table-made in
-    told_done _ filled.result.1 c.run_result.result c.run_result.ensures (each_ok filled.result.1 filled.ensures.whole (λ lines tells.
+    told_done _ filled.result.1 c.run_result.result c.run_result.ensures (each_ok filled.result.1 filled.ensures.whole (λ lines makes.
     table_stored _ _ _ (known c.args.files.now) (known c.make_after.new.self) (known c.close.new.self) _ _ _ _
-    c.in-Ok.ensures.others c.close.ensures.others c.in-Ok.ensures.beginning c.in-Ok.ensures.made c.close.ensures.closed c.args.words.now.shard _ c.requires.stood tells))
+    c.in-Ok.ensures.others c.close.ensures.others c.in-Ok.ensures.beginning c.in-Ok.ensures.made c.close.ensures.closed c.args.words.now.shard _ c.requires.stood makes))
 
 pub returns-clause-failed : goal.returns-clause-failed
 returns-clause-failed g c =

@@ -12,7 +12,7 @@ pub returns-in-Ok-clause-read : goal.returns-in-Ok-clause-read
 returns-in-Ok-clause-read c =
     let reads = c.in_ok-left.ensures.read in
     let summed = c.in-Ok.ensures _ reads.noted in
-    record { begins = reads.begins; summary = summed.0; told = summed.1; added = summed.2 }
+    record { begins = reads.begins; summary = summed.0; summed = summed.1; added = summed.2 }
 
 pub returns-in_err-left-clause-refused : goal.returns-in_err-left-clause-refused
 returns-in_err-left-clause-refused c =
