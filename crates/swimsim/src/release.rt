@@ -3,6 +3,6 @@
 /// The number of the version.
 pub const VERSION: &str = "1.15.0";
 /// The digest of the sources.
-pub const SOURCES: &str = "4f45676c640b157c9d6da35deefea81ec0d3f1a47364b7f668295803fa01b8f6";
+pub const SOURCES: &str = "725233aba943e72432f71ff6137b046900e99e991aa849488b5ee0bdae1335a3";
 /// The kit.
 pub const KIT: &str = "rattle-kit-13f logic dac8208d650f15bf";
