@@ -23,7 +23,7 @@ ON_TERMINAL = [
     ('run two.toml --trace t --tick 2s', 2, ['--tick 2s: write a whole number and us, ms or s, from 1us to 1s, as 1ms\n']),
     ('run two.toml --trace -', 2, ["--trace -: - isn't standard output here; write the name of a file, or ./- for one with the name -\n"]),
     ('check -', 1, ['-: there is no such file; /dev/stdin is standard input\n']),
-    ('run two.toml --trace two.toml', 1, ['one file is named twice: two.toml and two.toml\n']),
+    ('run two.toml --trace two.toml', 1, ['one file is named twice: FILE two.toml and --trace two.toml\n']),
     ('swep two.toml', 2, ['swimsim: usage\n', "unrecognized subcommand 'swep'"]),
 ]
 

@@ -23,6 +23,12 @@ SHARED = 'leave one of them out, or make it with other seeds'
 MISSING = 'make a table with these, and join it too'
 WIDTH = "was made with --until, so it can't get more seeds; make one table with all seeds"
 NO_SEEDS = 'was made without --seeds; make it with a range of seeds'
+SAME = 'has the same runs as another file; leave one of them out'
+TORN = 'has a line that is changed, or lacks one; make the rest with the same sweep, --shard and --resume'
+NO_TABLE = "isn't a table of a sweep; name files that sweep --table or join --table made"
+STRANGE = "doesn't belong to the first table; take tables of one scenario text with the same options"
+RESUMED = 'begins with other runs; resume with the scenario and the options that it was made with, or name another table'
+ABSENT = 'no file is the shard 2; make it with the same sweep and its --shard, and name it too'
 TEXTS = 'are of two scenario texts; make both of one text, byte for byte'
 
 
@@ -67,8 +73,8 @@ def check_resumed(program, sweep, piece):
         program.keep('t.csv', whole[:ends[0]])
         told = program.call([*words, '--resume', '--progress']).err
         if 'until' not in sweep:
-            expect_progress(told, len(ends), None)
-        if told.startswith(b'1/'):
+            expect_progress(told, len(ends), 1)
+        if told.startswith(b'0/'):
             raise Wrong(f'progress: {told}')
     expect_kept(program, words, whole)
     (program.folder / 't.csv').unlink()
@@ -80,7 +86,8 @@ def check_resumed(program, sweep, piece):
         program.keep('t.csv', held)
         expect_ran(program.call([*words, '--resume']), 0, b'', b'', 'damaged')
         expect('damaged', program.held('t.csv'), whole)
-    refused = [(b'another table\n', 'of another sweep'), (whole.replace(piece.encode(), b'1/3', 1), 'of another sweep')]
+    other = f'of another sweep\nt.csv {RESUMED}'
+    refused = [(b'another table\n', other), (whole.replace(piece.encode(), b'1/3', 1), other)]
     refused += [(without_checksums(whole), OLDER)] if ends else []
     for held, line in refused:
         program.keep('t.csv', held)
@@ -137,9 +144,9 @@ def expect_refused(program, wanted):
         expect('table', program.held('t.csv'), b'an older table\n')
 
 
-def beside_the_first(line, *names):
-    """The first piece joined with each of these tables, of which this line is reported."""
-    return [(['1.csv', f'{name}.csv'], f'piece {name}.csv {line}') for name in names]
+def beside_the_first(line, *names, why=None):
+    """The first piece joined with each of these tables, of which this line is reported, and maybe this reason."""
+    return [(['1.csv', f'{name}.csv'], f'piece {name}.csv {line}', *([f'{name}.csv {why}'] if why else [])) for name in names]
 
 
 def check_refused(program, sweep):
@@ -155,16 +162,16 @@ def check_refused(program, sweep):
     program.keep('doubled.csv', b''.join([header, *lines[:1], *lines[:1], *lines[2:]]))
     program.keep('mixed.csv', b''.join([header, *lines[:-1], program.held('1.csv').splitlines(keepends=True)[-1]]))
     expect_refused(program, [
-        (['1.csv'], 'piece 2 missing'),
-        (['2.csv', '2.csv'], 'piece 2.csv twice'),
-        *beside_the_first('torn', 'torn', 'short', 'swapped', 'doubled', 'mixed'),
+        (['1.csv'], 'piece 2 missing', ABSENT),
+        (['2.csv', '2.csv'], 'piece 2.csv twice', f'2.csv {SAME}'),
+        *beside_the_first('torn', 'torn', 'short', 'swapped', 'doubled', 'mixed', why=TORN),
         *beside_the_first(OLDER, 'older'),
         (['1.csv', 'other.csv'], 'piece other.csv of another sweep', f'1.csv and other.csv {UNLIKE}'),
-        (['1.csv', 's.toml'], 'no piece s.toml'),
+        (['1.csv', 's.toml'], 'no piece s.toml', f's.toml {NO_TABLE}'),
         (['all.csv', 'all.csv'], 'piece all.csv twice', f'all.csv and all.csv both have the seeds {sweep["seeds"]}; {SHARED}'),
         (['all.csv', '1.csv', '2.csv'], 'piece 1.csv of another sweep', f'1.csv {SHARD}'),
         (['1.csv', '2.csv', 'all.csv'], 'piece all.csv of another sweep', f'1.csv {SHARD}'),
-        (['plain.csv'], 'no piece plain.csv'),
+        (['plain.csv'], 'no piece plain.csv', f'plain.csv {NO_TABLE}'),
     ])
 
 
@@ -182,14 +189,14 @@ def check_widths_refused(program, sweep):
     program.keep('widest.csv', b''.join(second).replace(width, b'until=101', 1))
     program.keep('whole.csv', b''.join(second).replace(b' ' + width, b'', 1))
     expect_refused(program, [
-        (['1.csv'], 'piece 2 missing'),
-        (['2.csv', '1.csv', '2.csv'], 'piece 2.csv twice'),
-        (['short.csv', '1.csv'], 'piece short.csv torn'),
-        *beside_the_first('torn', 'torn', 'long', 'more', 'none'),
+        (['1.csv'], 'piece 2 missing', ABSENT),
+        (['2.csv', '1.csv', '2.csv'], 'piece 2.csv twice', f'2.csv {SAME}'),
+        (['short.csv', '1.csv'], 'piece short.csv torn', f'short.csv {TORN}'),
+        *beside_the_first('torn', 'torn', 'long', 'more', 'none', why=TORN),
         (['1.csv', 'wider.csv'], 'piece wider.csv of another sweep', f'1.csv and wider.csv {UNLIKE}'),
         (['1.csv', 'whole.csv'], 'piece whole.csv of another sweep', f'1.csv and whole.csv {UNLIKE}'),
-        *beside_the_first('of another sweep', 'widest'),
-        (['widest.csv'], 'no piece widest.csv'),
+        *beside_the_first('of another sweep', 'widest', why=STRANGE),
+        (['widest.csv'], 'no piece widest.csv', f'widest.csv {NO_TABLE}'),
     ])
 
 
@@ -219,7 +226,7 @@ def check_told(program, sweep, count):
     program.keep('q.html', 'an older page\n')
     program.keep('plain.csv', without_notes(program.held('w.csv')))
     for held in ('plain.csv', 's.toml'):
-        expect_ran(program.call(['page', held, '--out', 'q.html']), 3, b'', f'swimsim: no piece {held}\n'.encode(), held)
+        expect_ran(program.call(['page', held, '--out', 'q.html']), 3, b'', f'swimsim: no piece {held}\n{held} {NO_TABLE}\n'.encode(), held)
         expect('older page', program.held('q.html'), b'an older page\n')
 
 
@@ -305,14 +312,14 @@ def check_seeds_refused(program):
         (['a.csv', 'text.csv'], 'piece text.csv of another sweep', f'a.csv and text.csv {TEXTS}'),
         (['a.csv', 'own.csv'], 'piece own.csv of another sweep', f'own.csv {NO_SEEDS}'),
         (['own.csv', 'a.csv'], 'piece a.csv of another sweep', f'own.csv {NO_SEEDS}'),
-        (['own.csv', 'own.csv'], 'piece own.csv twice'),
+        (['own.csv', 'own.csv'], 'piece own.csv twice', f'own.csv {SAME}'),
         (['a.csv', 'wide-more.csv'], 'piece wide-more.csv of another sweep', f'wide-more.csv {WIDTH}'),
         (['wide.csv', 'wide-more.csv'], 'piece wide-more.csv of another sweep', f'wide.csv {WIDTH}'),
         (['a.csv', 'half.csv'], 'piece half.csv of another sweep', f'half.csv {SHARD}'),
         (['half.csv', 'a.csv'], 'piece a.csv of another sweep', f'half.csv {SHARD}'),
-        (['a.csv', 's.toml'], 'no piece s.toml'),
-        (['a.csv', 'torn.csv'], 'piece torn.csv torn'),
-        (['a.csv', 'swapped.csv'], 'piece swapped.csv torn'),
+        (['a.csv', 's.toml'], 'no piece s.toml', f's.toml {NO_TABLE}'),
+        (['a.csv', 'torn.csv'], 'piece torn.csv torn', f'torn.csv {TORN}'),
+        (['a.csv', 'swapped.csv'], 'piece swapped.csv torn', f'swapped.csv {TORN}'),
         (['a.csv', 'older.csv'], f'piece older.csv {OLDER}'),
     ])
 

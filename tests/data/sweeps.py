@@ -2,7 +2,9 @@
 
 import itertools
 import json
+import re
 import resource
+import subprocess
 
 import texts
 from model_drawing import escaped
@@ -20,6 +22,10 @@ NAME = '<b>\u202elmot.\u200b\x7f'
 # runs of 60 periods: with 2 members each is short, with LONG members each is more than a second of work as a sweep counts it
 LONG = 1024
 UNEVEN = head(60000, version=2, timeout=500) + table('link', delay=10) + item('group', name='n', count=2)
+# a run of ten million periods
+QUIET = head(10 ** 10, version=2, timeout=500) + table('link', delay=10) + item('group', name='n', count=2)
+# what is printed on the way
+LINE = re.compile(rb'(\d+)/(\d+) runs, (\d+) %')
 # words that say how long a tick lasts, and how many microseconds that is
 TICKS = ((None, None), ('1ms', 1000), ('700us', 700))
 WORKERS = ([], ['--workers', '1'], ['--workers', '2'], ['--workers', '3'], ['--workers', '64'])
@@ -73,14 +79,20 @@ def runs_of(sweep, table):
     return len(seeds_of(sweep.get('seeds')) or [0]) * len(cases_of(settings_of(sweep['set'])))
 
 
-def expect_progress(lines, runs, wanted):
-    """Compares what is told on the way: each line more runs, the last one all; or just these lines."""
-    if wanted is not None:
-        expect('progress', lines, wanted.encode())
-    made = [int(line.split(b'/')[0]) for line in lines.splitlines()]
-    whole = ''.join(f'{it}/{runs} runs, {it * 100 // runs} %\n' for it in made).encode()
-    if lines != whole or made != sorted(set(made)) or made[-1:] != [runs]:
-        raise Wrong(f'progress: {lines}')
+def expect_progress(text, runs, stood=0):
+    """Compares what is printed on the way where so many runs stood: each line says more than the one before it, and of no fewer
+    percent than of runs; each fiftieth of the whole has one, and the last one is of all runs."""
+    lines = [LINE.fullmatch(line) for line in text.splitlines()]
+    if None in lines:
+        raise Wrong(f'progress: {text}')
+    lines = [tuple(map(int, line.groups())) for line in lines]
+    made, percents = [line[0] for line in lines], [line[2] for line in lines]
+    rises = made == sorted(made) and percents == sorted(percents) and len(lines) == len(set(lines))
+    agree = all(percent >= made * 100 // whole for made, whole, percent in lines)
+    begun = stood * 100 // runs
+    each = set(range(begun + 2 - begun % 2, 101, 2)) <= set(percents) and percents[0] > begun
+    if not (rises and agree and each and made[0] >= stood and lines[-1] == (runs, runs, 100)):
+        raise Wrong(f'progress: {text}')
 
 
 def objects_of(text, keys):
@@ -116,7 +128,7 @@ def check(program, sweep):
         program.keep('t.csv', 'an older table\n' * 1000)
         ran = program.call([*words, *workers, *progress])
         if progress:
-            expect_progress(ran.err, runs_of(sweep, table), sweep.get('progress'))
+            expect_progress(ran.err, runs_of(sweep, table))
             ran = ran._replace(err=b'')
         expect_ran(ran, 0, lines, b'', ' '.join([*workers, *progress, '']))
         expect(f'{workers} table', program.held('t.csv'), table)
@@ -169,6 +181,18 @@ def check_pace(program, counts):
         raise Wrong(f'written after {sorted(made)}, and not after {sorted(ends - made)}')
 
 
+def check_going(program, words):
+    """A sweep of long runs in which nobody fails prints how far it has come long before one of them ends."""
+    program.keep('s.toml', QUIET)
+    words = [program.path, 'sweep', 's.toml', '--table', 't.csv', '--progress', *words]
+    with subprocess.Popen(words, cwd=program.folder, stderr=subprocess.PIPE) as sweep:
+        first = sweep.stderr.readline()
+        sweep.kill()
+        more = sweep.stderr.read()
+    if not first.startswith(b'0/') or not first.endswith(b' runs, 2 %\n') or more.count(b'\n') > 20:
+        raise Wrong(f'progress: {first}, and then {more}')
+
+
 def check_shard_begins(program):
     """A shard of 100 runs of a million takes the time of its own runs."""
     program.keep('s.toml', UNEVEN)
@@ -186,6 +210,8 @@ def cases():
     """Each sweep of the list, and how soon lines are written."""
     for counts in ((2, LONG), (LONG, 2), (2, LONG, 4, LONG)):
         yield Case(f'sweep: the pace of {counts}', check_pace, (counts,))
+    for words in ([], ['--seeds', '1..3'], ['--workers', '1', '--seeds', '1..2'], ['--until', '5', '--seeds', '1..2']):
+        yield Case(f'sweep: long runs that go on, {words}', check_going, (words,))
     yield Case('sweep: a shard of a million runs', check_shard_begins, ())
     for sweep in json.loads((FOLDER / 'sweeps.json').read_text()):
         text = text_of(DATA / sweep['base'])

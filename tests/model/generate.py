@@ -14,13 +14,12 @@ import random
 import re
 import sys
 
+import model_written
+from generate_four import NAMES, add_four
+from generating import chance, some, spans
 from scenarios import MOST_MEMBERS, NEWEST, NEWEST_TAKEN, keys_of, tables_there, version_of
 
 LETTERS = 'abcdfghiklm'
-
-
-def chance(rng, percent):
-    return rng.randrange(100) < percent
 
 
 # ---- Scenarios that are accepted ----
@@ -29,7 +28,7 @@ def scenario(rng, newest, messages=3000):
     """The document of a scenario with some of the mechanisms, and with about so many messages at most."""
     version = rng.randint(1, newest)
     period = rng.choice([rng.randint(2, 6), rng.randint(20, 200), rng.randint(20, 200), 1000, 2**24])
-    groups = groups_of(rng)
+    groups = groups_of(rng, version)
     members = sum(group['count'] for group in groups)
     helpers = rng.choice([0, 1, 2, 3, 3, 16])
     periods = max(2, min(60, messages // (members * (2 + helpers))))
@@ -50,12 +49,9 @@ def scenario(rng, newest, messages=3000):
     if version >= 3:
         add_streams(rng, document, period, max(1, members * document['end'] // messages))
     add_troubles(rng, document, period)
+    if version >= 4:
+        add_four(rng, document, period, max(1, members * document['end'] // messages))
     return document
-
-
-def some(rng, keys):
-    """Some of the keys of a table."""
-    return {name: value for name, value in keys.items() if chance(rng, 75)}
 
 
 def swim_of(rng, period, helpers):
@@ -103,10 +99,11 @@ def add_streams(rng, document, period, least):
             'connect': rng.choice([1, 1000, rng.randint(1, period)]), 'again': rng.choice([1, 200, period])})
 
 
-def groups_of(rng):
+def groups_of(rng, version):
     """One to four groups, most with some members each."""
     most = rng.choice([1, 2, 3, 8, 8, 16, 24, 24, 24]) if chance(rng, 96) else 128
-    names = rng.sample([letter + end for letter in LETTERS for end in ('', '7', 'zz', '0123456789abcdf')], 4)
+    short = [letter + end for letter in LETTERS for end in ('', '7', 'zz', '0123456789abcdf')]
+    names = rng.sample(short if version < 4 else NAMES, 4)
     groups, left = [], most
     for name in names[:rng.randint(1, 4)]:
         if left > 0:
@@ -167,17 +164,6 @@ def add_troubles(rng, document, period):
             {'from': rng.choice(ends), 'to': rng.choice(ends), 'at': at, 'until': until})
 
 
-def spans(rng, name, end, longest):
-    """One to three spans of time of one member, of which none overlap, but some touch."""
-    marks = sorted(rng.sample(range(min(end + 8, 2**40 + 1)), 2 * rng.randint(1, 3)))
-    entries = []
-    for begin, stop in zip(marks[::2], marks[1::2]):
-        begin = entries[-1]['until'] if entries and chance(rng, 30) else begin
-        entries.append({'member': name, 'from': begin, 'until': max(begin + 1, min(stop, begin + longest))})
-    rng.shuffle(entries)
-    return entries
-
-
 def slow_entries(rng, name, end, period):
     extras = [1, rng.randint(1, period), min(2**24, rng.randint(1, 4 * period))]
     return [{**entry, 'extra': rng.choice(extras)} for entry in spans(rng, name, end, 2**40)]
@@ -192,7 +178,8 @@ def pauses(rng, name, end, period):
 
 def places(document):
     """Each table and item that the format names, with its keys."""
-    return tables_there(document, keys_of(version_of(document, NEWEST)))
+    version = version_of(document, NEWEST)
+    return tables_there(document, model_written.written_keys() if version >= 4 else keys_of(version))
 
 
 def some_key(rng, document):
@@ -242,7 +229,7 @@ def change_item(rng, document):
 def border(rng, document):
     """Sets a number to an end of its range, to one past it, or far beyond."""
     held, keys = rng.choice(places(document))
-    numbers = [name for name, key in keys.items() if key.kind == 'number']
+    numbers = [name for name, key in keys.items() if key.kind in ('number', 'ticks', 'share')]
     if numbers:
         name = rng.choice(numbers)
         least, greatest = keys[name].span
@@ -526,6 +513,11 @@ SETTINGS_OF_3 = {
     'gossip.dead': [0, 10, 1000], 'gossip.push': [0, 2**23, 2**24], 'stream.connect': [1, 1000],
     'stream.again': [1, 200],
 }
+SETTINGS_OF_4 = {
+    'gossip.queue': [True, False], 'gossip.packet': [0, 100, 1400], 'gossip.meta': [0, 32, 512],
+    'stream.limit': [1, 10000, 0], 'stream.retry': [2**22, 2**24], 'serf.reconnect': [2**22, 2**24], 'serf.reap': [0, 1000],
+    'serf.linger': [1, 1000, 0],
+}
 
 
 def sweep_case(seed, number, newest):
@@ -533,7 +525,9 @@ def sweep_case(seed, number, newest):
     rng = random.Random(f'{seed} sweep {number}')
     document = scenario(rng, newest, 800)
     settings = []
-    choices = {'version': list(range(1, newest + 1)), **SETTINGS, **(SETTINGS_OF_3 if newest >= 3 else {})}
+    choices = {'version': list(range(1, newest + 1)), **SETTINGS}
+    for first_newest, more in ((3, SETTINGS_OF_3), (4, SETTINGS_OF_4)):
+        choices.update(more if newest >= first_newest else {})
     for key in rng.sample(list(choices), rng.choice([0, 1, 1, 2, 3])):
         settings.append((key, rng.sample(choices[key], rng.randint(1, 2))))
     first = rng.choice([0, 1, 99, 2**63 - 4])

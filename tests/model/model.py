@@ -6,7 +6,8 @@
 It is written from docs/FORMAT.md, RUN.md and PROTOCOL.md alone, in their order and in their words; nothing in it
 comes from the program's sources. It judges the scenario text FILE as `swimsim check` does
 (tests/model/scenarios.py), and writes the trace and the report of its run (tests/model/model_text.py). Here is the cluster
-and its order; tests/model/model_links.py has draws and links, tests/model/model_member.py what a member does.
+and its order; tests/model/model_links.py has draws and links, tests/model/model_member.py what a member does, and
+tests/model/model_member_four.py what one of version 4 does in another way.
 """
 
 import argparse
@@ -15,8 +16,9 @@ import sys
 from pathlib import Path
 
 from model_member import Event, Member
+from model_member_four import MemberFour
 from model_text import report_of, trace_of
-from scenarios import NEWEST, document_of, judge
+from scenarios import NEWEST, document_of, judge, script_of
 
 
 # ---- A run (docs/RUN.md, "Events") ----
@@ -28,13 +30,12 @@ class Run:
         self.scenario = scenario
         self.rows, self.pending, self.event = [], [], None
         self.numbers = {member['name']: number for number, member in enumerate(scenario['members'])}
-        self.members = [Member(self, number) for number in self.numbers.values()]
+        kind = MemberFour if scenario['version'] >= 4 else Member
+        self.members = [kind(self, number) for number in self.numbers.values()]
         for number, member in enumerate(scenario['members']):
             self.pend(Event(member['start'], number, number, 0, 'start', {}))
-        for what in ('crash', 'leave'):
-            for entry in scenario[what]:
-                number = self.numbers[entry['member']]
-                self.pend(Event(entry['at'], number, number, 1, what, {}))
+            for place, (what, entry) in enumerate(script_of(scenario, member['name']), 1):
+                self.pend(Event(entry['at'], number, number, place, what, entry))
 
     def pend(self, event):
         heapq.heappush(self.pending, event)

@@ -18,7 +18,8 @@ from model import asked
 from model_answers import LONGEST, NoAnswer, Send, Timer, Told, Used, answer_of
 from model_links import Draws, arrival, awake
 from model_member import Event
-from model_text import Row, report_of, trace_of
+from model_rows import Row
+from model_text import report_of, trace_of
 
 # what the world tells of a member before and while it runs
 SCRIPT = ('start', 'crash', 'leave')

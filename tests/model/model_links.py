@@ -1,6 +1,7 @@
 """Draws, and when messages arrive, for tests/model/model.py.
 
-Written from docs/RUN.md ("Draws", "Links") alone.
+Written from docs/RUN.md ("Draws", "Links") alone. Of version 4 are blocks, in which what a member sends and is sent
+stands still though it runs; entries of one member that overlap; and dials, the two trips that open a connection.
 """
 
 # ---- Draws ----
@@ -59,23 +60,33 @@ TRIES = 8
 
 
 def entries_of(scenario, list_name, member):
-    """Those of a list, slow or pause, about a member, by its number."""
+    """Those of a list, slow, pause or block, about a member, by its number."""
     name = scenario['members'][member]['name']
     return [entry for entry in scenario[list_name] if entry['member'] == name]
 
 
 def slow_by(scenario, member, moment):
-    """What a member is slow by."""
-    return sum(entry['extra'] for entry in entries_of(scenario, 'slow', member)
-               if entry['from'] <= moment < entry['until'])
+    """What a member is slow by: the greatest extra of what holds."""
+    return max((entry['extra'] for entry in entries_of(scenario, 'slow', member)
+                if entry['from'] <= moment < entry['until']), default=0)
+
+
+def past(scenario, list_name, member, moment):
+    """The least moment, from this one on, in no entry of the list about the member."""
+    for entry in sorted(entries_of(scenario, list_name, member), key=lambda entry: entry['from']):
+        if entry['from'] <= moment < entry['until']:
+            moment = entry['until']
+    return moment
 
 
 def awake(scenario, member, moment):
     """The least moment, from this one on, in no pause of the member."""
-    for pause in sorted(entries_of(scenario, 'pause', member), key=lambda pause: pause['from']):
-        if pause['from'] <= moment < pause['until']:
-            moment = pause['until']
-    return moment
+    return past(scenario, 'pause', member, moment)
+
+
+def free(scenario, member, moment):
+    """The least moment, from this one on, in no block of the member."""
+    return past(scenario, 'block', member, moment)
 
 
 def way(scenario, ends, moment, draws, is_sure=False):
@@ -115,9 +126,22 @@ def trips_of_call(scenario, ends, moment, draws):
     return moment
 
 
+def trips_of_dial(scenario, ends, moment, draws):
+    """When a connection that one opens to another at this moment is open, or None where it is given up: its request or the
+    answer to it is lost, or comes after the limit."""
+    connect, limit = scenario['stream']['connect'], scenario['stream']['limit']
+    there = trip(scenario, ends, moment, connect, draws)
+    if there is None:
+        return None
+    back = trip(scenario, ends[::-1], there, connect, draws)
+    return back if back is not None and back <= moment + limit else None
+
+
 def arrival(scenario, what, ends, moment, draws):
     """When a message of this kind that one sends to another at this moment arrives, or None where it is
-    lost."""
+    lost. That of a blocked member departs when the block ends."""
+    sender, receiver = ends
+    moment = free(scenario, sender, moment)
     if what == 'call':
         there = trips_of_call(scenario, ends, moment, draws)
     elif what == 'answer':
@@ -126,6 +150,6 @@ def arrival(scenario, what, ends, moment, draws):
         there = way(scenario, ends, moment, draws, is_sure=what in ('push', 'pull'))
     if there is None:
         return None
-    sender, receiver = ends
     there += slow_by(scenario, sender, moment)
-    return awake(scenario, receiver, there + slow_by(scenario, receiver, there))
+    there += slow_by(scenario, receiver, there)
+    return awake(scenario, receiver, free(scenario, receiver, there))

@@ -1,16 +1,17 @@
 """What a member makes of an event, for tests/model/model.py.
 
 Written from docs/PROTOCOL.md alone, in its order and in its words. Where versions differ, their rules stand
-beside each other; version 3 has memberlist's.
+beside each other; version 3 has memberlist's. What version 4 has beside them is in model_member_four.py.
 """
 
 import collections
 import functools
 import re
 
-from model_links import Draws, arrival, awake
-from model_text import ALIVE, CONFIRM, SUSPECT, Row
-from scenarios import downs
+from model_buffers import Buffer, Carry
+from model_links import Draws, arrival, awake, free
+from model_rows import ALIVE, CONFIRM, LEFT, SUSPECT, Row
+from scenarios import script_of
 
 # ---- Times (docs/PROTOCOL.md, "Times") ----
 
@@ -19,14 +20,19 @@ T = [None, 0, 301, 477, 602, 699, 778, 845, 903, 954, 1000]
 
 @functools.cache
 def logarithm(n, version):
-    """L(n), in thousandths, by the leading digit of n, in version 3 by two, and the number of digits after the
-    first."""
+    """L(n), in thousandths, by the leading digit of n, in version 3 by two, in version 4 by three, and the number of
+    digits after the first."""
     digits = str(n)
     if version < 3:
         return 1000 * (len(digits) - 1) + T[int(digits[0])]
-    two = int((digits + '0')[:2])
-    # the greatest k with 10^(1000 + k) at most two^1000
-    return 1000 * (len(digits) - 1) + len(str(two**1000)) - 1 - 1000
+    two, third = int((digits + '0')[:2]), int(digits[2:3] or 0) if version > 3 else 0
+    between = (logarithm_of_tenths(two + 1) - logarithm_of_tenths(two)) * third // 10
+    return 1000 * (len(digits) - 1) + logarithm_of_tenths(two) + between
+
+
+def logarithm_of_tenths(two):
+    """The logarithm of so many tenths, 10 to 100 of them: the greatest k with 10^(1000 + k) at most two^1000."""
+    return len(str(two**1000)) - 1 - 1000
 
 
 Update = collections.namedtuple('Update', 'subject accuser claim incarnation')
@@ -68,16 +74,16 @@ class Member:
         self.scenario = run.scenario
         self.swim, self.lifeguard = run.scenario['swim'], run.scenario['lifeguard']
         self.gossips = run.scenario['gossip']   # its settings, or None where nobody gossips
-        self.is_memberlist = run.scenario['version'] == 3
+        self.version = run.scenario['version']
+        self.is_memberlist = self.version >= 3
         self.own = run.scenario['members'][number]
         self.phase = 'waiting'
-        goes_down = any(entry['member'] == self.own['name'] for entry in downs(run.scenario))
-        self.next_number = 2 if goes_down else 1
+        self.next_number = 1 + len(script_of(run.scenario, self.own['name']))
         self.sequence = self.incarnation = self.health = 0
         self.heard_confirm = False
         self.probe = None
         self.table = {}         # subject: its claim and number
-        self.buffer = {}        # subject: an update, and how often it was sent
+        self.buffer = Buffer()
         self.suspicions = {}    # subject: Suspicion
         self.rota, self.mark = [], 0
         self.relays = set()     # initiator and sequence number
@@ -86,7 +92,7 @@ class Member:
         self.beat = None        # the moment for which the first period timer was set
         self.tick_waits = False
         self.gossip_phase, self.gossip_is_set = 0, False
-        self.confirmed_at = {}  # subject: since when the table holds it as Confirm
+        self.gone_since = {}    # subject: since when the table holds it as Confirm, in version 4 or as Left
 
     @property
     def now(self):
@@ -104,7 +110,9 @@ class Member:
         self.next_number += 1
 
     def set_timer(self, moment, what, **content):
-        self.make(awake(self.scenario, self.number, moment), self.number, what, content)
+        """Sets a timer; where the moment is None it never comes."""
+        due = None if moment is None else awake(self.scenario, self.number, moment)
+        self.make(due, self.number, what, content)
 
     def send(self, what, to, value=0, **content):
         comes = arrival(self.scenario, what, (self.number, to), self.now, self.draws)
@@ -159,22 +167,19 @@ class Member:
     # The buffer and the rota.
 
     def put(self, update):
-        self.buffer[update.subject] = [update, 0]
-        self.set_gossip_timer()
+        self.buffer.put(update)
+        self.set_gossip_timer(self.now)
+
+    def limit(self):
+        """How often an update is sent."""
+        return self.swim['lambda'] * len(str(self.n()))
 
     def pick(self, buddy=None):
         """The updates of one message, the buddy first."""
-        limit = self.swim['lambda'] * len(str(self.n()))
-        fit = [(count, subject) for subject, (_, count) in self.buffer.items()
-               if count < limit and (buddy is None or subject != buddy.subject)]
-        picked = [buddy] if buddy else []
-        picked += [self.buffer[subject][0] for _, subject in sorted(fit)]
-        picked = picked[:self.swim['carry']]
-        for update in picked:
-            if update.subject in self.buffer:
-                self.buffer[update.subject][1] += 1
-        self.buffer = {subject: held for subject, held in self.buffer.items() if held[1] < limit}
-        return picked
+        return self.buffer.pick(self.limit(), Carry(self.swim['carry']), buddy)
+
+    def has_news(self):
+        return bool(self.buffer)
 
     def next_of_rota(self):
         """Whom it probes next, or None of an empty rota."""
@@ -185,6 +190,10 @@ class Member:
             self.mark = 0
         self.mark += 1
         return self.rota[self.mark - 1]
+
+    def enter_rota(self, subject, _):
+        """Enters one that is new, or back."""
+        self.insert_in_rota(subject)
 
     def insert_in_rota(self, subject):
         place = self.draws.below(len(self.rota) + 1)
@@ -248,13 +257,13 @@ class Member:
     def take(self, update, is_quiet):
         subject = update.subject
         is_new = subject not in self.table
-        is_back = self.holds(subject, CONFIRM)
+        is_back = self.holds(subject, CONFIRM, LEFT)
         self.table[subject] = (update.claim, update.incarnation)
         if (is_new or is_back) and update.claim != CONFIRM:
-            self.insert_in_rota(subject)
+            self.enter_rota(subject, is_new)
         self.suspicions.pop(subject, None)
-        if update.claim == CONFIRM:
-            self.confirmed_at[subject] = self.now
+        if update.claim in (CONFIRM, LEFT):
+            self.gone_since[subject] = self.now
             self.remove_from_rota(subject)
         if not is_quiet:
             self.row(update.claim, subject, update.incarnation)
@@ -275,9 +284,14 @@ class Member:
                 and further <= suspicion.confirmations):
             suspicion.accusers.append(update.accuser)
             self.row('accuse', update.subject, further)
-            expires = max(self.now + 1, suspicion.since + suspicion.timeout(further))
-            self.set_suspicion_timer(update.subject, expires)
+            expires = suspicion.since + suspicion.timeout(further)
+            # in version 4 one whose time is over dies at once, behind the accusation
+            is_over = self.version >= 4 and expires <= self.now
+            if not is_over:
+                self.set_suspicion_timer(update.subject, max(self.now + 1, expires))
             self.put(update)
+            if is_over:
+                self.apply_own(update.subject, CONFIRM)
 
     def apply_all(self, updates):
         for update in updates:
@@ -366,6 +380,8 @@ class Member:
         if self.probe and self.probe['deadline'] > self.now:
             self.tick_waits = True
         else:
+            # a tick counts once from version 4 on
+            self.tick_waits = self.tick_waits and self.version < 4
             self.end_probe()
             self.begin_probe()
 
@@ -404,15 +420,20 @@ class Member:
         if target is None:
             return
         self.sequence += 1
+        departs = free(self.scenario, self.number, self.now)
         # answered by an ack, in version 3 only by an answer: there an ack ends it
         self.probe = {'target': target, 'sequence': self.sequence, 'is_answered': False,
                       'expected': 0, 'nacks': 0, 'incarnation': self.table[target][1],
-                      'deadline': self.now + self.scaled(self.swim['period'])}
+                      'deadline': max(departs, self.now + self.scaled(self.swim['period']))}
         self.send_with_updates('ping', target, self.sequence, initiator=self.number)
         timeout = self.swim['timeout'] if self.is_memberlist else self.scaled(self.swim['timeout'])
-        self.set_timer(self.now + timeout, 'timeout timer', sequence=self.sequence)
+        # that of a blocked ping may have its deadline as it departs
+        self.set_timer(min(departs + timeout, self.probe['deadline']), 'timeout timer', sequence=self.sequence)
         if self.is_memberlist:
-            self.set_timer(self.probe['deadline'], 'deadline timer', sequence=self.sequence)
+            self.set_deadline_timer(departs)
+
+    def set_deadline_timer(self, _):
+        self.set_timer(self.probe['deadline'], 'deadline timer', sequence=self.sequence)
 
     def is_probe(self, event):
         """Whether the probe has the sequence number of the event."""
@@ -441,25 +462,21 @@ class Member:
             self.probe['expected'] = len(asked)
 
     def ping(self, event):
-        self.apply_all(event.content['updates'])
         sequence, initiator = event.content['sequence'], event.content['initiator']
         self.send_with_updates('ack', event.maker, sequence, initiator=initiator)
 
     def ping_req(self, event):
-        self.apply_all(event.content['updates'])
         sequence = event.content['sequence']
         self.send_with_updates('ping', event.content['target'], sequence, initiator=event.maker)
-        if self.lifeguard['probe']:
+        if self.lifeguard['probe'] or self.version >= 4:
             self.relays.add((event.maker, sequence))
             delay = max(1, self.lifeguard['nack_percent'] * self.swim['timeout'] // 100)
             self.set_timer(self.now + delay, 'nack timer', relay=(event.maker, sequence))
 
     def ack(self, event):
-        self.apply_all(event.content['updates'])
         initiator, sequence = event.content['initiator'], event.content['sequence']
         if initiator != self.number:
-            self.relays.discard((initiator, sequence))
-            self.send_with_updates('ack', initiator, sequence, initiator=initiator)
+            self.forward(initiator, sequence)
         elif self.is_probe(event) and self.is_memberlist:
             self.change_health(-1)
             self.probe = None
@@ -467,11 +484,18 @@ class Member:
         elif self.is_probe(event):
             self.probe['is_answered'] = True
 
+    def forward(self, initiator, sequence):
+        """Forwards an ack; in version 4 only while the relay is there."""
+        if (initiator, sequence) in self.relays or self.version < 4:
+            self.relays.discard((initiator, sequence))
+            self.send_with_updates('ack', initiator, sequence, initiator=initiator)
+
     def nack_timer(self, event):
         if event.content['relay'] in self.relays:
             self.relays.discard(event.content['relay'])
             initiator, sequence = event.content['relay']
-            self.send('nack', initiator, sequence, sequence=sequence)
+            if self.lifeguard['probe']:
+                self.send('nack', initiator, sequence, sequence=sequence)
 
     def nack(self, event):
         if self.is_probe(event):
@@ -492,10 +516,11 @@ class Member:
 
     # Gossip, and whole tables.
 
-    def set_gossip_timer(self):
+    def set_gossip_timer(self, since):
+        """Sets it, where none is set, for the least moment of its own later than this one."""
         if self.gossips and not self.gossip_is_set:
             self.gossip_is_set = True
-            later = self.now + 1
+            later = since + 1
             moment = later + (self.gossip_phase - later) % self.gossips['interval']
             self.set_timer(moment, 'gossip timer')
 
@@ -503,30 +528,33 @@ class Member:
         """Those alive and suspected, and for some time those confirmed."""
         dead = self.gossips['dead']
         return (self.holds(other, ALIVE, SUSPECT)
-                or self.holds(other, CONFIRM) and dead > 0 and self.now - self.confirmed_at[other] <= dead)
+                or self.holds(other, CONFIRM) and dead > 0 and self.now - self.gone_since[other] <= dead)
 
     def gossip_timer(self, _):
         self.gossip_is_set = False
-        if not self.buffer:
+        if not self.has_news():
             return
         for other in self.sample(self.gossips['nodes'], self.is_gossiped_to):
             updates = self.pick()
             if not updates:
                 break
             self.send('gossip', other, updates=updates)
-        if self.buffer:
-            self.set_gossip_timer()
+        if self.has_news():
+            self.set_gossip_timer(free(self.scenario, self.number, self.now))
 
-    def gossip(self, event):
-        self.apply_all(event.content['updates'])
+    def gossip(self, _):
+        """It brings updates alone."""
 
-    def set_push_timer(self, moment):
-        """One push period after that moment. The period doubles with each doubling of n over 32."""
-        push = self.gossips['push']
+    def push_period(self):
+        """How long it is from push to push: once longer with each doubling of n over 32."""
         times = 1
         while 32 * 2**(times - 1) < self.n():
             times += 1
-        self.set_timer(moment + push * times, 'push timer')
+        return self.gossips['push'] * times
+
+    def set_push_timer(self, moment):
+        """One push period after that moment."""
+        self.set_timer(moment + self.push_period(), 'push timer')
 
     def push_timer(self, _):
         chosen = self.sample(1, lambda other: self.holds(other, ALIVE))
@@ -549,4 +577,13 @@ class Member:
 
     def handle(self, event):
         if self.phase in self.PHASES.get(event.what, ['running']):
-            getattr(self, re.sub('[ -]', '_', event.what))(event)
+            self.act(event)
+
+    def act(self, event):
+        """The updates that it brings come before all else."""
+        self.apply_all(event.content.get('updates', []))
+        self.case_of(event)
+
+    def case_of(self, event):
+        """All else that the event does."""
+        getattr(self, re.sub('[ -]', '_', event.what))(event)

@@ -9,8 +9,8 @@ from pathlib import Path
 
 from model_drawing import (FIGURE_END, PLOT_END, area, axis_across, axis_up, band, dot, escaped, figure, grouped, lasting, lasting_between,
                            legend, legend_entry, line, moment_alone, page_opening, plot, rule, time_alone, time_text)
+from model_rows import CONFIRM, SUSPECT
 from model_run_series import MOST_HEALTH, MOST_SPANS, Series, deaths_of
-from model_text import CONFIRM, SUSPECT
 from scenarios import keys_of
 
 MOST_LANES, MOST_FALSE_DEATHS, MOST_CAUSES, MOST_ACCUSERS = 60, 200, 20, 4
@@ -18,6 +18,8 @@ MESSAGE_CLASSES = {
     'ping': 'one', 'ack': 'two', 'join': 'three', 'nack': 'four', 'ping-req': 'five', 'welcome': 'six', 'bye': 'seven',
     'gossip': 'eight', 'push': 'nine', 'pull': 'ten', 'call': 'eleven', 'answer': 'twelve',
 }
+# the rows that only the members of a harness write
+HARNESS_ROWS = ('left', 'forget', 'reconnect')
 HEALTH_CLASSES = ('two', 'one', 'six', 'dead')
 # the tables and lists of keys, in the order in which they are told
 TOLD_TABLES = ('swim', 'suspicion', 'lifeguard', 'link', 'gossip', 'stream')
@@ -93,6 +95,8 @@ class Page:
         figures += [('', series.false_suspicions, 'false suspicion', 'false suspicions'),
                     ('', series.told['refute'], 'refutation', 'refutations'), ('', series.told['fail'], 'failed probe', 'failed probes'),
                     ('', series.worst_health, 'worst health', 'worst health'), ('', series.rows, 'row in the trace', 'rows in the trace')]
+        figures += [('', series.told[what], f'row <code>{what}</code>', f'rows <code>{what}</code>')
+                    for what in HARNESS_ROWS if series.told[what]]
         items = ''.join(f'<li class="{kind}"><b>{grouped(count)}</b><span>{one if count == 1 else several}</span></li>'
                         for kind, count, one, several in figures)
         return f'{text}</p><ul class="figures">{items}</ul>\n'
@@ -102,10 +106,15 @@ class Page:
         if not crashed:
             return 'Nobody crashed. '
         text = '1 member crashed' if crashed == 1 else f'{crashed} members crashed'
+        known = sum(story.false_deaths > 0 and member in self.series.crash and member not in self.series.found
+                    for member, story in enumerate(self.series.stories))
+        if not found and known in (0, crashed):
+            return text + (', already declared dead. ' if known else ', undetected. ')
         if not found:
-            return text + ', undetected. '
+            return f'{text}, {known} already declared dead, the others undetected. '
         was = 'was' if len(found) == 1 else 'were'
         text += f', {len(found)} of them {was} detected' if len(found) < crashed else ''
+        text += f', {known} already declared dead' if known else ''
         least, greatest = min(found), max(found)
         if greatest > least:
             after = f'{grouped(least)} to {grouped(greatest)} ticks{lasting_between(self.tick, least, greatest)}'
@@ -199,23 +208,15 @@ class Page:
             return ''
         text = figure('false-deaths', 'False deaths')
         text += ('<div class="wide"><table><tr><th>member<th>first declared dead<th>by<th>line of the trace<th>false deaths'
-                 '<th>declared alive again<th>its state then<th>failed probes of it<th>last refutation<th>line of the trace</tr>\n')
+                 '<th>declared alive again<th>failed probes of it</tr>\n')
         return text + ''.join(map(self.false_deaths_row, members[:MOST_FALSE_DEATHS])) + '</table></div>' + FIGURE_END
 
     def false_deaths_row(self, member):
         story = self.series.stories[member]
         moment, accuser, place = story.first_confirm
-        refuted = f'{self.time_cell(story.last_refute[0])}<td>{story.last_refute[1]}' if story.last_refute else '<td>never<td>'
         return (f'<tr><td>{self.series.names[member]}{self.time_cell(moment)}<td>{self.series.names[accuser]}<td>{place}'
-                f'<td>{grouped(story.false_deaths)}<td>{grouped(sum(story.recovered.values()))}<td>{self.condition(member, moment)}'
-                f'<td>{grouped(story.failed_probes)}{refuted}\n')
-
-    def condition(self, member, moment):
-        for word, entries, begin in (('paused', self.series.those('pause', member), 'from'),
-                                     ('slow', self.series.those('slow', member), 'from'), ('cut off', self.series.cuts(member), 'at')):
-            if any(entry[begin] <= moment < entry['until'] for entry in entries):
-                return word
-        return 'well'
+                f'<td>{grouped(story.false_deaths)}<td>{grouped(sum(story.recovered.values()))}'
+                f'<td>{grouped(story.failed_probes)}\n')
 
     # how false deaths came about
 
@@ -348,9 +349,9 @@ class Page:
             text, bases = text + area(kind, bases, tops, self.series.width, self.past, most), tops
         return text
 
-    def chart(self, kind, title, description, layers):
-        """A plot of layers over time; nothing where they are empty."""
-        most = max(map(sum, zip(*(heights for _, heights in layers))))
+    def chart(self, kind, title, description, layers, least=0):
+        """A plot of layers over time, at least so high; nothing where it has no height."""
+        most = max(least, *map(sum, zip(*(heights for _, heights in layers))))
         chart = f'chart {kind}'.strip()
         return (f'<div class="{chart}">{axis_up(most)}{plot("", self.past, most, title, description)}{self.stacked(layers, most)}{PLOT_END}'
                 f'{self.time_axis()}</div>') if most else ''
@@ -387,12 +388,13 @@ class Page:
         if not series.worst_health:
             return ''
         values = range(1, MOST_HEALTH + 1)
-        heights = [series.heights(series.worse[value], series.better[value], 2**64) for value in values]
+        heights = [series.ends(series.worse[value], series.better[value]) for value in values]
         text = figure('health', 'Members in bad health')
-        text += ('<p class="soft">A member\'s health counter (Lifeguard) rises as its own probes fail. Members at 0 aren\'t drawn.</p>')
+        text += ('<p class="soft">A member\'s health counter (Lifeguard) rises as its own probes fail. Of each span the value at its end '
+                 'counts. Members at 0 aren\'t drawn.</p>')
         text += legend(zip(HEALTH_CLASSES, ('at 1', 'at 2', 'at 3', 'at 4 and more')))
         layers = [(HEALTH_CLASSES[min(value, 4) - 1], counts) for value, counts in zip(values, heights)]
-        text += self.chart('low', 'Health', 'How many members stand at each value of the health counter.', layers)
+        text += self.chart('low', 'Health', 'How many members stand at each value of the health counter.', layers, 1)
         text += folded('Health as a table', '<th>value<th>from moment<th>members')
         for value, counts in zip(values, heights):
             for span, count in enumerate(counts):
@@ -440,7 +442,8 @@ class Settings:
 
     def group(self, group):
         start = f', start {grouped(group["start"])}' if group['start'] else ''
-        return self.item(f'group {group["name"]}: count {grouped(group["count"])}{start}', bool(start))
+        contact = f', contact {escaped(group["contact"])}' if group.get('contact') else ''
+        return self.item(f'group {group["name"]}: count {grouped(group["count"])}{start}{contact}', bool(start))
 
     def path(self, path):
         link, own = ([entry[key] for key in ('delay', 'jitter', 'loss')] for entry in (self.scenario['link'], path))

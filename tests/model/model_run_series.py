@@ -4,8 +4,10 @@ Written from docs/PAGES.md ("The page of a run") alone.
 """
 
 from collections import Counter, defaultdict
+from itertools import accumulate
 
-from model_text import ALIVE, CONFIRM, SUSPECT, false_rows, messages_of
+from model_rows import ALIVE, CONFIRM, SUSPECT
+from model_text import false_rows, messages_of
 
 MOST_SPANS, MOST_WATCHED, MOST_HEALTH = 120, 12, 16
 
@@ -100,14 +102,13 @@ class Series:
             if row.about in departed and row.about in self.crash:
                 self.found.setdefault(row.about, row.moment - self.crash[row.about])
 
+    def ends(self, came, went):
+        """How many are in a state at the end of each span."""
+        return list(accumulate(came[span] - went[span] for span in self.spans))
+
     def heights(self, came, went, most):
-        """How many are in a state in each span: the more of those at its two ends, or, where there are none at both, 1 where one came."""
-        heights, before = [], 0
-        for span in self.spans:
-            after = before + came[span] - went[span]
-            heights.append(min(most, max(before, after) or min(1, came[span])))
-            before = after
-        return heights
+        """How many are in a state at the end of each span or, where there are none, 1 where one came in it."""
+        return [min(most, end or min(1, came[span])) for span, end in zip(self.spans, self.ends(came, went))]
 
     def stays(self, member):
         """Whether a member neither crashes nor leaves by the end."""

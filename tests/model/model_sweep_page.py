@@ -26,7 +26,7 @@ WANTED = {
     'last_p50': 'ticks until a crash is last confirmed, median',
     'last_greatest': 'ticks until a crash is last confirmed, greatest',
     'false_suspect': 'false suspicions per run',
-    'thrown_out': 'false deaths in all runs',
+    'thrown_out': 'members with a false death in all runs',
     'messages': 'messages per member per 1,000 ticks',
 }
 # how far a safe setting's interval reaches at most, in thousandths
@@ -50,7 +50,7 @@ class Shown:
         self.false, self.messages = hundredths(told['false_suspect']), hundredths(told['messages'])
         self.low, self.high = round(10 * told['share_low']), round(10 * told['share_high'])
         self.share = self.runs_with * 1000 // self.runs
-        self.deaths = told['thrown_out'] * 100 // self.runs
+        self.deaths, self.few_deaths, self.many_deaths = told['deaths'], told['deaths_low'], told['deaths_high']
         self.is_best = told['front']
         self.told = told
 
@@ -74,6 +74,10 @@ def percent(thousandths):
 
 def interval(case):
     return f'{percent(case.low)} to {percent(case.high)}'
+
+
+def interval_of_deaths(case):
+    return f'{rate(case.few_deaths)} to {rate(case.many_deaths)}'
 
 
 def of_runs(case):
@@ -191,7 +195,8 @@ class Page:
                 'two. The further down, the more messages and the safer.</p>')
         text += ('<p class="soft">A false death: a member that has neither crashed nor left is declared dead. Safe: the whole '
                  '95&nbsp;% interval of the share of runs with a false death is at most 5&nbsp;%. Unsafe: the whole interval is '
-                 'above 5&nbsp;%. Unknown: only a part of it is, so more runs would decide.</p><ol class="answers">')
+                 'above 5&nbsp;%. Unknown: only a part of it is, so more runs would decide. A range in parentheses: the 95&nbsp;% interval.</p>'
+                 '<ol class="answers">')
         text += ''.join(self.item(at) for _, at in self.front[:MOST_TOLD]) + '</ol>\n'
         if len(self.front) > MOST_TOLD:
             more = counted(len(self.front) - MOST_TOLD, 'more setting is', 'more settings are')
@@ -201,7 +206,7 @@ class Page:
     def item(self, at):
         case = self.cases[at]
         speed = (f'<span>first confirmed after <b>{self.ticks(case.confirmed)}</b> ticks{self.lasting(case.confirmed)}, median</span>' if self.crashed else
-                 f'<span><b>{rate(case.deaths)}</b> false deaths per run</span>')
+                 f'<span><b>{rate(case.deaths)}</b> members with a false death per run ({interval_of_deaths(case)})</span>')
         return (f'<li class="{case.safety()}"><span class="number">{grouped(at + 1)}</span><code>{self.name(at)}</code>{speed}'
                 f'<span>a false death in <b>{of_runs(case)}</b> runs ({interval(case)})</span>'
                 f'<span><b>{rate(case.messages)}</b> messages per member per 1,000 ticks</span>'
@@ -252,7 +257,7 @@ class Page:
     def front_table(self):
         text = folded('The front in numbers', 'The settings on the front',
                       ('number', 'setting', 'confirmed, median', 'runs with a false death', 'their share', '95&nbsp;% interval',
-                       'false deaths per run', 'messages per member per 1,000 ticks'))
+                       'members with a false death per run', 'their 95&nbsp;% interval', 'messages per member per 1,000 ticks'))
         for _, at in self.front:
             case = self.cases[at]
             values = (self.name(at), self.time(case.confirmed), *self.shares(case), rate(case.messages))
@@ -260,7 +265,7 @@ class Page:
         return text + FOLDED_END
 
     def shares(self, case):
-        return of_runs(case), percent(case.share), interval(case), rate(case.deaths)
+        return of_runs(case), percent(case.share), interval(case), rate(case.deaths), interval_of_deaths(case)
 
     # how the times of those on the front spread
 
@@ -286,9 +291,9 @@ class Page:
 
     def table(self):
         columns = ['number', *(key.replace('.', '.<wbr>') for key, _ in self.settings), 'confirmed, median', 'runs with a false death',
-                   'their share', '95&nbsp;% interval', 'false deaths per run', 'suspected, median', 'confirmed, 99th percentile',
-                   'confirmed, greatest', 'last confirmed, median', 'last confirmed, greatest', 'false suspicions per run',
-                   'messages per member per 1,000 ticks']
+                   'their share', '95&nbsp;% interval', 'members with a false death per run', 'their 95&nbsp;% interval', 'suspected, median',
+                   'confirmed, 99th percentile', 'confirmed, greatest', 'last confirmed, median', 'last confirmed, greatest',
+                   'false suspicions per run', 'messages per member per 1,000 ticks']
         text = figure('cases', 'All settings')
         since = 'counted from the crash on' if self.tick else 'in ticks since the crash'
         text += (f'<p class="soft">Times are {since}, over all crashes of all runs; a dash stands where too few '

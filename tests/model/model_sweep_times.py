@@ -4,7 +4,7 @@ Written from docs/PAGES.md ("The page of a sweep").
 """
 
 from model_drawing import FIGURE_END, PLOT_END, axis_across, axis_up, cells, figure, grouped, heads, lasting, plot, rule, time_alone
-from model_sweeps import percentile
+from model_sweeps import deaths_per_run, percentile
 
 # so many bins have the times of a case, and so many cases are drawn, at the most
 BINS, MOST_DRAWN = 20, 12
@@ -16,6 +16,7 @@ def spread_of(figures):
     """What is told of a case beside the figures that are printed, of the figures of its runs."""
     times = {which: [time for run in figures for time in run['times'][which]] for which in ('suspect', 'confirm', 'last')}
     told = {name: percentile(times[which], percent) for name, (which, percent) in SPREAD.items()}
+    told.update(deaths_per_run([run['thrown_out'] for run in figures]))
     told['crashes'] = len(times['confirm'])
     told['confirm_times'] = bins_of([time for time in times['confirm'] if time is not None])
     return told

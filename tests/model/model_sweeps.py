@@ -12,19 +12,22 @@ from math import inf, isqrt
 
 import model
 import model_text
+from model_sweep_deaths import CASE_COLUMNS, RUN_COLUMNS, case_deaths, run_deaths
 from scenarios import NEWEST, NEWEST_TAKEN, judge, version_of
 
 RUN_FIGURES = [
     'rows', 'crashes', 'detected', 'suspect_least', 'confirm_least', 'confirm_greatest', 'last_greatest',
     'false_suspect', 'false_suspect_healthy', 'false_confirm', 'false_confirm_healthy', 'thrown_out', 'revived',
-    'accuse', 'refute', 'fail', 'health', 'sent', 'lost',
+    *RUN_COLUMNS, 'accuse', 'refute', 'fail', 'health', 'sent', 'lost',
 ]
 PERCENTILES = {
     'suspect_p50': ('suspect', 50), 'confirm_p50': ('confirm', 50), 'confirm_p99': ('confirm', 99),
     'confirm_greatest': ('confirm', 100), 'last_p50': ('last', 50), 'last_greatest': ('last', 100),
 }
-CASE_FIGURES = ['runs', *PERCENTILES, 'false_suspect', 'thrown_out', 'revived', 'runs_with', 'share_low',
+CASE_FIGURES = ['runs', *PERCENTILES, 'false_suspect', 'thrown_out', 'revived', *CASE_COLUMNS, 'runs_with', 'share_low',
                 'share_high', 'messages']
+# the figures that aren't told of each text, by the version of which the text that is swept must be
+FIRST_TOLD = {'revived': 3, **{name: 4 for name in (*RUN_COLUMNS, *CASE_COLUMNS)}}
 MESSAGES = model_text.messages_of(NEWEST)
 
 
@@ -48,11 +51,19 @@ def items_meant(items, name):
     met = collections.Counter()
     meant = []
     for one in items:
-        own = tuple(one[part] for part in ('name', 'member', 'from', 'to') if isinstance(one.get(part), str))
+        own = own_name(one)
         met[own] += 1
         if list(own) == name or [*own, str(met[own])] == name:
             meant.append(one)
     return meant
+
+
+def own_name(one):
+    """The words by which an item is named, none where it has no such name."""
+    for parts in (('name',), ('member',), ('from', 'to')):
+        if all(isinstance(one.get(part), str) for part in parts):
+            return tuple(one[part] for part in parts)
+    return ()
 
 
 class Together(list):
@@ -87,15 +98,14 @@ def swept(document, settings, seeds, newest=NEWEST_TAKEN, until=None):
     """An empty text and, for each case, its values and each run's seed and figures; or what is told of the
     first run that is refused, and no cases. Without seeds each case has one run, with the text's own; with a
     width a case has no more seeds than make its interval at most so many hundredths wide."""
-    cases = []
+    cases, version = [], version_of(document, newest)
     for case in cases_of(settings):
         runs = []
         for seed in seeds or [document['seed']]:
             rule, scenario = judge(document_of_run(document, settings, case, seed), newest)
             if rule:
                 return refusal_of(rule, settings, case), []
-            figures = figures_of(scenario, model.rows_of(scenario))
-            runs.append((seed, {**figures, 'tells_revived': version_of(document, newest) >= 3}))
+            runs.append((seed, figures_of(scenario, model.rows_of(scenario), version)))
             if until is not None and is_narrow(until, [figures for _, figures in runs]):
                 break
         cases.append((case, runs))
@@ -117,8 +127,9 @@ def refusal_of(rule, settings, case):
     return f'scenario rule {rule}' + (f' with{told}' if told else '')
 
 
-def figures_of(scenario, rows):
-    """What is told of a run, and `times`, `members` and `end`, which its case needs."""
+def figures_of(scenario, rows, version):
+    """What is told of a run of a sweep of a text of this version, and `times`, `members`, `end` and `version`, which its
+    case needs."""
     crashes = model_text.ends_of(rows, 'crash')
     times = {name: [None if crash[place] is None else max(0, crash[place] - crash[1]) for crash in crashes]
              for place, name in enumerate(['suspect', 'confirm', 'last'], 2)}
@@ -127,8 +138,8 @@ def figures_of(scenario, rows):
     confirms, healthy_confirms = model_text.false_rows(scenario, rows, 'confirm')
     sent = [row.lost for row in rows if row.what in MESSAGES]
     return {
-        'times': times, 'members': len(scenario['members']), 'end': scenario['end'],
-        'revived': model_text.revived(rows),
+        'times': times, 'members': len(scenario['members']), 'end': scenario['end'], 'version': version,
+        **(run_deaths(scenario, rows) if version >= FIRST_TOLD['deaths'] else {}), 'revived': model_text.revived(rows),
         'rows': len(rows), 'crashes': len(crashes), 'detected': len(confirm),
         'suspect_least': min(suspect, default=''), 'confirm_least': min(confirm, default=''),
         'confirm_greatest': max(confirm, default=''), 'last_greatest': max(last, default=''),
@@ -141,10 +152,10 @@ def figures_of(scenario, rows):
     }
 
 
-def without_revived(names, cases):
-    """The names of figures, without `revived` where the text that is swept isn't of version 3."""
-    is_told = any(figures['tells_revived'] for _, runs in cases for _, figures in runs)
-    return [name for name in names if is_told or name != 'revived']
+def told_names(names, cases):
+    """The names of figures, without those that aren't told of the text that is swept."""
+    version = max((figures['version'] for _, runs in cases for _, figures in runs), default=1)
+    return [name for name in names if FIRST_TOLD.get(name, 1) <= version]
 
 
 # ---- The table ----
@@ -164,7 +175,7 @@ def note_of(figures):
 
 def lines_of(settings, cases):
     """The header and the line of each run, without the field that stands before each."""
-    names = without_revived(RUN_FIGURES, cases)
+    names = told_names(RUN_FIGURES, cases)
     lines = [[*(key for key, _ in settings), 'seed', *names]]
     lines += [[*map(word, case), seed, *(figures[name] for name in names)]
               for case, runs in cases for seed, figures in runs]
@@ -218,6 +229,22 @@ def shares(found, runs):
     return [nearest_thousandth((found + z * z / 2 + sign * z * root) / (runs + z * z)) for sign in (-1, 1)]
 
 
+def nearest_hundredth(value):
+    return int(value * 100 + Fraction(1, 2))
+
+
+def deaths_per_run(counts):
+    """The mean of the runs' false deaths and the ends of its 95 % interval, in hundredths: Poisson's score interval, widened where the
+    runs' variance shows more."""
+    runs, found = len(counts), sum(counts)
+    mean = Fraction(found, runs)
+    seen = runs * sum((count - mean) ** 2 for count in counts) / (runs - 1) if runs > 1 else found
+    z = Fraction(196, 100)
+    root = Fraction(isqrt(int((max(found, seen) + z * z / 4) * 8000**2)), 8000)
+    low, high = (max(0, found + z * z / 2 + sign * z * root) / runs for sign in (-1, 1))
+    return {'deaths': nearest_hundredth(mean), 'deaths_low': nearest_hundredth(low), 'deaths_high': nearest_hundredth(high)}
+
+
 def decimal(number, digits):
     """A whole number of hundredths, or of tenths, as a decimal."""
     return f'{number // 10**digits}.{number % 10**digits:0{digits}}'
@@ -233,6 +260,8 @@ def case_figures(figures):
     told['false_suspect'] = decimal(sum(run['false_suspect'] for run in figures) * 100 // runs, 2)
     told['thrown_out'] = sum(run['thrown_out'] for run in figures)
     told['revived'] = sum(run['revived'] for run in figures)
+    if figures[0]['version'] >= FIRST_TOLD['deaths']:
+        told.update(told_deaths(figures))
     told['runs_with'] = sum(run['thrown_out'] > 0 for run in figures)
     low, high = shares(told['runs_with'], runs)
     told['share_low'], told['share_high'] = decimal(low, 1), decimal(high, 1)
@@ -242,9 +271,17 @@ def case_figures(figures):
     return told
 
 
+def told_deaths(figures):
+    """What a case of a text of version 4 has of deaths, as it is told."""
+    found = case_deaths(figures)
+    for name in ('alarms', 'deaths_day', 'day_low', 'day_high'):
+        found[name] = '-' if found[name] is None else decimal(found[name], 2)
+    return found
+
+
 def cases_text(settings, cases):
     """The lines of standard output."""
-    names = without_revived(CASE_FIGURES, cases)
+    names = told_names(CASE_FIGURES, cases)
     widths = [max(map(len, [key, *map(word, values)])) for key, values in settings]
     widths += [*(max(8, len(name)) for name in names), len('front')]
     lines = [[*(key for key, _ in settings), *names, 'front']]

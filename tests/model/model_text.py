@@ -1,21 +1,19 @@
 """The trace and the report, for tests/model/model.py.
 
-Written from docs/FORMAT.md ("The trace", "The report") alone.
+Written from docs/FORMAT.md ("The trace", "The report") alone. What the report of version 4 has of a whole cluster is in
+model_watch.py.
 """
 
-import collections
-
+import model_watch
 from model_links import slow_by
-
-ALIVE, SUSPECT, CONFIRM = 'alive', 'suspect', 'confirm'
-
-Row = collections.namedtuple('Row', 'moment member maker number what about value lost')
+from model_rows import ALIVE, CONFIRM, LEFT, SUSPECT, Row, is_death
 
 # the messages of the report's last lines, by the version that names them
 MESSAGES = {
     1: ['join', 'welcome', 'ping', 'ping-req', 'ack', 'nack'],
     2: ['bye'],
     3: ['gossip', 'call', 'answer', 'push', 'pull'],
+    4: ['reconnect'],
 }
 
 
@@ -50,14 +48,20 @@ def told(number):
     return '-' if number is None else str(number)
 
 
+def until_restart(rows, member):
+    """The rows before the member starts again."""
+    past = next((place for place, row in enumerate(rows) if row.what == 'restart' and row.member == member), len(rows))
+    return rows[:past]
+
+
 def ends_of(rows, what):
-    """Of each row of this kind, a crash or a leave: its member, moment, A, B, C and D."""
+    """Of each row of this kind, a crash or a leave: its member, moment, A, B, C and D, up to its next restart."""
     found = []
     for place, row in enumerate(rows):
         if row.what == what:
-            later = [other for other in rows[place + 1:] if other.about == row.member]
+            later = [other for other in until_restart(rows[place + 1:], row.member) if other.about == row.member]
             suspects = [other.moment for other in later if other.what == SUSPECT]
-            confirms = [other.moment for other in later if other.what == CONFIRM]
+            confirms = [other.moment for other in later if is_death(other)]
             suspect = suspects[0] if suspects else None
             first, last = (confirms[0], confirms[-1]) if confirms else (None, None)
             found.append((row.member, row.moment, suspect, first, last, len(confirms)))
@@ -65,13 +69,16 @@ def ends_of(rows, what):
 
 
 def false_rows(scenario, rows, what):
-    """The rows of this kind about a member that has no crash or leave earlier; those of them by members that
-    aren't slow."""
+    """The rows of this kind, suspicions or deaths, about a member that has no crash or leave earlier since it started;
+    those of them by members that aren't slow."""
     down, found = set(), []
     for row in rows:
         if row.what in ('crash', 'leave'):
             down.add(row.member)
-        if row.what == what and row.about not in down:
+        if row.what == 'restart':
+            down.discard(row.member)
+        is_such = is_death(row) if what == CONFIRM else row.what == what
+        if is_such and row.about not in down:
             found.append(row)
     return found, [row for row in found if slow_by(scenario, row.member, row.moment) == 0]
 
@@ -80,10 +87,23 @@ def revived(rows):
     """How many rows of a member tell that somebody is alive of whom its last such row told a death."""
     last, count = {}, 0
     for row in rows:
-        if row.what in (ALIVE, SUSPECT, CONFIRM):
-            count += row.what == ALIVE and last.get((row.member, row.about)) == CONFIRM
+        if row.what in (ALIVE, SUSPECT, CONFIRM, LEFT):
+            count += row.what == ALIVE and last.get((row.member, row.about)) in (CONFIRM, LEFT)
             last[row.member, row.about] = row.what
     return count
+
+
+def restart_lines(names, rows):
+    """A line for each restart."""
+    return [f'restart {names[member]} {at} joined {told(joined)} back {told(back)} holders {holders}'
+            for member, at, joined, back, holders in model_watch.restarts_of(rows)]
+
+
+def incident_lines(scenario, rows):
+    """Since when the cluster is whole, and what alarmed an operator."""
+    alarms, deaths, members, well = model_watch.incidents(scenario, rows)
+    return [f'whole {told(model_watch.whole_since(scenario, rows))}',
+            f'alarms {alarms} deaths {deaths} members {members} well {well}']
 
 
 def report_of(scenario, rows):
@@ -98,12 +118,16 @@ def report_of(scenario, rows):
                      f'last {told(last)} confirmers {count} latency {told(latency)}')
     for member, at, _, first, last, count in ends_of(rows, 'leave') if scenario['version'] > 1 else []:
         lines.append(f'leave {names[member]} {at} confirm {told(first)} last {told(last)} confirmers {count}')
+    if scenario['version'] >= 4:
+        lines += restart_lines(names, rows)
     least, greatest = min(latencies, default=None), max(latencies, default=None)
     lines.append(f'latency least {told(least)} greatest {told(greatest)}')
     for what in (SUSPECT, CONFIRM):
         found, healthy = false_rows(scenario, rows, what)
         lines.append(f'false {what} {len(found)} healthy {len(healthy)}')
-    lines += [f'revived {revived(rows)}'] * (scenario['version'] == 3)
+    lines += [f'revived {revived(rows)}'] * (scenario['version'] >= 3)
+    if scenario['version'] >= 4:
+        lines += incident_lines(scenario, rows)
     lines += [f'{what} {sum(row.what == what for row in rows)}' for what in ('accuse', 'refute', 'fail')]
     lines.append(f'health {max((row.value for row in rows if row.what == "health"), default=0)}')
     for what in messages_of(scenario['version']):

@@ -1,17 +1,18 @@
 """The scenario text, for tests/model/model.py: which rule it breaks, or the scenario that it says.
 
 Written from docs/FORMAT.md ("The scenario text", "Refusals") alone. It needs Python 3.11, whose library reads
-TOML.
+TOML. What a text of version 4 breaks is in model_written.py; its scenario is that of the plain text that it stands for.
 """
 
 import collections
+import importlib
 import math
 import re
 import tomllib
 
 # the newest version of the format, and the newest that the program takes. Whatever compares the program with
 # these models goes by the second: runs, texts and sweeps of later versions are held against no program.
-NEWEST = 3
+NEWEST = 4
 NEWEST_TAKEN = 3
 
 REQUIRED = object()
@@ -58,7 +59,7 @@ GOSSIP = {
     'push': number(0, 2**24, 0),
 }
 STREAM = {'connect': number(1, 2**24, 1000), 'again': number(1, 2**24, 200)}
-MOST_MEMBERS = {1: 1024, 2: 4096, 3: 4096}
+MOST_MEMBERS = {1: 1024, 2: 4096, 3: 4096, 4: 16384}
 
 
 def version_of(document, newest=NEWEST_TAKEN):
@@ -188,6 +189,13 @@ def downs(scenario):
     return scenario['crash'] + scenario['leave']
 
 
+def script_of(scenario, name):
+    """What happens to a member of this name after its start, each with its entry: by moments, at one moment crashes before
+    leaves before restarts, and of one list in the text's order."""
+    script = [(what, entry) for what in ('crash', 'leave', 'restart') for entry in scenario[what] if entry['member'] == name]
+    return sorted(script, key=lambda event: event[1]['at'])
+
+
 def names_nobody(scenario):
     groups = {group['name'] for group in scenario['group']}
     members = {member['name'] for member in scenario['members']} | {None}
@@ -252,7 +260,8 @@ def filled(value, key):
 
 def scenario_of(document, keys):
     """The scenario: the document with its defaults, and its members in order."""
-    scenario = {'cut': [], 'leave': [], 'pause': [], 'gossip': None, **filled(document, table(REQUIRED, keys))}
+    scenario = {'cut': [], 'leave': [], 'restart': [], 'pause': [], 'block': [], 'gossip': None, 'serf': None,
+                **filled(document, table(REQUIRED, keys))}
     for path in scenario['path']:
         path.update({name: scenario['link'][name] for name in LINK if path[name] is None})
     scenario['members'] = [
@@ -267,6 +276,8 @@ def judge(document, newest=NEWEST_TAKEN):
     None; or 0 and its scenario."""
     if document is None:
         return 1, None
+    if version_of(document, newest) >= 4:
+        return importlib.import_module('model_written').judge(document)
     keys = keys_of(version_of(document, newest), newest)
     for rule, is_broken in RULES_OF_THE_DOCUMENT:
         if is_broken(document, keys):

@@ -16,6 +16,8 @@ from scenarios import NEWEST, document_of, judge
 FOLDER = DATA / 'drive'
 RUNS = 200
 SEED = 20261129
+# how new the runs are that are driven: what version 4 has beside has no lines of its own yet
+NEWEST_DRIVEN = 3
 
 
 def nested(text):
@@ -99,7 +101,7 @@ def check_own(_, text):
 
 
 def check_random(_, number):
-    check_own(_, run_case(SEED, number, NEWEST)[0].decode())
+    check_own(_, run_case(SEED, number, NEWEST_DRIVEN)[0].decode())
 
 
 def cases():

@@ -8,10 +8,14 @@ from model_sweep_times import spread_of
 from model_sweeps import case_figures, figures_of
 from model_text import report_of, rows_in
 from program import Case, DATA, expect
-from worked import scenario_of
+from scenarios import NEWEST, document_of, judge
 
 FOLDER = DATA / 'rows'
 HEADER = 'moment,member,from,number,what,about,value,lost\n'
+
+
+def scenario_of(text):
+    return judge(document_of(text.encode()), NEWEST)[1]
 
 
 def lines_in(held):
@@ -31,13 +35,13 @@ def check_report(_, text, lines, report):
 def figures_in(texts, rows, run):
     """The figures of a run, of a scenario and rows by their names."""
     scenario = scenario_of(texts[run['text']])
-    return figures_of(scenario, rows_of(scenario, rows[run['rows']]))
+    return figures_of(scenario, rows_of(scenario, rows[run['rows']]), scenario['version'])
 
 
 def check_figures(_, texts, rows, case):
     """Compares the figures of a run, or what is told of a case of several."""
     figures = [figures_in(texts, rows, run) for run in case['runs']]
-    seen = {**case_figures(figures), **spread_of(figures)} if case.get('is_case') else figures[0]
+    seen = {**spread_of(figures), **case_figures(figures)} if case.get('is_case') else figures[0]
     for name, wanted in case['wanted'].items():
         expect(name, seen[name], wanted)
 

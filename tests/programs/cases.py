@@ -19,6 +19,7 @@ import paths  # noqa: F401 (puts the folders of what follows on the path)
 import commands
 import draws
 import drives
+import expand
 import large_pages
 import long_runs
 import presets
@@ -26,6 +27,7 @@ import run_pages
 import shards
 import sweeps
 import test_model_drive
+import test_model_four
 import test_model_parts
 import test_model_rows
 import test_model_steps
@@ -36,8 +38,8 @@ from harness import end, parser_of, program_at
 from program import Program, Wrong
 from stand_in import StandIn
 
-KINDS = (worked, test_model_steps, test_model_parts, test_model_rows, test_model_drive, drives, draws, texts, commands, presets, sweeps, shards,
-         run_pages, large_pages, long_runs, writes)
+KINDS = (worked, test_model_steps, test_model_parts, test_model_rows, test_model_four, test_model_drive, drives, draws, texts, expand, commands,
+         presets, sweeps, shards, run_pages, large_pages, long_runs, writes)
 
 
 def failure_of(path, room, case):

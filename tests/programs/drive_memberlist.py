@@ -5,7 +5,7 @@
 
 It builds the harness of examples/drive/memberlist. Over seeds 1 to 20 failed probes, suspicions and refutations of both may
 differ by 10 %. By chance alone each sum differs by 5 % (one standard error), but the same seeds make nearly the same sums.
-Then it changes the text, and looks whether memberlist takes each setting. Where Go or Debian's package of memberlist is
+Then it changes the text, and looks whether memberlist takes each setting; and it makes the page that shows both. Where Go or Debian's package of memberlist is
 missing all is skipped, and the script says so. It takes a minute of four processors at most. The last line is `N passed, M
 failed`, with `, K skipped` where some were, and the status is 1 where M is over 0.
 """
@@ -116,6 +116,23 @@ def named(both):
     yield 'what memberlist has no settings for', '' if re.findall(r"can't do (.*)", told) == TOLD else told
 
 
+def shown_together(both):
+    """The page that shows both, of a text in which a member crashes: memberlist forgets it."""
+    (both.room / 'crash.toml').write_text(changed({}) + CRASH)
+    out = both.room / 'together'
+    ran = call([BUILD.parent / 'compare', out, both.room / 'crash.toml'], env={**os.environ, 'SWIMSIM': str(both.program)})
+    page = (out / 'compare.html').read_text() if ran.status == 0 else ''
+    lines = dict(re.findall(r'<tr><td>([^<]*)<td>([^<]*<td>[^<]*)', page))
+    asked = {
+        'status': ran.status == 0,
+        'pages': all(f'src="{name}.html"' in page and (out / f'{name}.html').exists() for name in 'mr'),
+        'figures': re.fullmatch(r'[0-9]+ lost [0-9]+<td>[0-9]+ lost [0-9]+', lines.get('sent ping', '')),
+        'forget': ',forget,node-5,' in (out / 'm.csv').read_text(),
+    }
+    missing = [name for name, holds in asked.items() if not holds]
+    yield 'the page that shows both', f'not so: {missing} {ran.err.decode()}' if missing else ''
+
+
 def main():
     parser = parser_of(__doc__)
     parser.add_argument('--seeds', type=int, default=20, metavar='N', help='default: 20')
@@ -123,10 +140,10 @@ def main():
     program = program_at(asked.program)
     if not shutil.which('go') or not SOURCES.exists():
         print('skipped: no Go or no memberlist here (Debian: golang-go, golang-github-hashicorp-memberlist-dev)')
-        end(0, 0, len(COMPARED) + len(SETTINGS) + 1)
+        end(0, 0, len(COMPARED) + len(SETTINGS) + 2)
     with tempfile.TemporaryDirectory() as room, ThreadPoolExecutor(os.cpu_count()) as pool:
         both = Both(program, Path(room))
-        judge_cases(chain(compared(both, pool, asked.seeds), taken(both, pool), named(both)))
+        judge_cases(chain(compared(both, pool, asked.seeds), taken(both, pool), named(both), shown_together(both)))
 
 
 if __name__ == '__main__':

@@ -8,8 +8,11 @@ import subprocess
 from generate import run_case
 from harness import TESTS, call
 from model_harness import Harness
+from model_text import report_of, rows_in
 from program import Case, DATA, expect, expect_ran
+from run_pages import expect_page
 from scenarios import document_of, judge
+from worked import scenario_of
 
 HEAD = b'moment,member,from,number,what,about,value,lost\n'
 # version 4 has its own rows; `run` compares with those before
@@ -29,7 +32,7 @@ def drive_words(program, *more):
 
 
 def check_drive(program, case):
-    """Compares a drive whose answers are all there before it begins."""
+    """Compares a drive whose answers are all there before it begins; its report and page are the model's of its trace."""
     program.keep('s.toml', case['text'])
     program.keep('answers', ''.join(f'{answer}\n' for answer in case['answers']))
     with open(program.folder / 'answers', 'rb') as answers:
@@ -45,7 +48,9 @@ def check_drive(program, case):
         expect('report and page', (program.held('r.txt'), program.held('p.html')), (b'', b''))
         return
     expect_ran(ran, 0, ran.out, b'')
-    expect('report and page', (bool(program.held('r.txt')), bool(program.held('p.html'))), (True, True))
+    trace, scenario = program.held('t.csv'), scenario_of(case['text'])
+    expect('report', program.held('r.txt'), report_of(scenario, rows_in(scenario, trace.decode())).encode())
+    expect_page(program, 'page', 's.toml', case['text'], trace)
 
 
 def drive_by(program, harness):

@@ -41,26 +41,26 @@ def check(program, text):
         expect_ran(ran, 0, rows, b'', f'{told} ')
         expect(f'{told} trace', program.held('t.csv'), trace)
         expect(f'{told} report', program.held('r.txt'), report)
-        expect_page(program, f'{told} page', text, trace)
+        expect_page(program, f'{told} page', NAME, text, trace)
     for word, tick in TICKS:
         ran = program.call(['run', NAME, '--trace', 't.csv', '--report', 'r.txt', '--page', 'p.html', '--tick', word])
         expect_ran(ran, 0, rows, b'', f'{word} ')
         expect(f'{word} trace', program.held('t.csv'), trace)
         expect(f'{word} report', program.held('r.txt'), report)
-        expect_page(program, f'{word} page', text, trace, tick)
+        expect_page(program, f'{word} page', NAME, text, trace, tick)
     program.keep('p.html', 'an older page\n' * 100000)
     ran = program.call(['run', NAME, '--trace', '/dev/null', '--page', 'p.html'])
     expect_ran(ran, 0, rows, b'', 'page alone ')
-    expect_page(program, 'page alone', text, trace)
+    expect_page(program, 'page alone', NAME, text, trace)
 
 
-def expect_page(program, told, text, trace, tick=None):
-    """Compares the page with the model's; its style is taken as it stands."""
+def expect_page(program, told, name, text, trace, tick=None):
+    """Compares the page of the file of this name with the model's; its style is taken as it stands."""
     page = program.held('p.html')
     style = page.partition(b'<style>')[2].partition(b'</style>')[0].decode()
     release = program.call(['--version']).out.split()[1].decode()
     scenario = scenario_of(text)
-    expect(told, page, page_of(NAME, release, style, scenario, rows_in(scenario, trace.decode()), tick).encode())
+    expect(told, page, page_of(name, release, style, scenario, rows_in(scenario, trace.decode()), tick).encode())
 
 
 def check_held(program):

@@ -4,7 +4,7 @@ use crate::names::{is_read, names_of};
 use crate::surroundings::Surroundings;
 use base::Memory;
 use command_line::parse;
-use reasons::FileReason;
+use reasons::{FileReason, NamedFile};
 use std::alloc::Global;
 use std::convert::AsStr;
 
@@ -19,26 +19,47 @@ pub(crate) fn file_reason<'a, S: AsStr, A: Surroundings>(
     match parse(alloc, words) {
         Ok(asked) => {
             let names = names_of(alloc, &asked)?;
-            match other_name(surroundings, names.as_slice(), name) {
-                Some(other) => Ok(Some(FileReason::Twice { name, other })),
-                None => Ok(surroundings.file_reason(name, is_read(&asked, name))),
+            match named_twice(surroundings, names.as_slice(), name) {
+                Some(twice) => Ok(Some(twice)),
+                None => Ok(Some(surroundings.file_reason(name, is_read(&asked, name)))),
             }
         }
         Err(_) => Ok(None),
     }
 }
 
-/// Another of the names that stands for the file of a name; it may be the same word, where that stands twice.
+/// That another word names the file of a name, where one does.
+fn named_twice<'a, A: Surroundings>(
+    surroundings: &A,
+    names: &[NamedFile<'a>],
+    name: &str,
+) -> Option<FileReason<'a>> {
+    let first = named_so(names, name)?;
+    let second = other_name(surroundings, names, name)?;
+    Some(FileReason::Twice { first, second })
+}
+
+/// The first of the words that is this name.
+fn named_so<'a>(names: &[NamedFile<'a>], name: &str) -> Option<NamedFile<'a>> {
+    for named in names {
+        if named.name == name {
+            return Some(*named);
+        }
+    }
+    None
+}
+
+/// Another of the words that names the file of a name; it may be the same word, where that stands twice.
 fn other_name<'a, A: Surroundings>(
     surroundings: &A,
-    names: &[&'a str],
+    names: &[NamedFile<'a>],
     name: &str,
-) -> Option<&'a str> {
+) -> Option<NamedFile<'a>> {
     let mut is_met = false;
     for other in names {
-        if *other == name && !is_met {
+        if other.name == name && !is_met {
             is_met = true;
-        } else if *other == name || surroundings.are_one(name, other) {
+        } else if other.name == name || surroundings.are_one(name, other.name) {
             return Some(*other);
         }
     }

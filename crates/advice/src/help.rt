@@ -7,6 +7,7 @@ swimsim simulates clusters of the SWIM membership protocol. Its commands:
   init     prints a scenario to begin with, with a comment on each key
   check    reads a scenario, and prints how many members it has
   explain  prints what a scenario means, or all errors of one that is refused
+  expand   prints the plain entries that a scenario stands for
   run      runs a scenario, and writes its trace
   sweep    runs a scenario by many seeds and settings, and writes a table
   join     puts the shards of a sweep together

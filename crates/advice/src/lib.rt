@@ -7,6 +7,8 @@ mod lines;
 mod names;
 mod runs;
 mod scenarios;
+mod settings;
+mod shard_reasons;
 mod surroundings;
 mod tables;
 mod telling;

@@ -1,14 +1,14 @@
-//! The lines that are told below that of a failure.
+//! The lines that are printed below that of a failure.
 ghost use Rattle.std.specs.Prelude.{◌≡◌};
 
 use crate::file_reasons::file_reason;
 use crate::help::SHORT_HELP;
-use crate::runs::run_reason;
-use crate::scenarios::first_diagnostic;
+use crate::runs::run_lines;
+use crate::scenarios::{first_diagnostic, first_of_setting};
+use crate::shard_reasons::shard_lines;
 use crate::surroundings::Surroundings;
-use crate::tables::table_lines;
 use base::Memory;
-use command_line::{Asked, Failure, ShardFault, parse};
+use command_line::{Asked, Failure, parse};
 use files::Files;
 use item_reasons::item_reason;
 use reasons::RunReason;
@@ -35,14 +35,13 @@ pub(crate) fn lines_below<'a, S: AsStr, F: Files, A: Surroundings>(
             words_lines(alloc, words, failure)
         }
         Failure::File(name) => file_lines(alloc, surroundings, words, name),
-        Failure::Rule(rule) | Failure::Setting { rule, .. } => {
-            scenario_lines(alloc, words, *rule, files)
+        Failure::Rule(rule) => scenario_lines(alloc, words, *rule, "", files),
+        Failure::Setting { rule, swept_keys } => {
+            scenario_lines(alloc, words, *rule, swept_keys.as_str(), files)
         }
         Failure::NoItem { key } => item_lines(alloc, words, key.as_str(), files),
-        Failure::Shards(ShardFault::Other(_) | ShardFault::Doubled(_)) => {
-            table_lines(alloc, words, files)
-        }
-        _ => run_lines(alloc, failure),
+        Failure::Shards(fault) => shard_lines(alloc, words, *fault, files),
+        _ => run_lines(alloc, words, failure),
     }
 }
 
@@ -76,11 +75,12 @@ fn file_lines<'a, S: AsStr, A: Surroundings>(
 }
 
 /// What is wrong with the scenario whose file stands in the words: its first diagnostic, and what tells all of them. Where it has
-/// none, it is a choice of the sweep that breaks a rule.
+/// none, and values of a setting are given, these break a rule: what is wrong with the text that has them.
 fn scenario_lines<S: AsStr, F: Files>(
     alloc: Global,
     words: &[S],
     rule: u8,
+    swept_keys: &str,
     files: &mut F,
 ) -> Result<String, Memory>
     ensures same { F.known files.new ≡ F.known files.old }
@@ -93,12 +93,16 @@ fn scenario_lines<S: AsStr, F: Files>(
     let Some(name) = scenario_name(&asked) else {
         return Ok(String::new(alloc));
     };
-    let mut lines = first_diagnostic(alloc, name, rule, files)?;
-    let reason = if lines.is_empty() {
-        RunReason::Setting(name)
-    } else {
-        RunReason::Rule(name)
-    };
+    let lines = first_diagnostic(alloc, name, rule, files)?;
+    if lines.is_empty() && !swept_keys.is_empty() {
+        let first = first_of_setting(alloc, name, rule, swept_keys, files)?;
+        return with_reason(alloc, first, RunReason::Setting(name));
+    }
+    with_reason(alloc, lines, RunReason::Rule(name))
+}
+
+/// Lines with that of a reason behind them.
+fn with_reason(alloc: Global, mut lines: String, reason: RunReason<'_>) -> Result<String, Memory> {
     lines.push_str(line_of(alloc, &reason)?.as_str())?;
     Ok(lines)
 }
@@ -145,14 +149,6 @@ fn item_line(alloc: Global, key: &str, bytes: &[u8]) -> Result<String, Memory> {
     match document(alloc, bytes) {
         Ok(document) => line_of(alloc, &item_reason(alloc, key, &document)?),
         Err(_) => Ok(String::new(alloc)),
-    }
-}
-
-/// What is wrong with a run.
-fn run_lines(alloc: Global, failure: &Failure<'_>) -> Result<String, Memory> {
-    match run_reason(failure) {
-        Some(reason) => line_of(alloc, &reason),
-        None => Ok(String::new(alloc)),
     }
 }
 

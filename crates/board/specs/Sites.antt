@@ -1,5 +1,5 @@
 -- Which board it is.
-use Rattle.std.specs.Prelude.{◌≡◌, []}
+use Rattle.std.specs.Prelude.{◌≡◌}
 use Rattle.std.specs.List.{sum_by, All}
 use Rattle.std.specs.Prelude.{List, length}
 use Rattle.atomic_table.specs.Seated.{TableId}

@@ -19,11 +19,11 @@ use std::marker::PhantomData;
 pub struct Post<'b, T, V, S: ItemRule<T, V>, J: Site> {
     board: &'b Board<T, V, S>,
     seat: Seat<T, V>,
-    record: SeatRecord<V>,
+    log: SeatRecord<V>,
     site: PhantomData<J>,
     ghost is_seat: { IsSeatOf board.now seat },
     ghost here: { table_of board.now ≡ J.table },
-    ghost kept: { record_of seat ≡ hand 1 record.dealt.value record.taken.value },
+    ghost kept: { record_of seat ≡ hand 1 log.dealt.value log.taken.value },
 }
 
 impl<'b, T: Drop, V: Drop, S: ItemRule<T, V>, J: Site> Post<'b, T, V, S, J> {
@@ -37,7 +37,7 @@ impl<'b, T: Drop, V: Drop, S: ItemRule<T, V>, J: Site> Post<'b, T, V, S, J> {
         Post {
             board,
             seat,
-            record: SeatRecord::new(),
+            log: SeatRecord::new(),
             site: PhantomData,
         }
     }
@@ -49,7 +49,7 @@ impl<'b, T: Drop, V: Drop, S: ItemRule<T, V>, J: Site> Post<'b, T, V, S, J> {
         ensures kept { record_of result.0 ≡ hand 1 result.1.dealt.value result.1.taken.value }
         ensures same { record_of result.0 ≡ record_of self.entry.seat }
     {
-        let Post { seat, record, .. } = self;
-        (seat, record)
+        let Post { seat, log, .. } = self;
+        (seat, log)
     }
 }

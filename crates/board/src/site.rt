@@ -1,4 +1,4 @@
-//! The type-level name of a board, by which posts and seats of one board are told from those of another.
+//! The type-level name of a board: it separates its posts and seats from those of another board.
 use std::marker::Brand;
 
 /// Which board it is. A type parameter of this kind stands for one board, which a call picks

@@ -1,5 +1,5 @@
 -- What an answer to the words says of them, and of what was not done.
-use Rattle.std.proofs.Common.{◌≡◌, List, [], ◌∷◌, ℕ, Bool, true, false, Option, Some, None, Result, Ok, Err, codes, sym, subst, refl, inl, inr}
+use Rattle.std.proofs.Common.{◌≡◌, List, [], ◌∷◌, ℕ, Bool, true, false, Option, Some, None, Result, Ok, Err, Bor, codes, sym, subst, refl, inl, inr}
 use Rattle.std.proofs.lemmas.Option.{none-some, same_Some}
 use Rattle.std.proofs.lemmas.Result.{on_ok_weaker, IfErr-weaker}
 use Rattle.std.proofs.lemmas.List.Elements.{All-cons, All-nil}
@@ -13,6 +13,7 @@ use Rattle.trace.proofs.Beginnings.{Keeps-same}
 use Rattle.join_command.specs.Outcomes.{JoinFails, JoinsAll, PageFails, PagesAll}
 use Rattle.join_command.proofs.Causes.{join_ends, join_memory, page_ends, page_memory}
 use Rattle.explain_command.specs.Outcomes.{ExplainFails, PrintsMeaning}
+use Rattle.expand_command.specs.Outcomes.{ExpandFails, ExpandsTo}
 use Rattle.run_command.specs.Outcomes.{EndsWithCause, RunFails, RunsAll}
 use Rattle.run_command.proofs.Causes.{run_drive, run_item, run_memory, run_mistaken, run_output, run_preset, run_usage}
 use Rattle.sweep_command.specs.Outcomes.{SweepFails, SweepsAll}
@@ -29,7 +30,7 @@ use Rattle.command_line.specs.declared.driving.DriveWords.{DriveWords}
 use Rattle.cli.specs.Outcomes.{AsksForProgress, CheckFails, EndsRunBy, HasDone, Fails}
 use Rattle.files.specs.Files.{Making}
 use Rattle.command_line.specs.Printed.{rows_line, PresetFails, PrintsPreset}
-use Rattle.command_line.specs.Words.{Answers, AsksForRun, AsksForCheck, AsksForDrive, AsksForExplain, AsksForInit, AsksForJoin, AsksForPage, AsksForShard, AsksForSweep, AsksToDrive, IsCommand}
+use Rattle.command_line.specs.Words.{Answers, AsksForRun, AsksForCheck, AsksForDrive, AsksForExpand, AsksForExplain, AsksForInit, AsksForJoin, AsksForPage, AsksForShard, AsksForSweep, AsksToDrive, IsCommand}
 use Rattle.command_line.specs.declared.release.Release.{Release}
 use Rattle.command_line.specs.declared.words.Asked.{Asked}
 use Rattle.command_line.specs.declared.words.Asked.TheVariants as asked
@@ -54,7 +55,8 @@ is_command words (asked.Join join) h = inr (inr (inr (inr (inr (inl (join, h))))
 is_command words (asked.Page page) h = inr (inr (inr (inr (inr (inr (inl (page, h)))))))
 is_command words (asked.Drive drive) h = inr (inr (inr (inr (inr (inr (inr (inl (drive, h))))))))
 is_command words (asked.Help help) h = inr (inr (inr (inr (inr (inr (inr (inr (inl h.1))))))))
-is_command words asked.Version h = inr (inr (inr (inr (inr (inr (inr (inr (inr h))))))))
+is_command words asked.Version h = inr (inr (inr (inr (inr (inr (inr (inr (inr (inl h)))))))))
+is_command words (asked.Expand file) h = inr (inr (inr (inr (inr (inr (inr (inr (inr (inr (file.now, h))))))))))
 
 -- why a run that the words ask for was not done
 pub run_fails : (Refused : Type 0) (words : List Text) (before after : Shelf) (making : Making) (old new : Option (List ℕ)) (gave : List (List ℕ)) (heard : List ℕ) (run : RunWords) (version : List ℕ) (failure : Failure)
@@ -380,14 +382,14 @@ drive_memory Refused version before after making drive gave heard (inr ended) = 
 
 drive_fails : (Refused : Type 0) (version : List ℕ) (words : List Text) (before after : Shelf) (making : Making) (old new : Option (List ℕ)) (gave : List (List ℕ)) (heard : List ℕ) (drive : DriveWords) (failure : Failure)
     → AsksForDrive words drive → DriveFails Refused version before after making drive gave heard failure → Fails Refused words before after making old new gave heard failure
-drive_fails Refused version words before after making old new gave heard drive (File name) asks fails = inr (inr (inr (inr (inr (inr (drive, asks, (version, fails)))))))
-drive_fails Refused version words before after making old new gave heard drive (Rule rule) asks fails = inr (inr (inr (inr (inr (inr (drive, asks, (version, fails)))))))
-drive_fails Refused version words before after making old new gave heard drive (Setting rule swept_keys) asks fails = inr (inr (inr (inr (inr (inr (drive, asks, (version, fails)))))))
-drive_fails Refused version words before after making old new gave heard drive (Shards cause) asks fails = inr (inr (inr (inr (inr (inr (drive, asks, (version, fails)))))))
-drive_fails Refused version words before after making old new gave heard drive Workers asks fails = inr (inr (inr (inr (inr (inr (drive, asks, (version, fails)))))))
-drive_fails Refused version words before after making old new gave heard drive (Division cause) asks fails = inr (inr (inr (inr (inr (inr (drive, asks, (version, fails)))))))
-drive_fails Refused version words before after making old new gave heard drive (Run cause) asks fails = inr (inr (inr (inr (inr (inr (drive, asks, (version, fails)))))))
-drive_fails Refused version words before after making old new gave heard drive (Drive cause) asks fails = inr (inr (inr (inr (inr (inr (drive, asks, (version, fails)))))))
+drive_fails Refused version words before after making old new gave heard drive (File name) asks fails = inr (inr (inr (inr (inr (inr (inl (drive, asks, (version, fails))))))))
+drive_fails Refused version words before after making old new gave heard drive (Rule rule) asks fails = inr (inr (inr (inr (inr (inr (inl (drive, asks, (version, fails))))))))
+drive_fails Refused version words before after making old new gave heard drive (Setting rule swept_keys) asks fails = inr (inr (inr (inr (inr (inr (inl (drive, asks, (version, fails))))))))
+drive_fails Refused version words before after making old new gave heard drive (Shards cause) asks fails = inr (inr (inr (inr (inr (inr (inl (drive, asks, (version, fails))))))))
+drive_fails Refused version words before after making old new gave heard drive Workers asks fails = inr (inr (inr (inr (inr (inr (inl (drive, asks, (version, fails))))))))
+drive_fails Refused version words before after making old new gave heard drive (Division cause) asks fails = inr (inr (inr (inr (inr (inr (inl (drive, asks, (version, fails))))))))
+drive_fails Refused version words before after making old new gave heard drive (Run cause) asks fails = inr (inr (inr (inr (inr (inr (inl (drive, asks, (version, fails))))))))
+drive_fails Refused version words before after making old new gave heard drive (Drive cause) asks fails = inr (inr (inr (inr (inr (inr (inl (drive, asks, (version, fails))))))))
 drive_fails Refused version words before after making old new gave heard drive (Mistaken rule) asks fails = absurd (drive_ends Refused version before after making drive gave heard (Mistaken rule) (λ h. h) (λ s h. h) fails)
 drive_fails Refused version words before after making old new gave heard drive failing.Preset asks fails = absurd (drive_ends Refused version before after making drive gave heard failing.Preset (λ h. h) (λ s h. h) fails)
 drive_fails Refused version words before after making old new gave heard drive Usage asks fails = absurd (drive_ends Refused version before after making drive gave heard Usage (λ h. h) (λ s h. h) fails)
@@ -414,3 +416,45 @@ asked_drive_done release words before after making held gave heard answer drive 
 -- where the words ask for no drive, this isn't one
 pub asked_undriven : {P : Type 0} (words : List Text) (answer : Asked) (drive : DriveWords) → answer ≡ asked.Drive drive → Answers words answer → ¬ (AsksToDrive words) → P
 asked_undriven words answer drive is h none = absurd (none (drive, subst (Answers words) is h))
+
+-- why the scenario that the words ask to expand has no plain text
+expand_fails : (Refused : Type 0) (words : List Text) (before after : Shelf) (making : Making) (old new : Option (List ℕ)) (gave : List (List ℕ)) (heard : List ℕ) (file : Text) (failure : Failure)
+    → AsksForExpand words file → (after ≡ before) → ExpandFails (before file) file failure → Fails Refused words before after making old new gave heard failure
+expand_fails Refused words before after making old new gave heard file (File name) asks same fails = inr (inr (inr (inr (inr (inr (inr (file, asks, record { cause = fails; same = same })))))))
+expand_fails Refused words before after making old new gave heard file (Rule rule) asks same fails = inr (inr (inr (inr (inr (inr (inr (file, asks, record { cause = fails; same = same })))))))
+expand_fails Refused words before after making old new gave heard file Memory asks same fails = same
+expand_fails Refused words before after making old new gave heard file (Mistaken rule) asks same fails = absurd fails
+expand_fails Refused words before after making old new gave heard file (Setting rule swept_keys) asks same fails = absurd fails
+expand_fails Refused words before after making old new gave heard file (Shards cause) asks same fails = absurd fails
+expand_fails Refused words before after making old new gave heard file Usage asks same fails = absurd fails
+expand_fails Refused words before after making old new gave heard file (NoItem key) asks same fails = absurd fails
+expand_fails Refused words before after making old new gave heard file failing.Preset asks same fails = absurd fails
+expand_fails Refused words before after making old new gave heard file Workers asks same fails = absurd fails
+expand_fails Refused words before after making old new gave heard file (Division cause) asks same fails = absurd fails
+expand_fails Refused words before after making old new gave heard file (Run cause) asks same fails = absurd fails
+expand_fails Refused words before after making old new gave heard file Output asks same fails = absurd fails
+expand_fails Refused words before after making old new gave heard file (Drive stop) asks same fails = absurd fails
+
+-- the same of an answer that is such a wish
+pub asked_expand_fails : (Refused : Type 0) (words : List Text) (before after : Shelf) (making : Making) (old new : Option (List ℕ)) (gave : List (List ℕ)) (heard : List ℕ) (answer : Asked) (file : Bor Text) (failure : Failure)
+    → answer ≡ asked.Expand file → Answers words answer → (after ≡ before) → ExpandFails (before file.now) file.now failure
+    → Fails Refused words before after making old new gave heard failure
+asked_expand_fails Refused words before after making old new gave heard answer file failure is h same fails =
+    let asks : Answers words (asked.Expand file) = subst (Answers words) is h in
+    expand_fails Refused words before after making old new gave heard file.now failure asks same fails
+
+-- the plain text that the words ask for was printed
+pub asked_expand_done : {E : Type 0} (release : Release) (words : List Text) (before after : Shelf) (making : Making) (old new : Option (List ℕ)) (gave : List (List ℕ)) (heard : List ℕ) (answer : Asked) (file : Bor Text) (text shown : List ℕ)
+    (printed : Result (Unit {0}) E) → answer ≡ asked.Expand file → Answers words answer → (after ≡ before) → ExpandsTo (before file.now) text → shown ≡ text
+    → OnOk printed (Appends old new shown) → OnOk printed (HasDone release words before after making old new gave heard)
+asked_expand_done release words before after making old new gave heard answer file text shown printed is h same stands whole told =
+    let asks : Answers words (asked.Expand file) = subst (Answers words) is h in
+    on_ok_weaker printed (λ appended. inr (inr (inr (inr (inr (inr (inr (inr (inr (inr (text, (file.now, asks, stands, same), subst (Appends old new) whole appended))))))))))) told
+
+-- or not printed
+pub asked_expand_unprinted : (Refused : Type 0) (words : List Text) (before after : Shelf) (making : Making) (old new : Option (List ℕ)) (gave : List (List ℕ)) (heard : List ℕ) (answer : Asked) (file : Bor Text) (text : List ℕ)
+    (printed : Result (Unit {0}) Failure) → answer ≡ asked.Expand file → Answers words answer → (after ≡ before) → ExpandsTo (before file.now) text
+    → IfErr printed (λ failure. failure ≡ Output) → IfErr printed (Fails Refused words before after making old new gave heard)
+asked_expand_unprinted Refused words before after making old new gave heard answer file text printed is h same stands told =
+    let asks : Answers words (asked.Expand file) = subst (Answers words) is h in
+    IfErr-weaker printed _ _ (λ failure output. subst (Fails Refused words before after making old new gave heard) (sym output) (inr (inr (inr (inr (inr (inr (inr (inr (text, (file.now, asks, stands, same))))))))))) told

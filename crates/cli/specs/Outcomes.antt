@@ -8,7 +8,7 @@ use Rattle.member_laws.specs.Runs.{CounterOverflows}
 use Rattle.run_output.specs.Promise.{ReportOverflows}
 use Rattle.clap.specs.Words.{Text}
 use Rattle.files.specs.Files.{KnownFile, Making}
-use Rattle.command_line.specs.Words.{AsksForRun, AsksForCheck, AsksForDrive, AsksForExplain, AsksForHelp, AsksForInit, AsksForNoPreset, AsksForVersion, IsNoCommand}
+use Rattle.command_line.specs.Words.{AsksForRun, AsksForCheck, AsksForDrive, AsksForExpand, AsksForExplain, AsksForHelp, AsksForInit, AsksForNoPreset, AsksForVersion, IsNoCommand}
 use Rattle.command_line.specs.Printed.{rows_line, members_line, release_line, HasText, PrintsPreset}
 use Rattle.command_line.specs.Failures.{status_of, IsMistaken}
 use Rattle.command_line.specs.declared.release.Release.{Release}
@@ -21,6 +21,7 @@ use Rattle.scenario_files.specs.Shelves.{Shelf, IsRefused}
 use Rattle.scenario_files.specs.Loading.{HasVerdict, LoadFails}
 use Rattle.join_command.specs.Outcomes.{DoesJoin, DoesNotJoin, DoesNotPage, DoesPage}
 use Rattle.explain_command.specs.Outcomes.{ExplainFails, IsExplained, PrintsMeaning}
+use Rattle.expand_command.specs.Outcomes.{ExpandFails, ExpandsTo}
 use Rattle.run_command.specs.Outcomes.{AsksForRunProgress, DoesRun, EndsWithCause, RunFails}
 use Rattle.drive_command.specs.Outcomes.{DoesDrive, DriveFails}
 use Rattle.command_line.specs.declared.driving.DriveWords.{DriveWords}
@@ -47,6 +48,10 @@ abbrev pub DoesExplain : List Text → Shelf → Shelf → Option (List ℕ) →
 DoesExplain words before after old new =
     (explain : ExplainWords) × AsksForExplain words explain × PrintsMeaning (before explain.file.now) explain old new × (after ≡ before)
 
+-- the scenario of the file that the words ask to expand stands for this plain text
+abbrev pub DoesExpand : List Text → Shelf → Shelf → List ℕ → Type 0
+DoesExpand words before after text = (file : Text) × AsksForExpand words file × ExpandsTo (before file) text × (after ≡ before)
+
 -- the scenario of the preset that the words ask for was printed
 abbrev pub DoesInit : List Text → Shelf → Shelf → Option (List ℕ) → Option (List ℕ) → Type 0
 DoesInit words before after old new = (preset : AnyPreset) × AsksForInit words preset × PrintsPreset preset old new × (after ≡ before)
@@ -63,7 +68,8 @@ DoesVersion words before after = AsksForVersion words × (after ≡ before)
 
 -- What the words ask for was done, where the harness has given these lines and was told this: a run, and the number of its rows printed; a check, and the number of members
 -- printed; what a scenario means printed; a sweep, and the lines of its settings printed; a preset's scenario printed; shards joined, and the lines of
--- the settings printed; a page of shards made, and nothing printed; a drive, and nothing else printed; help was printed; or the line that tells of this release
+-- the settings printed; a page of shards made, and nothing printed; a drive, and nothing else printed; help was printed; the line that tells of this release; or the
+-- plain text for which a scenario stands
 abbrev pub HasDone : Release → List Text → Shelf → Shelf → Making → Option (List ℕ) → Option (List ℕ) → List (List ℕ) → List ℕ → Type 0
 HasDone release words before after making old new gave told = ((count : ℕ) × DoesRun release.version.now words before after making count × Appends old new (rows_line count))
     ⊎ (((members : ℕ) × DoesCheck words before after members × Appends old new (members_line members))
@@ -74,7 +80,8 @@ HasDone release words before after making old new gave told = ((count : ℕ) × 
     ⊎ ((DoesPage release.version.now words before after making × Keeps old new)
     ⊎ ((DoesDrive release.version.now words before after making gave told × Keeps old new)
     ⊎ (DoesHelp words before after
-    ⊎ (DoesVersion words before after × Appends old new (release_line release))))))))))
+    ⊎ ((DoesVersion words before after × Appends old new (release_line release))
+    ⊎ ((text : List ℕ) × DoesExpand words before after text × Appends old new text))))))))))
 
 -- a text tells of the scenario of the file that the words ask to explain
 abbrev pub Explains : List Text → Shelf → Shelf → Type 0
@@ -89,7 +96,7 @@ DoneUnprinted words before after making = ((version : List ℕ) × (count : ℕ)
     ⊎ (((version : List ℕ) × (lines : List ℕ) × DoesSweep version words before after making lines)
     ⊎ (HasPreset words before after
     ⊎ (((version : List ℕ) × (lines : List ℕ) × DoesJoin version words before after making lines)
-    ⊎ (DoesHelp words before after ⊎ DoesVersion words before after))))))
+    ⊎ (DoesHelp words before after ⊎ (DoesVersion words before after ⊎ ((text : List ℕ) × DoesExpand words before after text))))))))
 
 -- ---- what was not done
 
@@ -112,7 +119,12 @@ abbrev pub DoesNotDrive : Type 0 → List Text → Shelf → Shelf → Making �
 DoesNotDrive Refused words before after making gave told failure =
     (drive : DriveWords) × AsksForDrive words drive × ((version : List ℕ) × DriveFails Refused version before after making drive gave told failure)
 
--- Why a run, a check, an explanation, a sweep, a joining, a page of shards or a drive that the words ask for was not done. By a failed write a
+-- why the scenario of the file that the words ask to expand has no plain text
+abbrev pub DoesNotExpand : List Text → Shelf → Shelf → Failure → Type 0
+DoesNotExpand words before after failure =
+    (file : Text) × AsksForExpand words file × IsRefused before after (ExpandFails (before file) file failure)
+
+-- Why a run, a check, an explanation, a sweep, a joining, a page of shards, a drive or a plain text that the words ask for was not done. By a failed write a
 -- run, a sweep, a joining, a page or a drive ends only where a file refused one, as `Refused` says.
 abbrev pub DoesNot : Type 0 → List Text → Shelf → Shelf → Making → Option (List ℕ) → Option (List ℕ) → List (List ℕ) → List ℕ → Failure → Type 0
 DoesNot Refused words before after making old new gave told failure =
@@ -122,7 +134,7 @@ DoesNot Refused words before after making old new gave told failure =
     ⊎ (DoesNotSweep Refused words before after making failure
     ⊎ (DoesNotJoin Refused words before after making failure
     ⊎ (DoesNotPage Refused words before after making failure
-    ⊎ DoesNotDrive Refused words before after making gave told failure)))))
+    ⊎ (DoesNotDrive Refused words before after making gave told failure ⊎ DoesNotExpand words before after failure))))))
 
 -- why what the words ask for wasn't done
 abbrev pub Fails : Type 0 → List Text → Shelf → Shelf → Making → Option (List ℕ) → Option (List ℕ) → List (List ℕ) → List ℕ → Failure → Type 0

@@ -13,6 +13,7 @@ use command_line::{
 };
 use drive_command::drive;
 use drive_world::Harness;
+use expand_command::expand_file;
 use explain_command::explain_file;
 use files::Files;
 use join_command::{join_files, page_files};
@@ -33,7 +34,15 @@ use sweep_command::sweep_file;
 /// `run` only where `err` is a terminal. `out` then gets nothing, unless it failed itself or gets the diagnostics of a scenario. `surroundings` are
 /// asked what the system says of a file that can't be read or made. A run or a sweep that is to tell how far it has come does so on `progress`, as far as that takes
 /// its lines.
-pub fn command<S: AsStr, F: Files, O: Write, E: Write, P: Write, A: Surroundings, H: Harness>(
+pub fn command<
+    S: AsStr,
+    F: Files,
+    O: Write,
+    E: Write,
+    P: Write + Send,
+    A: Surroundings,
+    H: Harness,
+>(
     rt: &(impl Threads + Wait + Sync),
     alloc: Global,
     release: &Release<'_>,
@@ -54,7 +63,7 @@ pub fn command<S: AsStr, F: Files, O: Write, E: Write, P: Write, A: Surroundings
 
     // Status 0: what the words ask for was done. A run has left its trace in the file of that name, its
     // report and its page where they are asked for, and told standard output the number of its rows; a check, the number
-    // of members; an explanation, what the scenario means; a sweep has left its table and its page, and told the lines of its settings, unless it
+    // of members; an explanation, what the scenario means; a plain text, for what the scenario stands; a sweep has left its table and its page, and told the lines of its settings, unless it
     // is a shard; a preset's scenario was told; shards that were joined have left the table of the whole and its page, and told those
     // lines; a page of shards was left, and nothing told; a drive has left what a run leaves, as its harness answered, and told it the end; who asks for the version was told the line of this release.
     ensures done { result ≡ 0 → HasDone release.now (map S.text words.now) (F.known files.old) (F.known files.new) (F.making files.old)
@@ -104,7 +113,7 @@ pub fn command<S: AsStr, F: Files, O: Write, E: Write, P: Write, A: Surroundings
 }
 
 /// Does what the words ask for.
-fn perform<'a, S: AsStr, F: Files, O: Write, P: Write, H: Harness>(
+fn perform<'a, S: AsStr, F: Files, O: Write, P: Write + Send, H: Harness>(
     rt: &(impl Threads + Wait + Sync),
     alloc: Global,
     release: &Release<'_>,
@@ -155,5 +164,9 @@ fn perform<'a, S: AsStr, F: Files, O: Write, P: Write, H: Harness>(
         }
         Asked::Page(words) => page_files(alloc, release, &words, files),
         Asked::Drive(words) => drive(alloc, release, words, files, harness),
+        Asked::Expand(file) => {
+            let text = expand_file(alloc, file, files)?;
+            print_text(text.as_str(), out)
+        }
     }
 }

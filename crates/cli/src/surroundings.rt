@@ -18,49 +18,41 @@ pub(crate) struct SystemSurroundings<'r, R> {
 }
 
 impl<R: Files + AllocGlobal> Surroundings for SystemSurroundings<'_, R> {
-    fn file_reason<'a>(&self, name: &'a str, is_read: bool) -> Option<FileReason<'a>> {
+    fn file_reason<'a>(&self, name: &'a str, is_read: bool) -> FileReason<'a> {
         match fs::metadata(self.runtime, name) {
             Ok(metadata) => self.there(name, &metadata, is_read),
-            Err(error) => missing(
-                name,
-                &error,
-                is_read && self.has_folder(name),
-                self.has_folder(name),
-            ),
+            Err(error) => missing(name, &error, is_read, self.has_folder(name)),
         }
     }
 
     fn are_one(&self, name: &str, other: &str) -> bool {
         match fs::metadata(self.runtime, name) {
             Ok(metadata) => self.is_named(&metadata, other),
-            Err(_) => false,
+            Err(_) => own_part(name) == own_part(other) && self.are_folders_one(name, other),
         }
     }
 }
 
 impl<R: Files + AllocGlobal> SystemSurroundings<'_, R> {
     /// What is wrong with a file that is there.
-    fn there<'a>(
-        &self,
-        name: &'a str,
-        metadata: &Metadata,
-        is_read: bool,
-    ) -> Option<FileReason<'a>> {
+    fn there<'a>(&self, name: &'a str, metadata: &Metadata, is_read: bool) -> FileReason<'a> {
         if metadata.is_dir() {
-            return Some(FileReason::Folder(name));
+            return FileReason::Folder(name);
         }
         if !is_read
             && (self.is_named(metadata, STREAMS[0]) || self.is_named(metadata, STREAMS[1]))
         {
-            return Some(FileReason::Stream(name));
+            return FileReason::Stream(name);
         }
         if !metadata.is_file() {
-            return None;
+            return FileReason::Irregular(name);
         }
         let mut options = OpenOptions::new();
         options.read(is_read).write(!is_read);
         match options.open(self.runtime, name) {
-            Ok(_) => None,
+            // a report and a page are first made beside the file
+            Ok(_) if !is_read => FileReason::Unmade(name),
+            Ok(_) => FileReason::Refused(name),
             Err(error) => refused(name, &error),
         }
     }
@@ -79,10 +71,32 @@ impl<R: Files + AllocGlobal> SystemSurroundings<'_, R> {
 
     /// Whether the folder is there that a name has before its last slash.
     fn has_folder(&self, name: &str) -> bool {
-        match name.rsplit_once('/') {
-            Some((folder, _)) if !folder.is_empty() => fs::metadata(self.runtime, folder).is_ok(),
-            _ => true,
+        fs::metadata(self.runtime, folder_part(name)).is_ok()
+    }
+
+    /// Whether the folders of two names are one.
+    fn are_folders_one(&self, name: &str, other: &str) -> bool {
+        match fs::metadata(self.runtime, folder_part(name)) {
+            Ok(metadata) => self.is_named(&metadata, folder_part(other)),
+            Err(_) => false,
         }
+    }
+}
+
+/// What a name has before its last slash: the name of its folder.
+fn folder_part(name: &str) -> &str {
+    match name.rsplit_once('/') {
+        Some((folder, _)) if !folder.is_empty() => folder,
+        Some(_) => "/",
+        None => ".",
+    }
+}
+
+/// What a name has behind its last slash.
+fn own_part(name: &str) -> &str {
+    match name.rsplit_once('/') {
+        Some((_, own)) => own,
+        None => name,
     }
 }
 
@@ -90,25 +104,28 @@ impl<R: Files + AllocGlobal> SystemSurroundings<'_, R> {
 fn missing<'a>(
     name: &'a str,
     error: &io::Error,
-    is_wanted: bool,
+    is_read: bool,
     has_folder: bool,
-) -> Option<FileReason<'a>> {
+) -> FileReason<'a> {
     match error.kind() {
-        ErrorKind::NotFound if is_wanted => Some(FileReason::Missing(name)),
-        ErrorKind::NotFound if !has_folder => Some(FileReason::NoFolder(name)),
-        ErrorKind::NotADirectory => Some(FileReason::NoFolder(name)),
+        ErrorKind::NotFound if !has_folder => FileReason::NoFolder(name),
+        ErrorKind::NotFound if is_read => FileReason::Missing(name),
+        ErrorKind::NotFound => FileReason::Unmade(name),
+        ErrorKind::NotADirectory => FileReason::NoFolder(name),
         _ => refused(name, error),
     }
 }
 
 /// What an error of the system says of a file that can't be opened.
-fn refused<'a>(name: &'a str, error: &io::Error) -> Option<FileReason<'a>> {
+fn refused<'a>(name: &'a str, error: &io::Error) -> FileReason<'a> {
     match error.kind() {
-        ErrorKind::PermissionDenied => Some(FileReason::Denied(name)),
-        ErrorKind::ReadOnlyFilesystem => Some(FileReason::ReadOnly(name)),
-        ErrorKind::StorageFull => Some(FileReason::Full(name)),
-        ErrorKind::IsADirectory => Some(FileReason::Folder(name)),
-        _ => None,
+        ErrorKind::PermissionDenied => FileReason::Denied(name),
+        ErrorKind::ReadOnlyFilesystem => FileReason::ReadOnly(name),
+        ErrorKind::StorageFull => FileReason::Full(name),
+        ErrorKind::IsADirectory => FileReason::Folder(name),
+        ErrorKind::InvalidFilename => FileReason::TooLong(name),
+        ErrorKind::FilesystemLoop => FileReason::Circle(name),
+        _ => FileReason::Refused(name),
     }
 }
 

@@ -32,7 +32,7 @@ pub fn run_program<
     R: Threads + Wait + Sync + Env + Files + AllocGlobal + Copy + Send + Drop + 'static,
     O: Write,
     E: Write,
-    P: Write,
+    P: Write + Send,
     I: Read + Drop,
     D: Print + Send + Drop + 'static,
 >(

@@ -2,10 +2,10 @@
 use Rattle.std.proofs.Common.{◌≡◌, List, [], Option, subst, codes}
 use Rattle.clap.specs.Words.{Row, Text, fault_of, subcommand_of}
 use Rattle.command_line.specs.Asking.{AsksIn, AsksForNoScenario, AsksForNoTable, AsksForNothing}
-use Rattle.command_line.specs.Words.{swimsim_app, Answers, AsksForNone, IsRunIn, IsCheckIn, IsExplainIn, IsSweepIn, IsInitIn, IsJoinIn, IsPageIn, IsDriveIn, Meets, NamesNoPreset}
+use Rattle.command_line.specs.Words.{swimsim_app, Answers, AsksForNone, IsRunIn, IsCheckIn, IsExplainIn, IsExpandIn, IsSweepIn, IsInitIn, IsJoinIn, IsPageIn, IsDriveIn, Meets, NamesNoPreset}
 use Rattle.command_line.specs.declared.joining.JoinWords.{JoinWords}
 use Rattle.command_line.specs.declared.words.Asked.{Asked}
-use Rattle.command_line.specs.declared.words.Asked.TheVariants.{Run, Check, Explain, Sweep, Init, Join, Page, Drive, Help, Version}
+use Rattle.command_line.specs.declared.words.Asked.TheVariants.{Run, Check, Explain, Expand, Sweep, Init, Join, Page, Drive, Help, Version}
 use Rattle.command_line.proofs.RunRows.{no_preset_no_sweep, no_preset_no_init, no_preset_no_join, no_preset_no_page, no_join_no_page, no_join_no_sweep}
 
 -- words without a fault ask for what the command asks for that they met
@@ -14,6 +14,7 @@ pub answers : (words : List Text) (met : Option (Text × List Row)) (asked : Ask
 answers words met (Run run) clean same h = (clean, subst (λ m. IsRunIn m run) same h)
 answers words met (Check file) clean same h = (clean, subst (λ m. IsCheckIn m file.now) same h)
 answers words met (Explain explain) clean same h = (clean, subst (λ m. IsExplainIn m explain) same h)
+answers words met (Expand file) clean same h = (clean, subst (λ m. IsExpandIn m file.now) same h)
 answers words met (Sweep sweep) clean same h = (clean, subst (λ m. IsSweepIn m sweep) same h)
 answers words met (Init preset) clean same h = (clean, subst (λ m. IsInitIn m preset) same h)
 answers words met (Join join) clean same h = (clean, subst (λ m. IsJoinIn m join) same h)
@@ -35,6 +36,7 @@ asks_for_none words met clean same h =
       (λ join asks. there.no_table.no_join join asks.1),
       (λ page asks. there.no_table.no_page page asks.1),
       (λ drive asks. there.no_scenario.no_drive drive asks.1),
+      (λ file asks. there.no_scenario.no_expand file asks.1),
     )
 
 -- a command that names no preset asks for nothing

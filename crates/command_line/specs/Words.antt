@@ -18,7 +18,7 @@ use Rattle.arguments.specs.Rules.{file_rule, flag_rule, is_given, option_rule, r
 use Rattle.ticks.specs.Ticks.{IsTickWord}
 use Rattle.ticks.specs.declared.tick.Tick.{Tick}
 use Rattle.command_line.specs.declared.words.Asked.{Asked}
-use Rattle.command_line.specs.declared.words.Asked.TheVariants.{Run, Check, Explain, Sweep, Init, Join, Page, Drive, Help, Version}
+use Rattle.command_line.specs.declared.words.Asked.TheVariants.{Run, Check, Explain, Expand, Sweep, Init, Join, Page, Drive, Help, Version}
 use Rattle.command_line.specs.declared.driving.DriveWords.{DriveWords}
 use Rattle.command_line.specs.declared.explaining.ExplainWords.{ExplainWords}
 use Rattle.command_line.specs.declared.joining.JoinWords.{JoinWords}
@@ -63,6 +63,10 @@ check_app = with_rule (new_app (codes "check")) file_rule
 -- the command `explain`: a file, and the flag --json
 abbrev pub explain_app : App
 explain_app = with_rule (with_rule (new_app (codes "explain")) file_rule) (flag_rule (codes "json"))
+
+-- the command `expand`: a file
+abbrev pub expand_app : App
+expand_app = with_rule (new_app (codes "expand")) file_rule
 
 -- a command, and what says which settings a sweep has, and by how many seeds: the options --seeds and --until; and --set, which may stand more
 -- than once
@@ -119,7 +123,8 @@ bare_app = let app = new_app (codes "swimsim") in
 unfoldable pub swimsim_app : App
 swimsim_app =
     let checked = with_subcommand (with_subcommand bare_app run_app.top) check_app.top in
-    let swept = with_subcommand (with_subcommand checked explain_app.top) sweep_app.top in
+    let explained = with_subcommand (with_subcommand checked explain_app.top) expand_app.top in
+    let swept = with_subcommand explained sweep_app.top in
     let joined = with_subcommand (with_subcommand swept init_app.top) join_app.top in
     with_subcommand (with_subcommand joined page_app.top) drive_app.top
 
@@ -187,6 +192,12 @@ pub record IsExplainIn (met : Option (Text × List Row)) (explain : ExplainWords
   pub met_explain : met ≡ Some (codes "explain", rows)
   pub file : first_of (codes "FILE") rows ≡ Some explain.file.now
   pub json : is_given (first_of (codes "json") rows) ≡ explain.json
+
+-- the command that was met is `expand`, with this file
+pub record IsExpandIn (met : Option (Text × List Row)) (file : Text) : Type 0 where
+  pub rows : List Row
+  pub met_expand : met ≡ Some (codes "expand", rows)
+  pub named : first_of (codes "FILE") rows ≡ Some file
 
 -- the word is the number of hundredths that the interval of a setting may be wide for it to get no more seeds; nothing is said of it where there
 -- is no word
@@ -299,6 +310,10 @@ AsksForExplain words explain = (fault_of swimsim_app words ≡ []) × IsExplainI
 abbrev pub AsksToExplain : List Text → Type 0
 AsksToExplain words = (explain : ExplainWords) × AsksForExplain words explain
 
+-- the words have no fault, and ask to expand this file
+abbrev pub AsksForExpand : List Text → Text → Type 0
+AsksForExpand words file = (fault_of swimsim_app words ≡ []) × IsExpandIn (subcommand_of swimsim_app words) file
+
 -- the words have no fault, and ask for this sweep
 abbrev pub AsksForSweep : List Text → SweepWords → Type 0
 AsksForSweep words sweep = (fault_of swimsim_app words ≡ []) × IsSweepIn (subcommand_of swimsim_app words) sweep
@@ -336,6 +351,7 @@ abbrev pub Answers : List Text → Asked → Type 0
 Answers words (Run run) = AsksForRun words run
 Answers words (Check file) = AsksForCheck words file.now
 Answers words (Explain explain) = AsksForExplain words explain
+Answers words (Expand file) = AsksForExpand words file.now
 Answers words (Sweep sweep) = AsksForSweep words sweep
 Answers words (Init preset) = AsksForInit words preset
 Answers words (Join join) = AsksForJoin words join
@@ -344,13 +360,14 @@ Answers words (Drive drive) = AsksForDrive words drive
 Answers words (Help help) = (kind_of help ≡ DisplayHelp) × AsksForHelp words
 Answers words Version = AsksForVersion words
 
--- the words have no fault, but ask for no run, no check, no explanation, no sweep, no preset's scenario, no joining, no page and no drive
+-- the words have no fault, but ask for no run, no check, no explanation, no sweep, no preset's scenario, no joining, no page, no drive and no
+-- plain text
 abbrev pub AsksForNone : List Text → Type 0
 AsksForNone words = (fault_of swimsim_app words ≡ []) × ((run : RunWords) → ¬ (AsksForRun words run))
     × ((file : Text) → ¬ (AsksForCheck words file)) × ((explain : ExplainWords) → ¬ (AsksForExplain words explain))
     × ((sweep : SweepWords) → ¬ (AsksForSweep words sweep)) × ((preset : Preset) → ¬ (AsksForInit words preset))
     × ((join : JoinWords) → ¬ (AsksForJoin words join)) × ((page : PageWords) → ¬ (AsksForPage words page))
-    × ((drive : DriveWords) → ¬ (AsksForDrive words drive))
+    × ((drive : DriveWords) → ¬ (AsksForDrive words drive)) × ((file : Text) → ¬ (AsksForExpand words file))
 
 -- the words have a fault that is no wish for help or for the version, or none but ask for nothing else that there is
 abbrev pub IsNoCommand : List Text → Type 0
@@ -360,11 +377,11 @@ IsNoCommand words = ((kind : ErrorKind) × (kind ≢ DisplayHelp) × (kind ≢ D
 abbrev pub AsksForNoPreset : List Text → Type 0
 AsksForNoPreset words = NamesNoPreset (subcommand_of swimsim_app words) × AsksForNone words
 
--- the words ask for a run, a check, an explanation, a sweep, a preset's scenario, a joining, a page, a drive, help or the version
+-- the words ask for a run, a check, an explanation, a sweep, a preset's scenario, a joining, a page, a drive, help, the version or a plain text
 abbrev pub IsCommand : List Text → Type 0
 IsCommand words = ((run : RunWords) × AsksForRun words run) ⊎ (((file : Text) × AsksForCheck words file)
     ⊎ (((explain : ExplainWords) × AsksForExplain words explain)
     ⊎ (((sweep : SweepWords) × AsksForSweep words sweep)
     ⊎ (((preset : Preset) × AsksForInit words preset) ⊎ (((join : JoinWords) × AsksForJoin words join)
     ⊎ (((page : PageWords) × AsksForPage words page) ⊎ (((drive : DriveWords) × AsksForDrive words drive)
-    ⊎ (AsksForHelp words ⊎ AsksForVersion words))))))))
+    ⊎ (AsksForHelp words ⊎ (AsksForVersion words ⊎ ((file : Text) × AsksForExpand words file))))))))))

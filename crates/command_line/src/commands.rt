@@ -6,6 +6,7 @@ ghost use Rattle.command_line.specs.Words.{bare_app, check_app, swimsim_app};
 
 use crate::chained::and_command;
 use crate::driving::drive_command;
+use crate::expanding::expand_command;
 use crate::explaining::explain_command;
 use crate::initial::init_command;
 use crate::joining::join_command;
@@ -23,7 +24,8 @@ pub(crate) fn program_command<'a>(alloc: Global) -> Result<Command<'a>, AllocErr
     let ran = and_command(bare_command(alloc), run_command(alloc));
     let checked = and_command(ran, check_command(alloc));
     let explained = and_command(checked, explain_command(alloc));
-    let swept = and_command(explained, sweep_command(alloc));
+    let expanded = and_command(explained, expand_command(alloc));
+    let swept = and_command(expanded, sweep_command(alloc));
     let begun = and_command(swept, init_command(alloc));
     let joined = and_command(begun, join_command(alloc));
     let paged = and_command(joined, page_command(alloc));

@@ -6,6 +6,7 @@ mod chained;
 mod commands;
 mod division;
 mod driving;
+mod expanding;
 mod explaining;
 mod failure;
 mod initial;

@@ -1,4 +1,4 @@
-//! What is told of the settings of a sweep: the options that say so, and what their words ask for.
+//! What is printed of the settings of a sweep: the options for it, and what their words ask for.
 ghost use Rattle.std.specs.Prelude.{◌≡◌, ◌⊎◌, map, unwrap_or, IfOk, IfErr, IsErrOf, List, []};
 ghost use Rattle.clap.specs.Words.{App, found_of, rows_of};
 ghost use Rattle.goals.specs.declared.want.Want.{Want as Wanting};

@@ -6,6 +6,7 @@ ghost use Rattle.command_line.specs.Words.{swimsim_app, Answers, AsksForNoPreset
 
 use crate::commands::program_command;
 use crate::driving::{DriveWords, drive_asked};
+use crate::expanding::expand_asked;
 use crate::explaining::{ExplainWords, explain_asked};
 use crate::failure::Failure;
 use crate::initial::init_asked;
@@ -93,6 +94,8 @@ pub enum Asked<'a> {
     Check(&'a str),
     /// To explain what the text in a file means, or why it is refused.
     Explain(ExplainWords<'a>),
+    /// To print the plain text for which the scenario in the file of this name stands.
+    Expand(&'a str),
     /// To run a scenario by many seeds and settings, and write a table of the runs.
     Sweep(SweepWords<'a>),
     /// To put the shards of a sweep together.
@@ -149,7 +152,7 @@ fn asked_by<'a>(alloc: Global, matches: &ArgMatches<'a>) -> Result<Asked<'a>, Fa
     }
 }
 
-/// What is asked for of the scenario in a file: to run it, to check it, to explain it or to drive it.
+/// What is asked for of the scenario in a file: to run it, to check it, to explain it, to drive it or to expand it.
 fn scenario_asked<'a>(matches: &ArgMatches<'a>) -> Option<Asked<'a>>
     ensures some { IfSome result (AsksIn (subcommand_rows_of matches.now)) }
     ensures none { IsNone result → AsksForNoScenario (subcommand_rows_of matches.now) }
@@ -162,7 +165,10 @@ fn scenario_asked<'a>(matches: &ArgMatches<'a>) -> Option<Asked<'a>>
                 Some(explain) => Some(Asked::Explain(explain)),
                 None => match drive_asked(matches) {
                     Some(drive) => Some(Asked::Drive(drive)),
-                    None => None,
+                    None => match expand_asked(matches) {
+                        Some(file) => Some(Asked::Expand(file)),
+                        None => None,
+                    },
                 },
             },
         },

@@ -2,7 +2,7 @@
 use crate::context::Context;
 use crate::decimal::number_of;
 use crate::lengths::nanoseconds;
-use diagnostics::Found;
+use diagnostics::ValueKind;
 use schema::{FormatKey, KeyRule, Kind};
 use std::alloc::{AllocError, Global};
 use toml_places::Span;
@@ -20,16 +20,16 @@ const MOST_DIGITS: usize = 20;
 pub(crate) fn whole_label(
     context: &Context<'_>,
     row: KeyRule,
-    found: Found,
+    found: ValueKind,
     span: Span,
 ) -> Result<String, AllocError> {
     let alloc = context.alloc;
     match found {
-        Found::Text => {
+        ValueKind::Text => {
             let text = context.name(span)?;
             text_label(alloc, row, text.as_str())
         }
-        Found::Float if row.key == FormatKey::Loss => share_label(alloc, context.at(span)),
+        ValueKind::Float if row.key == FormatKey::Loss => share_label(alloc, context.at(span)),
         _ => kind_label(alloc, row.key),
     }
 }

@@ -1,6 +1,6 @@
 //! Words on tables and keys, from the rows of the format.
 use crate::context::Context;
-use diagnostics::{Found, Home};
+use diagnostics::{Home, ValueKind};
 use schema::{Absence, FormatKey, KeyRule, Kind, Section, Version};
 use std::alloc::{AllocError, Global};
 
@@ -80,15 +80,15 @@ fn headed_text(
 }
 
 /// What kind of value stands there.
-pub(crate) fn found_text(found: Found) -> &'static str {
+pub(crate) fn found_text(found: ValueKind) -> &'static str {
     match found {
-        Found::Whole => "a whole number",
-        Found::Float => "a number with a point",
-        Found::Switch => "true or false",
-        Found::Text => "a string",
-        Found::Datetime => "a date or a time",
-        Found::List => "a list",
-        Found::Table => "a table",
+        ValueKind::Whole => "a whole number",
+        ValueKind::Float => "a number with a point",
+        ValueKind::Switch => "true or false",
+        ValueKind::Text => "a string",
+        ValueKind::Datetime => "a date or a time",
+        ValueKind::List => "a list",
+        ValueKind::Table => "a table",
     }
 }
 

@@ -9,7 +9,7 @@ use crate::rows::{
     version_of, wanted_text,
 };
 use crate::words::Words;
-use diagnostics::{Cause, Diagnostic, Found, Home};
+use diagnostics::{Cause, Diagnostic, Home, ValueKind};
 use schema::{FormatKey, KeyRule, Kind, Section, Version};
 use std::alloc::{AllocError, Global};
 use toml_places::Span;
@@ -165,7 +165,7 @@ pub(crate) fn contact_words(context: &Context<'_>, start: i64) -> Result<Words, 
 pub(crate) fn unknown_words(
     context: &Context<'_>,
     home: Home,
-    found: Found,
+    found: ValueKind,
     span: Span,
 ) -> Result<Words, AllocError> {
     let name = context.name(span)?;
@@ -183,7 +183,7 @@ pub(crate) fn unknown_words(
 fn alias_words(
     context: &Context<'_>,
     home: Home,
-    found: Found,
+    found: ValueKind,
     span: Span,
     alias: Alias,
 ) -> Result<Words, AllocError> {
@@ -209,7 +209,7 @@ fn alias_note(context: &Context<'_>, home: Home, alias: Alias) -> Result<String,
 fn unknown_message(
     context: &Context<'_>,
     home: Home,
-    found: Found,
+    found: ValueKind,
     span: Span,
 ) -> Result<String, AllocError> {
     let alloc = context.alloc;
@@ -223,10 +223,10 @@ fn unknown_message(
 }
 
 /// What is called unknown of which such a value was found.
-fn unknown_text(found: Found) -> &'static str {
+fn unknown_text(found: ValueKind) -> &'static str {
     match found {
-        Found::Table => "table",
-        Found::List => "list",
+        ValueKind::Table => "table",
+        ValueKind::List => "list",
         _ => "key",
     }
 }
@@ -307,7 +307,7 @@ pub(crate) fn later_words(
 pub(crate) fn kind_words(
     context: &Context<'_>,
     row: KeyRule,
-    found: Found,
+    found: ValueKind,
     span: Span,
 ) -> Result<Words, AllocError> {
     let alloc = context.alloc;
@@ -319,7 +319,7 @@ pub(crate) fn kind_words(
 }
 
 /// What stands there in place of what is wanted.
-fn kind_message(alloc: Global, row: KeyRule, found: Found) -> Result<String, AllocError> {
+fn kind_message(alloc: Global, row: KeyRule, found: ValueKind) -> Result<String, AllocError> {
     let key = row.key.text();
     let there = found_text(found);
     let wanted = wanted_text(alloc, row)?;
@@ -330,7 +330,7 @@ fn kind_message(alloc: Global, row: KeyRule, found: Found) -> Result<String, All
 fn kind_label(
     context: &Context<'_>,
     row: KeyRule,
-    found: Found,
+    found: ValueKind,
     span: Span,
 ) -> Result<String, AllocError> {
     let alloc = context.alloc;
@@ -344,9 +344,9 @@ fn kind_label(
 }
 
 /// How a table is written.
-fn table_form(alloc: Global, key: FormatKey, found: Found) -> Result<String, AllocError> {
+fn table_form(alloc: Global, key: FormatKey, found: ValueKind) -> Result<String, AllocError> {
     let key = key.text();
-    if found == Found::List {
+    if found == ValueKind::List {
         format!(in alloc; "write [{key}] once, in one pair of brackets")
     } else {
         format!(in alloc; "write [{key}], and its keys below it")
@@ -354,9 +354,9 @@ fn table_form(alloc: Global, key: FormatKey, found: Found) -> Result<String, All
 }
 
 /// How a list of tables is written.
-fn list_form(alloc: Global, key: FormatKey, found: Found) -> Result<String, AllocError> {
+fn list_form(alloc: Global, key: FormatKey, found: ValueKind) -> Result<String, AllocError> {
     let key = key.text();
-    if found == Found::Table {
+    if found == ValueKind::Table {
         format!(in alloc; "write [[{key}]], in two pairs of brackets")
     } else {
         format!(in alloc; "write [[{key}]] for each, and its keys below it")
@@ -367,7 +367,7 @@ fn list_form(alloc: Global, key: FormatKey, found: Found) -> Result<String, Allo
 pub(crate) fn item_words(
     context: &Context<'_>,
     row: KeyRule,
-    found: Found,
+    found: ValueKind,
 ) -> Result<Words, AllocError> {
     let alloc = context.alloc;
     let key = row.key.text();

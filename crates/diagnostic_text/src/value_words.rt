@@ -2,16 +2,16 @@
 use crate::context::Context;
 use crate::rows::version_of;
 use crate::words::Words;
-use diagnostics::Departure;
+use diagnostics::DepartureKind;
 use schema::{FormatKey, Version};
 use std::alloc::{AllocError, Global};
 use toml_places::Span;
 
 /// What a member does, and what that is called.
-fn departure_words(departure: Departure) -> (&'static str, &'static str) {
+fn departure_words(departure: DepartureKind) -> (&'static str, &'static str) {
     match departure {
-        Departure::Crash => ("crashes", "crash"),
-        Departure::Leave => ("leaves", "leave"),
+        DepartureKind::Crash => ("crashes", "crash"),
+        DepartureKind::Leave => ("leaves", "leave"),
     }
 }
 
@@ -19,8 +19,8 @@ fn departure_words(departure: Departure) -> (&'static str, &'static str) {
 pub(crate) fn gone_words(
     context: &Context<'_>,
     span: Span,
-    now: Departure,
-    before: Departure,
+    now: DepartureKind,
+    before: DepartureKind,
     other: Span,
 ) -> Result<Words, AllocError> {
     let alloc = context.alloc;
@@ -37,8 +37,8 @@ pub(crate) fn gone_words(
 fn gone_message(
     context: &Context<'_>,
     span: Span,
-    now: Departure,
-    before: Departure,
+    now: DepartureKind,
+    before: DepartureKind,
 ) -> Result<String, AllocError> {
     let alloc = context.alloc;
     let member = context.shown_name(span)?;
@@ -126,7 +126,7 @@ pub(crate) fn late_words(
 /// Rule 9: a member goes too early.
 pub(crate) fn early_words(
     context: &Context<'_>,
-    departure: Departure,
+    departure: DepartureKind,
     at: u64,
     start: u64,
 ) -> Result<Words, AllocError> {

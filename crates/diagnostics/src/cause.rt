@@ -5,7 +5,7 @@ use toml_places::Span;
 
 /// What kind of value stands somewhere.
 #[derive(Clone, Copy, Debug, PartialEq, Eq)]
-pub enum Found {
+pub enum ValueKind {
     Whole,
     Float,
     Switch,
@@ -25,7 +25,7 @@ pub struct Home {
 
 /// How a member goes.
 #[derive(Clone, Copy, Debug, PartialEq, Eq)]
-pub enum Departure {
+pub enum DepartureKind {
     Crash,
     Leave,
 }
@@ -53,7 +53,7 @@ pub enum Cause {
     /// Rule 3: a table has no key of this name, whose value is of this kind.
     UnknownKey {
         home: Home,
-        found: Found,
+        found: ValueKind,
     },
     /// Rule 3: a later version than the text's has the key, and this is the first that does.
     LaterKey {
@@ -62,12 +62,12 @@ pub enum Cause {
     /// Rule 4: the value of a key is of another kind.
     WrongKind {
         row: KeyRule,
-        found: Found,
+        found: ValueKind,
     },
     /// Rule 4: an item of the list of a key is no table.
     WrongItem {
         row: KeyRule,
-        found: Found,
+        found: ValueKind,
     },
     /// Rule 5: a whole number is outside its range.
     OutOfRange {
@@ -86,8 +86,8 @@ pub enum Cause {
     NoMember,
     /// Rule 8: the member goes twice, the other time as is told at `other`.
     GoneTwice {
-        now: Departure,
-        before: Departure,
+        now: DepartureKind,
+        before: DepartureKind,
         other: Span,
     },
     /// Rule 8: the member is slow, or paused, at the same time, as is told at `other`; `key` is that of the
@@ -110,7 +110,7 @@ pub enum Cause {
     },
     /// Rule 9: a member goes at a moment that isn't after its start.
     EarlyDeparture {
-        departure: Departure,
+        departure: DepartureKind,
         at: u64,
         start: u64,
     },

@@ -1,5 +1,5 @@
 //! Rule 8: members that go twice, and slow times, or pauses, of one member that overlap.
-use crate::cause::{Cause, Departure};
+use crate::cause::{Cause, DepartureKind};
 use crate::members::{Named, Roster, Seat};
 use crate::walk::Walk;
 use base::Memory;
@@ -10,7 +10,7 @@ use toml_places::Span;
 #[derive(Clone, Copy)]
 struct Gone {
     seat: Seat,
-    departure: Departure,
+    departure: DepartureKind,
     /// Where its member is named.
     span: Span,
 }
@@ -41,14 +41,14 @@ fn judge_gone(walk: &mut Walk<'_>, roster: &Roster) -> Result<(), Memory> {
     add_all_gone(
         walk,
         roster,
-        Departure::Crash,
+        DepartureKind::Crash,
         walk.items(FormatKey::Crash),
         &mut list,
     )?;
     add_all_gone(
         walk,
         roster,
-        Departure::Leave,
+        DepartureKind::Leave,
         walk.added_items(FormatKey::Leave),
         &mut list,
     )?;
@@ -80,7 +80,7 @@ fn tell_gone(walk: &mut Walk<'_>, list: &[Gone]) -> Result<(), Memory> {
 fn add_all_gone(
     walk: &Walk<'_>,
     roster: &Roster,
-    departure: Departure,
+    departure: DepartureKind,
     items: &[usize],
     list: &mut Vec<Gone>,
 ) -> Result<(), Memory> {
@@ -95,7 +95,7 @@ fn add_gone(
     walk: &Walk<'_>,
     roster: &Roster,
     item: usize,
-    departure: Departure,
+    departure: DepartureKind,
     list: &mut Vec<Gone>,
 ) -> Result<(), Memory> {
     if let Some((name, place)) = walk.text(item, FormatKey::Member)

@@ -12,7 +12,7 @@ mod telling;
 mod times;
 mod walk;
 
-pub use cause::{Cause, Departure, Found, Home};
+pub use cause::{Cause, DepartureKind, Home, ValueKind};
 pub use list::{Diagnostic, Diagnostics};
 pub use members::Known;
 pub use telling::{has_rule, of_refused};

@@ -1,5 +1,5 @@
 //! Rules 6 and 7: the names of groups, and the names that name a member or a group.
-use crate::cause::{Cause, Found};
+use crate::cause::{Cause, ValueKind};
 use crate::members::{Known, Named, Roster};
 use crate::walk::{Walk, found_at};
 use base::Memory;

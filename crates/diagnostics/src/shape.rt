@@ -1,5 +1,5 @@
 //! Rules 2 to 5: which keys a table has, and of what kind and range their values are.
-use crate::cause::{Cause, Found, Home};
+use crate::cause::{Cause, Home, ValueKind};
 use crate::walk::{Walk, found_at, is_within, items_of};
 use base::Memory;
 use schema::{Absence, FormatKey, KeyRule, Kind, Section, Version};
@@ -25,7 +25,7 @@ fn home(section: Section, key: Option<FormatKey>) -> Home {
 fn judge_below(walk: &mut Walk<'_>, row: &KeyRule, place: usize) -> Result<(), Memory> {
     match row.kind {
         Kind::Table(section) => {
-            if found_at(walk.places, place) == Found::Table {
+            if found_at(walk.places, place) == ValueKind::Table {
                 judge_table(walk, home(section, Some(row.key)), place)?;
             }
             Ok(())
@@ -44,7 +44,7 @@ fn judge_items(
 ) -> Result<(), Memory> {
     for item in items {
         let found = found_at(walk.places, *item);
-        if found == Found::Table {
+        if found == ValueKind::Table {
             judge_table(walk, home(section, Some(row.key)), *item)?;
         } else {
             let span = walk.places.value(*item);
@@ -130,13 +130,13 @@ fn told_row(row: &KeyRule) -> KeyRule {
 }
 
 /// Whether a value is of the kind that a key calls for.
-fn is_of_kind(kind: Kind, found: Found) -> bool {
+fn is_of_kind(kind: Kind, found: ValueKind) -> bool {
     match kind {
-        Kind::Whole { .. } => found == Found::Whole,
-        Kind::Switch => found == Found::Switch,
-        Kind::Text => found == Found::Text,
-        Kind::Table(_) => found == Found::Table,
-        Kind::List(_) => found == Found::List,
+        Kind::Whole { .. } => found == ValueKind::Whole,
+        Kind::Switch => found == ValueKind::Switch,
+        Kind::Text => found == ValueKind::Text,
+        Kind::Table(_) => found == ValueKind::Table,
+        Kind::List(_) => found == ValueKind::List,
     }
 }
 

@@ -1,5 +1,5 @@
 //! Rule 9: each moment comes after that before which it may not be.
-use crate::cause::{Cause, Departure};
+use crate::cause::{Cause, DepartureKind};
 use crate::members::{Named, Roster};
 use crate::walk::Walk;
 use base::Memory;
@@ -23,11 +23,16 @@ pub(crate) fn judge_times(walk: &mut Walk<'_>, roster: &Roster) -> Result<(), Me
         walk.added_items(FormatKey::Cut),
     )?;
     judge_ends(walk, Section::Pause, FormatKey::From, walk.pauses())?;
-    judge_departures(walk, roster, Departure::Crash, walk.items(FormatKey::Crash))?;
     judge_departures(
         walk,
         roster,
-        Departure::Leave,
+        DepartureKind::Crash,
+        walk.items(FormatKey::Crash),
+    )?;
+    judge_departures(
+        walk,
+        roster,
+        DepartureKind::Leave,
         walk.added_items(FormatKey::Leave),
     )
 }
@@ -57,7 +62,7 @@ fn judge_ends(
 fn judge_departures(
     walk: &mut Walk<'_>,
     roster: &Roster,
-    departure: Departure,
+    departure: DepartureKind,
     items: &[usize],
 ) -> Result<(), Memory> {
     for item in items {
@@ -124,7 +129,7 @@ fn judge_end(
 fn judge_departure(
     walk: &mut Walk<'_>,
     roster: &Roster,
-    departure: Departure,
+    departure: DepartureKind,
     item: usize,
 ) -> Result<(), Memory> {
     if let Some((name, _)) = walk.text(item, FormatKey::Member)

@@ -1,5 +1,5 @@
 //! The walk over the places of a text, which finds its diagnostics.
-use crate::cause::{Cause, Found, Home};
+use crate::cause::{Cause, Home, ValueKind};
 use crate::departures::judge_departures;
 use crate::list::{Diagnostic, Diagnostics};
 use crate::members::{Known, Roster};
@@ -120,15 +120,15 @@ pub(crate) fn is_within(kind: Kind, number: i64) -> bool {
 }
 
 /// What kind of value stands at a place.
-pub(crate) fn found_at(places: &Places, place: usize) -> Found {
+pub(crate) fn found_at(places: &Places, place: usize) -> ValueKind {
     match places.content(place) {
-        Some(Content::Whole(_)) => Found::Whole,
-        Some(Content::Switch(_)) => Found::Switch,
-        Some(Content::Text(_)) => Found::Text,
-        Some(Content::Float) => Found::Float,
-        Some(Content::Datetime) => Found::Datetime,
-        Some(Content::List(_)) => Found::List,
-        Some(Content::Table(_)) | None => Found::Table,
+        Some(Content::Whole(_)) => ValueKind::Whole,
+        Some(Content::Switch(_)) => ValueKind::Switch,
+        Some(Content::Text(_)) => ValueKind::Text,
+        Some(Content::Float) => ValueKind::Float,
+        Some(Content::Datetime) => ValueKind::Datetime,
+        Some(Content::List(_)) => ValueKind::List,
+        Some(Content::Table(_)) | None => ValueKind::Table,
     }
 }
 

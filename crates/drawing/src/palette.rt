@@ -1,4 +1,4 @@
-//! The palette. Its colours differ in lightness as well as in hue, so that they are told apart by the
+//! The palette. Its colours differ in lightness as well as in hue, so that they can be distinguished by the
 //! colour-blind and in print.
 ghost use Rattle.std.specs.Prelude.{◌≡◌};
 ghost use Rattle.drawing.specs.Styles.{drawing_style};

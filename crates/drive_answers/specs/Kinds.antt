@@ -17,6 +17,7 @@ is_message what.Call = true
 is_message what.Answer = true
 is_message what.Push = true
 is_message what.Pull = true
+is_message what.Reconnect = true
 is_message _ = false
 
 -- a row's that tells what a member believes
@@ -30,6 +31,8 @@ is_told what.Confirm = true
 is_told what.Accuse = true
 is_told what.Refute = true
 is_told what.Dead = true
+is_told what.Left = true
+is_told what.Forget = true
 is_told _ = false
 
 -- each of these is about a member, but for that of one's own health

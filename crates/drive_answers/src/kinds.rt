@@ -24,6 +24,7 @@ pub(crate) fn message_named(word: &str) -> Option<What>
         "answer" => Some(What::Answer),
         "push" => Some(What::Push),
         "pull" => Some(What::Pull),
+        "reconnect" => Some(What::Reconnect),
         _ => None,
     }
 }
@@ -43,6 +44,8 @@ pub(crate) fn row_named(word: &str) -> Option<What>
         "accuse" => Some(What::Accuse),
         "refute" => Some(What::Refute),
         "dead" => Some(What::Dead),
+        "left" => Some(What::Left),
+        "forget" => Some(What::Forget),
         _ => None,
     }
 }

@@ -1,4 +1,4 @@
-//! How the end of a drive is told.
+//! How the end of a drive is reported.
 ghost use Rattle.std.specs.Prelude.{◌≡◌};
 ghost use Rattle.drive_world.specs.declared.ends.DriveError.TheVariants as error;
 ghost use Rattle.drive_command.specs.Ends.{IsToldBy, cause_of};

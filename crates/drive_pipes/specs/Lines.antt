@@ -1,7 +1,7 @@
 -- The lines in the bytes that come in.
 use Rattle.std.specs.Prelude.{◌≡◌, ◌≢◌, ◌<◌, ◌≤◌, ℕ, List, ◌∷◌, ◌++◌, length, slice_index, ◌+◌, nat_lt, if◌then◌else◌}
-use Rattle.drive_pipes.specs.declared.incoming.Found.{Found}
-use Rattle.drive_pipes.specs.declared.incoming.Found.TheVariants.{Line, Part, Long}
+use Rattle.drive_pipes.specs.declared.incoming.NextLine.{NextLine}
+use Rattle.drive_pipes.specs.declared.incoming.NextLine.TheVariants.{Line, Part, Long}
 
 -- how many bytes a line may have, without its line feed
 abbrev pub longest : ℕ
@@ -12,7 +12,7 @@ abbrev pub HasNoFeed : List ℕ → ℕ → Type 0
 HasNoFeed bytes count = (k : ℕ) → k < count → slice_index bytes k ≢ 10
 
 -- What stands first among the bytes, and those behind it. A line is taken; nothing else is.
-abbrev pub Takes : List ℕ → List ℕ → Found → Type 0
+abbrev pub Takes : List ℕ → List ℕ → NextLine → Type 0
 Takes old new (Line line) = (old ≡ line.items ++ 10 ∷ new) × (length line.items ≤ longest) × HasNoFeed line.items (length line.items)
 Takes old new Part = (new ≡ old) × (length old ≤ longest) × HasNoFeed old (length old)
 Takes old new Long = (new ≡ old) × (longest < length old) × HasNoFeed old (longest + 1)
@@ -24,5 +24,5 @@ pub record IsSearched (from searched : ℕ) (bytes : List ℕ) : Type 0 where
   pub none : (k : ℕ) → from ≤ k → k < searched → slice_index bytes k ≢ 10
 
 -- what so many bytes are among which no line feed stands
-abbrev pub unended_of : ℕ → Found
+abbrev pub unended_of : ℕ → NextLine
 unended_of count = if nat_lt longest count then Long else Part

@@ -11,7 +11,7 @@ pub const LONGEST: usize = 1_048_576;
 
 /// What stands first among the bytes that came in.
 #[derive(Debug, Drop)]
-pub enum Found {
+pub enum NextLine {
     /// A line, without its line feed.
     Line(Vec<u8>),
     /// The beginning of a line, which may go on.
@@ -60,7 +60,7 @@ impl Incoming {
     }
 
     /// The first line, which is taken out, or what stands there where there is none.
-    pub(crate) fn take_line(&mut self, alloc: Global) -> Result<Found, Memory>
+    pub(crate) fn take_line(&mut self, alloc: Global) -> Result<NextLine, Memory>
         ensures { IfOk result (Takes self.old self.new) }
     {
         let Some(end) = feed_at(self.bytes.as_slice(), self.searched) else {
@@ -68,13 +68,13 @@ impl Incoming {
             return Ok(unended(self.bytes.len() - self.from));
         };
         if end - self.from > LONGEST {
-            return Ok(Found::Long);
+            return Ok(NextLine::Long);
         }
         let line = Vec::from_slice(alloc, &self.bytes[self.from..end])?;
         self.from = end + 1;
         self.searched = end + 1;
         self.let_go();
-        Ok(Found::Line(line))
+        Ok(NextLine::Line(line))
     }
 
     /// Gives the room of what is taken back, once it is at least half of the bytes.
@@ -90,13 +90,13 @@ impl Incoming {
 }
 
 /// What so many bytes are among which no line feed stands.
-fn unended(count: usize) -> Found
+fn unended(count: usize) -> NextLine
     ensures { result ≡ unended_of count }
 {
     if count > LONGEST {
-        Found::Long
+        NextLine::Long
     } else {
-        Found::Part
+        NextLine::Part
     }
 }
 

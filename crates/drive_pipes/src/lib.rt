@@ -11,5 +11,5 @@ mod tests;
 
 pub use chunks::Chunks;
 pub use ends::{Closed, Ends, SendError};
-pub use incoming::Found;
+pub use incoming::NextLine;
 pub use pipes::{Pipes, ReceiveError};

@@ -3,7 +3,7 @@ ghost use Rattle.std.specs.Prelude.{◌≡◌, ◌++◌, ◌∷◌, [], IfOk, On
 ghost use Rattle.drive_pipes.specs.Flows.{FlowsTo, AreSent};
 
 use crate::ends::{Ends, SendError};
-use crate::incoming::{Found, Incoming};
+use crate::incoming::{Incoming, NextLine};
 use base::Memory;
 use std::alloc::Global;
 
@@ -107,9 +107,9 @@ impl<E: Ends + Drop> Pipes<E> {
     {
         for _ in 0..u64::MAX {
             match self.incoming.take_line(self.alloc)? {
-                Found::Line(line) => return Ok(line),
-                Found::Long => return Err(ReceiveError::Long),
-                Found::Part => {
+                NextLine::Line(line) => return Ok(line),
+                NextLine::Long => return Err(ReceiveError::Long),
+                NextLine::Part => {
                     self.hand_on()?;
                     if !self.take_in()? {
                         return Err(ReceiveError::Ended);

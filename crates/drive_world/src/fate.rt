@@ -1,6 +1,6 @@
-//! What becomes of an event that may be told.
+//! What becomes of an event that may be sent.
 
-/// What becomes of an event that may be told.
+/// What becomes of an event that may be sent.
 #[derive(Clone, Copy, Debug, PartialEq, Eq)]
 pub enum Fate {
     /// It is over at once, and nobody is told.

@@ -1,7 +1,7 @@
-//! What a drive needs of a harness: it takes lines that tell of events, and gives lines that answer them.
+//! What a drive needs of a harness: it takes lines of events, and returns lines of answers.
 ghost use Rattle.std.specs.Prelude.{◌≡◌, ◌++◌, ◌∷◌, [], ℕ, List, IfOk, OnOk, OnErr};
 
-/// Why a harness can't be told lines.
+/// Why lines can't be sent to a harness.
 #[derive(Clone, Copy, Debug, PartialEq, Eq, Drop)]
 pub enum Untold {
     /// Nobody takes them.

@@ -1,4 +1,4 @@
-//! The world of a drive: which event is told next, which answer is taken, and which rows can be written.
+//! The world of a drive: which event is sent next, which answer is taken, and which rows can be written.
 #![tactic(auto)]
 
 mod driving;

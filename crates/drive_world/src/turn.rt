@@ -1,4 +1,4 @@
-//! One turn of a drive: an event is told, or is over at once, or takes the next answer.
+//! One turn of a drive: an event is sent, or is over at once, or takes the next answer.
 ghost use Rattle.std.specs.Prelude.{◌≡◌, ◌≢◌, ◌<◌, ◌++◌, Some, true, not, ℕ, List, OnOk, IfOk};
 ghost use Rattle.std.specs.FinMap.{get};
 ghost use Rattle.scenario.specs.Setup.{member_count};

@@ -1,4 +1,4 @@
-//! The events of a drive that are told and wait for their answers, by their keys, in the order told.
+//! The events of a drive that were sent and wait for their answers, by their keys, in the order of sending.
 ghost use Rattle.std.specs.Prelude.{◌≡◌, ◌++◌, ◌∷◌, ◌<◌, [], ℕ, List, false, true, length, OnOk, IfOk, IfSome, IfNone, slice_index_or};
 ghost use Rattle.base.specs.declared.key.Key.{Key as AKey};
 ghost use Rattle.drive_world.specs.Next.{has_one_for, are_of_different};

@@ -1,4 +1,4 @@
-//! What is told of a text.
+//! What is printed of a text.
 ghost use Rattle.std.specs.Prelude.{◌≡◌, IfOk, None, Ok, Some, string_bytes};
 ghost use Rattle.scenario_reader.specs.Rules.{verdict};
 ghost use Rattle.explain_command.specs.Outcomes.{TellsDiagnostics, TellsSetup, TellsText};
@@ -11,7 +11,7 @@ use scenario::Scenario;
 use scenario_reader::read;
 use std::alloc::Global;
 
-/// What is told of a text.
+/// What is printed of a text.
 #[derive(Debug, Drop)]
 pub(crate) struct Explained {
     /// What is printed.

@@ -10,7 +10,7 @@ use Rattle.std.proofs.lemmas.Grind.{flat_map-append}
 use Rattle.figures.specs.declared.setting.SettingFigures.{SettingFigures}
 use Rattle.figures.specs.declared.crashes.CrashTimes.{CrashTimes}
 use Rattle.figures.specs.Notes.{Note}
-use Rattle.figures.specs.Settings.{crashes_in, suspected_in, confirmed_in, last_in}
+use Rattle.figures.specs.Settings.{crashes_in, suspected_in, confirmed_in, last_in, false_deaths}
 use Rattle.figures.specs.Kept.{AreFiguresOf}
 
 -- ---- times
@@ -57,9 +57,10 @@ pub one_run : (old new : SettingFigures) (this : Note) (runs : List Note) → Ar
     → new.last.items ≡ old.last.items ++ filter_map last_in this.crashes
     → new.runs ≡ old.runs + 1 → new.crashes ≡ old.crashes + length this.crashes → new.false_suspect ≡ old.false_suspect + this.false_suspect
     → new.thrown_out ≡ old.thrown_out + this.thrown_out → new.revived ≡ old.revived + this.revived
-    → new.runs_with ≡ old.runs_with + (if this.thrown_out == 0 then 0 else 1) → new.sent ≡ old.sent + this.sent
+    → new.runs_with ≡ old.runs_with + (if this.thrown_out == 0 then 0 else 1) → new.deaths ≡ old.deaths + false_deaths this
+    → new.squares ≡ old.squares + false_deaths this * false_deaths this → new.sent ≡ old.sent + this.sent
     → new.member_ticks ≡ old.member_ticks + this.member_ticks → AreFiguresOf new (runs ++ this ∷ [])
-one_run old new this runs were suspected confirmed last counted crashed falsely thrown back with_thrown sent lasting =
+one_run old new this runs were suspected confirmed last counted crashed falsely thrown back with_thrown dead squared sent lasting =
     record {
       all = omega (arith, counted, were.all, length-append runs (this ∷ []));
       crashed = omega (arith, crashed, were.crashed, ap length (crashes_push runs this), length-append (crashes_in runs) this.crashes);
@@ -70,6 +71,8 @@ one_run old new this runs were suspected confirmed last counted crashed falsely 
       thrown = sum_push (λ those. those.thrown_out) runs this _ _ _ were.thrown thrown refl;
       returned = sum_push (λ those. those.revived) runs this _ _ _ were.returned back refl;
       with_thrown = sum_push (λ those. cond (not (those.thrown_out == 0)) 1 0) runs this _ _ _ were.with_thrown with_thrown (one_or_none this.thrown_out);
+      deaths = sum_push false_deaths runs this _ _ _ were.deaths dead refl;
+      squares = sum_push (λ those. false_deaths those * false_deaths those) runs this _ _ _ were.squares squared refl;
       sendings = sum_push (λ those. those.sent) runs this _ _ _ were.sendings sent refl;
       lasting = sum_push (λ those. those.member_ticks) runs this _ _ _ were.lasting lasting refl;
     }

@@ -4,7 +4,7 @@ use Rattle.std.specs.Prelude.{Option, Some, None, if◌then◌else◌}
 use Rattle.std.specs.List.{filter_map}
 use Rattle.figures.specs.declared.crashes.CrashTimes.{CrashTimes}
 use Rattle.figures.specs.Notes.{Note}
-use Rattle.figures.specs.Settings.{rank, at_rank, percentile, false_rate, false_suspicions_in, message_rate, sent_in, member_ticks_in, share_low, share_high}
+use Rattle.figures.specs.Settings.{rank, at_rank, percentile, false_rate, false_suspicions_in, message_rate, sent_in, member_ticks_in, share_low, share_high, nearest_hundredth, deaths_low, deaths_high}
 
 -- a percentile
 pub of_rank : (percent : ℕ) (time : CrashTimes → Option ℕ) (crashes : List CrashTimes) (told : Option ℕ) (given : List ℕ) (count : ℕ) → told ≡ at_rank (rank percent count) given
@@ -19,6 +19,13 @@ low_of k n some all told is same counted = is ∙ ap (λ m. share_low m all) sam
 
 pub high_of : (k n some all told : ℕ) → told ≡ share_high some all → some ≡ k → all ≡ n → told ≡ share_high k n
 high_of k n some all told is same counted = is ∙ ap (λ m. share_high m all) same ∙ ap (share_high k) counted
+
+pub per_run_of : (k n some all told : ℕ) → told ≡ nearest_hundredth (200000 * some) all → some ≡ k → all ≡ n → told ≡ nearest_hundredth (200000 * k) n
+per_run_of k n some all told is same counted = is ∙ ap (λ m. nearest_hundredth (200000 * m) all) same ∙ ap (nearest_hundredth (200000 * k)) counted
+
+-- an end of the interval of false deaths
+pub end_of : (end : ℕ → ℕ → ℕ → ℕ) (k q n some squares all told : ℕ) → told ≡ end some squares all → some ≡ k → squares ≡ q → all ≡ n → told ≡ end k q n
+end_of end k q n some squares all told is same squared counted = is ∙ ap (λ m. end m squares all) same ∙ ap (λ m. end k m all) squared ∙ ap (end k q) counted
 
 pub rate_of : (runs : List Note) (sent ticks : ℕ) (told : Option ℕ) → told ≡ (if ticks == 0 then None else Some (sent * 100000 / ticks)) → sent ≡ sent_in runs → ticks ≡ member_ticks_in runs
     → told ≡ message_rate runs

@@ -3,7 +3,7 @@ use Rattle.std.specs.Prelude.{◌≡◌, ℕ, List, length}
 use Rattle.std.specs.List.{filter_map}
 use Rattle.figures.specs.declared.setting.SettingFigures.{SettingFigures}
 use Rattle.figures.specs.Notes.{Note}
-use Rattle.figures.specs.Settings.{crashes_in, suspected_in, confirmed_in, last_in, false_suspicions_in, thrown_out_in, revived_in, runs_with, sent_in, member_ticks_in}
+use Rattle.figures.specs.Settings.{crashes_in, suspected_in, confirmed_in, last_in, false_suspicions_in, thrown_out_in, revived_in, runs_with, false_deaths_in, death_squares_in, sent_in, member_ticks_in}
 
 -- what is kept is what these runs tell
 pub record AreFiguresOf (setting : SettingFigures) (runs : List Note) : Type 0 where
@@ -16,6 +16,8 @@ pub record AreFiguresOf (setting : SettingFigures) (runs : List Note) : Type 0 w
   pub thrown : setting.thrown_out ≡ thrown_out_in runs
   pub returned : setting.revived ≡ revived_in runs
   pub with_thrown : setting.runs_with ≡ runs_with runs
+  pub deaths : setting.deaths ≡ false_deaths_in runs
+  pub squares : setting.squares ≡ death_squares_in runs
   pub sendings : setting.sent ≡ sent_in runs
   pub lasting : setting.member_ticks ≡ member_ticks_in runs
 

@@ -89,6 +89,41 @@ share_low k n = nearest_thousandth (200000 * k + 384160 - 49 * spread k n) n
 abbrev pub share_high : ℕ → ℕ → ℕ
 share_high k n = nearest_thousandth (200000 * k + 384160 + 49 * spread k n) n
 
+-- The false deaths of a run, as many as its setting's interval counts: all of them, since no cluster has 1,000,000 members.
+abbrev pub false_deaths : Note → ℕ
+false_deaths run = min run.thrown_out 1000000
+
+-- their sum over all runs, and that of their squares
+abbrev pub false_deaths_in : List Note → ℕ
+false_deaths_in runs = sum_by false_deaths runs
+
+abbrev pub death_squares_in : List Note → ℕ
+death_squares_in runs = sum_by (λ run. false_deaths run * false_deaths run) runs
+
+-- The 95 % interval of the false deaths per run: Poisson's score interval, wider where the runs differ more than by chance. Let n runs have k_1 .. k_n
+-- false deaths, k together, and let q be the sum of their squares. The variance of k is taken as w, the greater of k, as chance has it, and of what the runs show,
+--   n Σ (k_i - k/n)² / (n - 1) = (n q - k²) / (n - 1), which one run alone doesn't.
+-- With z = 1.96 the ends of the interval are (k + z²/2 ± z √(w + z²/4)) / n.
+-- `death_variance` is 64,000,000 w, rounded down.
+abbrev pub death_variance : ℕ → ℕ → ℕ → ℕ
+death_variance k q n = if n == 1 then 64000000 * k else max (64000000 * k) (64000000 * (n * q - k * k) / (n - 1))
+
+-- 8,000 times that root, rounded down: as in `spread`, 61,465,600 is 64,000,000 times z²/4
+abbrev pub death_spread : ℕ → ℕ → ℕ → ℕ
+death_spread k q n = root (death_variance k q n + 61465600)
+
+-- A number per run in hundredths, rounded to the nearest, from 200,000 times the number of all runs: 384,160 is z²/2 so often, and 49 spreads are z times
+-- the root.
+abbrev pub nearest_hundredth : ℕ → ℕ → ℕ
+nearest_hundredth numerator n = (numerator + 1000 * n) / (2000 * n)
+
+-- the lower end is 0 where what is subtracted is greater
+abbrev pub deaths_low : ℕ → ℕ → ℕ → ℕ
+deaths_low k q n = nearest_hundredth (200000 * k + 384160 - 49 * death_spread k q n) n
+
+abbrev pub deaths_high : ℕ → ℕ → ℕ → ℕ
+deaths_high k q n = nearest_hundredth (200000 * k + 384160 + 49 * death_spread k q n) n
+
 -- these are the figures of a setting with these runs
 pub record IsSummaryOf (setting : SettingSummary) (runs : List Note) : Type 0 where
   pub all : setting.runs ≡ length runs
@@ -112,4 +147,7 @@ pub record IsSummaryOf (setting : SettingSummary) (runs : List Note) : Type 0 wh
   pub with_thrown : setting.runs_with ≡ runs_with runs
   pub low : setting.share_low ≡ share_low (runs_with runs) (length runs)
   pub high : setting.share_high ≡ share_high (runs_with runs) (length runs)
+  pub per_run : setting.deaths ≡ nearest_hundredth (200000 * thrown_out_in runs) (length runs)
+  pub fewest : setting.deaths_low ≡ deaths_low (false_deaths_in runs) (death_squares_in runs) (length runs)
+  pub most : setting.deaths_high ≡ deaths_high (false_deaths_in runs) (death_squares_in runs) (length runs)
   pub rate : setting.messages ≡ message_rate runs

@@ -3,6 +3,7 @@
 
 mod columns;
 mod crashes;
+mod deaths;
 mod histogram;
 mod lines;
 mod messages;

@@ -1,7 +1,9 @@
 //! The figures of a setting: of runs that belong together.
 ghost use Rattle.std.specs.Prelude.{◌≡◌, ◌+◌, ◌<◌, ◌≤◌, ◌*◌, ◌/◌, ◌^◌, ◌==◌, ◌++◌, ◌∷◌, [], List, IfOk, if◌then◌else◌, length};
 ghost use Rattle.figures.specs.Notes.{Note};
+ghost use Rattle.figures.specs.Settings.{false_deaths};
 
+use crate::deaths::{deaths_high, deaths_low, deaths_of, false_deaths, square};
 use crate::histogram::histogram_of;
 use crate::notes::RunMetadata;
 use crate::ranks::percentile;
@@ -33,6 +35,10 @@ pub struct SettingFigures {
     revived: u128,
     /// In how many runs members were thrown out.
     runs_with: u64,
+    /// The sum of the false deaths of each run, of which at most 1,000,000 count.
+    deaths: u128,
+    /// The sum of their squares.
+    squares: u128,
     /// How many messages were sent.
     sent: u128,
     /// How long the members of each run last together, in ticks.
@@ -43,6 +49,8 @@ pub struct SettingFigures {
     ghost revived_fit: { revived ≤ runs * 2 ^ 64 },
     ghost sent_fit: { sent ≤ runs * 2 ^ 64 },
     ghost member_ticks_fit: { member_ticks ≤ runs * 2 ^ 64 },
+    ghost deaths_fit: { deaths ≤ runs * 1000000 },
+    ghost squares_fit: { squares ≤ runs * 1000000 ^ 2 },
     ghost runs_with_fit: { runs_with ≤ runs },
     ghost few: { runs ≤ 1000000 },
 }
@@ -65,6 +73,8 @@ impl SettingFigures {
             thrown_out: 0,
             revived: 0,
             runs_with: 0,
+            deaths: 0,
+            squares: 0,
             sent: 0,
             member_ticks: 0,
         }
@@ -127,6 +137,9 @@ impl SettingFigures {
             runs_with: setting.runs_with,
             share_low: share_low(setting.runs_with, setting.runs),
             share_high: share_high(setting.runs_with, setting.runs),
+            deaths: deaths_of(setting.thrown_out, setting.runs),
+            deaths_low: deaths_low(setting.deaths, setting.squares, setting.runs),
+            deaths_high: deaths_high(setting.deaths, setting.squares, setting.runs),
             messages: message_rate(setting.sent, setting.member_ticks),
         })
     }
@@ -143,6 +156,8 @@ impl SettingFigures {
         ensures thrown_out { self.new.thrown_out ≡ self.old.thrown_out + note.now.thrown_out }
         ensures revived { self.new.revived ≡ self.old.revived + note.now.revived }
         ensures runs_with { self.new.runs_with ≡ self.old.runs_with + (if note.now.thrown_out == 0 then 0 else 1) }
+        ensures deaths { self.new.deaths ≡ self.old.deaths + false_deaths note.now }
+        ensures squares { self.new.squares ≡ self.old.squares + false_deaths note.now * false_deaths note.now }
         ensures sent { self.new.sent ≡ self.old.sent + note.now.sent }
         ensures member_ticks { self.new.member_ticks ≡ self.old.member_ticks + note.now.member_ticks }
     {
@@ -154,6 +169,9 @@ impl SettingFigures {
         if note.thrown_out() != 0 {
             self.runs_with += 1;
         }
+        let deaths = false_deaths(note);
+        self.deaths += deaths;
+        self.squares += square(deaths);
         self.sent += u128::from(note.sent());
         self.member_ticks += u128::from(note.member_ticks());
     }

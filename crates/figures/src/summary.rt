@@ -1,4 +1,4 @@
-//! What is told of a setting.
+//! The summary of a setting: what is printed of it.
 
 use crate::histogram::Histogram;
 
@@ -51,6 +51,13 @@ pub struct SettingSummary {
     pub share_low: u128,
     /// Its upper end, likewise.
     pub share_high: u128,
+    /// False deaths per run, that is members that were thrown out, in hundredths, rounded to the
+    /// nearest.
+    pub deaths: u128,
+    /// The lower end of their 95 % interval, by Poisson's score, in hundredths.
+    pub deaths_low: u128,
+    /// Its upper end, likewise.
+    pub deaths_high: u128,
     /// Messages a member and 1,000 ticks, in hundredths, rounded down: `None` where the runs end at
     /// moment 0.
     pub messages: Option<u128>,

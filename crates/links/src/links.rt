@@ -53,16 +53,8 @@ impl Links {
             → IfSome result (λ at. now + (link_between s from to).delay ≤ at) }
         ensures soon { IfSome result (λ at. at < 2 ^ 42) }
     {
-        if self.is_cut(from.index(), to.index(), now.ticks()) {
-            return None;
-        }
-        let link = self.link_between(from.index(), to.index());
-        if stream.lost(link.loss as u32) {
-            return None;
-        }
-        let jitter = stream.below(link.jitter as u32 + 1);
-        let coming = now.ticks() + link.delay + u64::from(jitter) + self.extra(from, now.ticks());
-        Some(Moment(coming + self.extra(to, coming)))
+        let there = self.try_once(from, to, now, stream)?;
+        Some(self.comes(from, to, now, there))
     }
 
     /// The least delay of a link from a member to another one, in ticks; None where there is but one

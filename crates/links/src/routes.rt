@@ -65,7 +65,7 @@ fn number_of(links: &mut Vec<Link>, link: Link) -> Result<usize, Memory>
     ensures kept { OnOk result (KeepsNumbers links.old.items links.new.items) }
     ensures numbered { IfOk result (λ number. (number ≤ length links.new.items) × (numbered links.new.items number ≡ Some link)) }
 {
-    if let Some(place) = place_of(links.as_slice(), &link) {
+    if let Some(place) = place_of_equal(links.as_slice(), &link) {
         return Ok(place + 1);
     }
     links.push(link)?;
@@ -73,7 +73,7 @@ fn number_of(links: &mut Vec<Link>, link: Link) -> Result<usize, Memory>
 }
 
 /// The place of an equal link, looked for among the first `SEARCHED`.
-fn place_of(links: &[Link], link: &Link) -> Option<usize>
+fn place_of_equal(links: &[Link], link: &Link) -> Option<usize>
     ensures { IfSome result (λ place. (place < length links.now) × (slice_get links.now place ≡ Some link.now)) }
 {
     for place in 0..links.len().min(SEARCHED) {

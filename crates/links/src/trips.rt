@@ -143,7 +143,7 @@ impl Links {
 
     /// When what was sent and is there comes to its receiver: later by what the sender was slow by when
     /// it sent, and then by what the receiver is slow by.
-    fn comes(&self, from: MemberId, to: MemberId, sent: Moment, there: Moment) -> Moment
+    pub(crate) fn comes(&self, from: MemberId, to: MemberId, sent: Moment, there: Moment) -> Moment
         requires { there ≤ 2 ^ 41 }
         ensures value { (s : Setup) → AreLinksOf self.now s → (words : Words)
             → (Some result, words) ≡ comes_of s from to sent there words }

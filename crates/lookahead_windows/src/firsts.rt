@@ -1,4 +1,4 @@
-//! First moments: of what pends, of what went out, of what others tell.
+//! First moments: of pending events, of sent events, of what other workers report.
 ghost use Rattle.std.specs.Prelude.{◌≡◌, ◌↔◌, ℕ, ◌≤◌, Some, None};
 ghost use Rattle.std.specs.List.{AllByRecursion};
 ghost use Rattle.member.specs.declared.event.Event.{Event as AnEvent};

@@ -1,4 +1,4 @@
-//! A gate, which workers tell of each window before they run it; tests use it to observe or delay a run's workers.
+//! A gate, which workers call for each window before they run it; tests use it to observe or delay a run's workers.
 ghost use Rattle.std.specs.Prelude.{⊤, ◌≡◌};
 
 use base::Moment;

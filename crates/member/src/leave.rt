@@ -1,4 +1,4 @@
-//! A member leaves the cluster for good: one that runs says bye to some others, one that still joins tells nobody.
+//! A member leaves the cluster for good: one that runs says bye to some others, one that still joins sends nothing.
 ghost use Rattle.std.specs.Prelude.{◌<◌, All};
 ghost use Rattle.member.specs.Makes.{IsMember, KnowsMembers, Makes};
 ghost use Rattle.member.specs.Send.{sent_to_each, bye_sent};

@@ -10,12 +10,11 @@ level_more came went first n = ap (level came went first) (add-one n)
 
 -- one span more
 pub heights_more : (came went : ℕ → ℕ) (first most n before after x : ℕ) (xs : List ℕ) → xs ≡ heights came went n first most → before ≡ level came went first n
-    → after ≡ before + came n - went n → x ≡ min (shown before (came n) after) most → xs ++ x ∷ [] ≡ heights came went (n + 1) first most
+    → after ≡ before + came n - went n → x ≡ min (shown (came n) after) most → xs ++ x ∷ [] ≡ heights came went (n + 1) first most
 heights_more came went first most n before after x xs so_far here later is =
     ap (λ l. l ++ x ∷ []) so_far
     ∙ ap (λ y. heights came went n first most ++ y ∷ [])
-    (is ∙ ap (λ b. min (shown b (came n) after) most) here
-    ∙ ap (λ a. min (shown (level came went first n) (came n) a) most) (later ∙ ap (λ b. b + came n - went n) here ∙ sym (level_more came went first n)))
+    (is ∙ ap (λ a. min (shown (came n) a) most) (later ∙ ap (λ b. b + came n - went n) here ∙ sym (level_more came went first n)))
     ∙ sym (map-range_with_len_more (height came went first most) 0 n n (omega arith))
 
 -- ---- the same of counts that are the same
@@ -53,6 +52,5 @@ heights_same c d w v n first most came went = map_same (height c w first most) (
   where
     each : (k : ℕ) → k < n → height c w first most k ≡ height d v first most k
     each k low =
-        ap (λ a. min (shown a (c k) (level c w first (k + 1))) most) (level_same c d w v first k (λ i below. came i (omega (arith, below, low))) (λ i below. went i (omega (arith, below, low))))
-        ∙ ap (λ x. min (shown (level d v first k) x (level c w first (k + 1))) most) (came k low)
-        ∙ ap (λ a. min (shown (level d v first k) (d k) a) most) (level_same c d w v first (k + 1) (λ i below. came i (omega (arith, below, low))) (λ i below. went i (omega (arith, below, low))))
+        ap (λ x. min (shown x (level c w first (k + 1))) most) (came k low)
+        ∙ ap (λ a. min (shown (d k) a) most) (level_same c d w v first (k + 1) (λ i below. came i (omega (arith, below, low))) (λ i below. went i (omega (arith, below, low))))

@@ -7,13 +7,13 @@ abbrev pub level : (ℕ → ℕ) → (ℕ → ℕ) → ℕ → ℕ → ℕ
 level came went first zero = first
 level came went first (suc span) = level came went first span + came span - went span
 
--- what is shown of a span: the greater of the numbers at its ends or, where both are 0, 1 where some member came to the state
-abbrev pub shown : ℕ → ℕ → ℕ → ℕ
-shown before came after = if nat_eq (max before after) 0 then min came 1 else max before after
+-- what is shown of a span: the number at its end or, where that is 0, 1 where some member came to the state
+abbrev pub shown : ℕ → ℕ → ℕ
+shown came after = if nat_eq after 0 then min came 1 else after
 
 -- how high a span is drawn, where nothing is higher than `most`
 abbrev pub height : (ℕ → ℕ) → (ℕ → ℕ) → ℕ → ℕ → ℕ → ℕ
-height came went first most span = min (shown (level came went first span) (came span) (level came went first (span + 1))) most
+height came went first most span = min (shown (came span) (level came went first (span + 1))) most
 
 -- how high each of so many spans is drawn
 abbrev pub heights : (ℕ → ℕ) → (ℕ → ℕ) → ℕ → ℕ → ℕ → List ℕ

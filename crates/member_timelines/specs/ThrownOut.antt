@@ -1,8 +1,6 @@
 -- False deaths: who declared members dead that were up.
-use Rattle.std.specs.Prelude.{ℕ, Bool, ◌&&◌, nat_lt, nat_le, if◌then◌else◌, Option, Some, None, List, ◌++◌, [], codes, decimal, count_by, nat_eq, flat_map, take, min}
-use Rattle.std.specs.List.{list_any}
-use Rattle.scenario.specs.Setup.{Setup, name_of, group_at, extra_of, awake}
-use Rattle.scenario.specs.declared.settings.Cut.{Cut}
+use Rattle.std.specs.Prelude.{ℕ, Bool, nat_lt, if◌then◌else◌, Option, Some, None, List, ◌++◌, [], codes, decimal, count_by, nat_eq, flat_map, take, min}
+use Rattle.scenario.specs.Setup.{Setup, name_of}
 use Rattle.trace.specs.declared.row.What.TheVariants as what
 use Rattle.trace.specs.declared.row.Row.{Row}
 use Rattle.reports.specs.Rows.{tells_of}
@@ -12,8 +10,7 @@ use Rattle.drawing.specs.Escaped.{escaped}
 use Rattle.drawing.specs.Shapes.{figure_opening, figure_end}
 use Rattle.member_timelines.specs.declared.chosen.Chosen.{Chosen}
 use Rattle.member_timelines.specs.Choice.{times_of}
-use Rattle.member_timelines.specs.Lanes.{is_cut_of}
-use Rattle.member_timelines.specs.Told.{first_confirm, last_refute, times_back}
+use Rattle.member_timelines.specs.Told.{first_confirm, times_back}
 use Rattle.drawing.specs.Lengths.{time_alone}
 use Rattle.ticks.specs.declared.tick.Tick.{Tick}
 
@@ -21,27 +18,6 @@ use Rattle.ticks.specs.declared.tick.Tick.{Tick}
 unfoldable pub claim_cells : Option Tick → Setup → Option Line → List ℕ
 claim_cells time s None = codes "<td>-<td>-<td>-"
 claim_cells time s (Some line) = codes "<td>" ++ time_alone time line.at ++ codes "<td>" ++ escaped (name_of s line.member) ++ codes "<td>" ++ decimal line.number
-
--- when the member last refuted what was said of it, and on which line that stands
-unfoldable pub refute_cells : Option Tick → Option Line → List ℕ
-refute_cells time None = codes "<td>never<td>"
-refute_cells time (Some line) = codes "<td>" ++ time_alone time line.at ++ codes "<td>" ++ decimal line.number
-
--- the cut is one of the group's and holds at the moment
-abbrev pub is_cut_then : ℕ → ℕ → Cut → Bool
-is_cut_then group at cut = is_cut_of group cut && (nat_le cut.at at && nat_lt at cut.until)
-
--- the group is cut off at the moment
-abbrev pub is_cut_off : List Cut → ℕ → ℕ → Bool
-is_cut_off cuts group at = list_any (is_cut_then group at) cuts
-
--- what the member was when it was first declared dead
-abbrev pub condition_of : Setup → ℕ → Option Line → List ℕ
-condition_of s member None = codes ""
-condition_of s member (Some line) =
-    if nat_lt line.at (awake s member line.at) then codes "paused"
-    else if nat_lt 0 (extra_of s member line.at) then codes "slow"
-    else if is_cut_off s.cuts (group_at s.groups member) line.at then codes "cut off" else codes "well"
 
 -- a cell with a number
 abbrev pub cell : ℕ → List ℕ
@@ -51,16 +27,11 @@ cell number = codes "<td>" ++ grouped number
 unfoldable pub first_cells : Option Tick → Setup → ℕ → Option Line → List ℕ
 first_cells time s member first = codes "<tr><td>" ++ escaped (name_of s member) ++ claim_cells time s first
 
--- the cell of what the member was then
-abbrev pub condition_cell : Setup → ℕ → Option Line → List ℕ
-condition_cell s member first = codes "<td>" ++ condition_of s member first
-
 -- the row of a member with so many false deaths
 unfoldable pub row : Option Tick → Setup → List Row → ℕ → ℕ → List ℕ
 row time s rows member times =
     first_cells time s member (first_confirm rows member) ++ cell times ++ cell (times_back s rows member)
-    ++ condition_cell s member (first_confirm rows member) ++ cell (count_by (tells_of what.Fail member) rows)
-    ++ refute_cells time (last_refute rows member) ++ codes "\n"
+    ++ cell (count_by (tells_of what.Fail member) rows) ++ codes "\n"
 
 -- the same for a member with a lane
 abbrev pub row_of : Option Tick → Setup → List Row → Chosen → List ℕ
@@ -68,7 +39,7 @@ row_of time s rows chosen = row time s rows chosen.member (times_of chosen)
 
 -- what the columns are
 unfoldable pub columns : List ℕ
-columns = codes "<div class=\"wide\"><table><tr><th>member<th>first declared dead<th>by<th>line of the trace<th>false deaths<th>declared alive again<th>its state then<th>failed probes of it<th>last refutation<th>line of the trace</tr>\n"
+columns = codes "<div class=\"wide\"><table><tr><th>member<th>first declared dead<th>by<th>line of the trace<th>false deaths<th>declared alive again<th>failed probes of it</tr>\n"
 
 -- the table of these
 unfoldable pub thrown_out_figure : Option Tick → Setup → List Row → List Chosen → List ℕ

@@ -9,8 +9,8 @@ use base::Memory;
 use series::Flows;
 use std::alloc::Global;
 
-/// How many members are in a state in each of so many spans, where so many are at first: the most at
-/// the span's ends, or, where nobody is then, 1 where some member came to it. None is more than `most`.
+/// How many members are in a state in each of so many spans, where so many are at first: those at the
+/// span's end, or, where nobody is then, 1 where some member came to it. None is more than `most`.
 pub fn heights(
     alloc: Global,
     flows: &Flows,
@@ -29,7 +29,7 @@ pub fn heights(
     for span in 0..spans {
         let came = flows.came(state, span);
         let next = after(before, came, flows.went(state, span));
-        heights.push(shown(before, came, next, most))?;
+        heights.push(shown(came, next, most))?;
         before = next;
     }
     Ok(heights)
@@ -44,14 +44,13 @@ fn after(before: u128, came: u64, went: u64) -> u128
 }
 
 /// What is shown of a span, none more than `most`.
-fn shown(before: u128, came: u64, after: u128, most: u64) -> u64
-    ensures { result ≡ min (shown before came after) most }
+fn shown(came: u64, after: u128, most: u64) -> u64
+    ensures { result ≡ min (shown came after) most }
 {
-    let ends = before.max(after);
-    if ends == 0 {
+    if after == 0 {
         return came.min(1).min(most);
     }
-    ends.min(u128::from(most)) as u64
+    after.min(u128::from(most)) as u64
 }
 
 /// Heights on top of others, none more than `most`.

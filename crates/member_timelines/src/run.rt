@@ -1,4 +1,4 @@
-//! A run, as its page tells of it.
+//! A run, as its page shows it.
 ghost use Rattle.std.specs.Prelude.{◌≡◌, ◌+◌, ◌-◌, ◌*◌, ◌/◌, ◌<◌, ◌≤◌, ◌^◌, max, IfOk, IfSome, length};
 ghost use Rattle.scenario.specs.Setup.{member_count};
 ghost use Rattle.series.specs.Spans.{span_width, span_count};
@@ -15,7 +15,7 @@ use series::{Line, Series, Story};
 use std::alloc::Global;
 use ticks::Tick;
 
-/// A run, as its page tells of it.
+/// A run, as its page shows it.
 #[derive(Clone, Copy)]
 pub struct Run<'a> {
     /// What the scenario is called, as its file's name.

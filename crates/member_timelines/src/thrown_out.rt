@@ -1,17 +1,15 @@
 //! False deaths: who declared members dead that were up.
 ghost use Rattle.std.specs.Prelude.{◌≡◌, ◌<◌, ◌≤◌, ◌++◌, OnOk, IfSome, All, count_by, flat_map, take, min};
 ghost use Rattle.std.specs.String.{string_bytes};
-ghost use Rattle.scenario.specs.Setup.{Setup, member_count};
+ghost use Rattle.scenario.specs.Setup.{member_count};
 ghost use Rattle.member_timelines.specs.Run.{IsTold};
-ghost use Rattle.member_timelines.specs.ThrownOut.{is_out, thrown_out_text, thrown_out_figure, columns, row_of, row, first_cells, condition_cell, cell, refute_cells, claim_cells, condition_of, is_cut_off, is_cut_then};
+ghost use Rattle.member_timelines.specs.ThrownOut.{is_out, thrown_out_text, thrown_out_figure, columns, row_of, row, first_cells, cell, claim_cells};
 
 use crate::chosen::{Chosen, first_lanes};
-use crate::lane::is_cut_of;
 use crate::run::Run;
 use crate::told::times_back;
-use base::{MemberId, Moment};
+use base::MemberId;
 use drawing::{close_figure, open_figure, push_escaped, push_grouped, push_time_alone};
-use scenario::Cut;
 use series::Line;
 use std::alloc::AllocError;
 use ticks::Tick;
@@ -60,7 +58,7 @@ fn push_head(text: &mut String) -> Result<(), AllocError>
     ensures { OnOk result (string_bytes text.new ≡ string_bytes text.old ++ columns) }
 {
     text.push_str(
-        "<div class=\"wide\"><table><tr><th>member<th>first declared dead<th>by<th>line of the trace<th>false deaths<th>declared alive again<th>its state then<th>failed probes of it<th>last refutation<th>line of the trace</tr>\n",
+        "<div class=\"wide\"><table><tr><th>member<th>first declared dead<th>by<th>line of the trace<th>false deaths<th>declared alive again<th>failed probes of it</tr>\n",
     )
 }
 
@@ -86,9 +84,7 @@ fn push_row(text: &mut String, run: &Run, member: MemberId, times: u64) -> Resul
     push_first_cells(text, run, member, run.first_confirm(member))?;
     push_cell(text, times)?;
     push_cell(text, times_back(run, member))?;
-    push_condition(text, run, member, run.first_confirm(member))?;
     push_cell(text, run.story(member).fails())?;
-    push_refute(text, run.tick, run.last_refute(member))?;
     text.push_str("\n")?;
     Ok(())
 }
@@ -108,20 +104,6 @@ fn push_first_cells(
     text.push_str("<tr><td>")?;
     push_escaped(text, run.scenario.name(member))?;
     push_claim(text, run, first)
-}
-
-/// Appends what the member was when it was first declared dead.
-fn push_condition(
-    text: &mut String,
-    run: &Run,
-    member: MemberId,
-    first: Option<Line>,
-) -> Result<(), AllocError>
-    requires { member < member_count run.now.scenario.now }
-    ensures { OnOk result (string_bytes text.new ≡ string_bytes text.old ++ condition_cell run.now.scenario.now member first) }
-{
-    text.push_str("<td>")?;
-    text.push_str(condition_at(run, member, first))
 }
 
 /// Appends a cell with a number.
@@ -147,54 +129,4 @@ fn push_claim(text: &mut String, run: &Run, claim: Option<Line>) -> Result<(), A
     push_escaped(text, run.scenario.name(line.member))?;
     let number = line.number;
     write!(text, "<td>{number}")
-}
-
-/// Appends when the member last refuted what was said of it.
-#[tactic(auto, unfolding(crate::specs::ThrownOut::refute_cells))]
-fn push_refute(text: &mut String, time: Option<Tick>, last: Option<Line>) -> Result<(), AllocError>
-    ensures { OnOk result (string_bytes text.new ≡ string_bytes text.old ++ refute_cells time last) }
-{
-    let Some(line) = last else {
-        return text.push_str("<td>never<td>");
-    };
-    text.push_str("<td>")?;
-    push_time_alone(text, time, line.at.ticks())?;
-    let number = line.number;
-    write!(text, "<td>{number}")
-}
-
-/// What the member was when it was first declared dead.
-fn condition_at(run: &Run, member: MemberId, first: Option<Line>) -> &'static str
-    requires { member < member_count run.now.scenario.now }
-    ensures { result.now ≡ condition_of run.now.scenario.now member first }
-{
-    let Some(line) = first else {
-        return "";
-    };
-    if run.scenario.awake(member, line.at) > line.at {
-        return "paused";
-    }
-    if run.scenario.extra(member, line.at) > 0 {
-        return "slow";
-    }
-    let group = run.scenario.group_number(member);
-    if is_cut_off(run.scenario.cuts(), group, line.at) {
-        "cut off"
-    } else {
-        "well"
-    }
-}
-
-/// Whether a group is cut off at a moment.
-fn is_cut_off(cuts: &[Cut], group: usize, at: Moment) -> bool
-    ensures { result ≡ is_cut_off cuts.now group at }
-{
-    cuts.iter().any(|cut| is_cut_then(cut, group, at))
-}
-
-/// Whether a cut is one of a group's and holds at a moment.
-fn is_cut_then(cut: &Cut, group: usize, at: Moment) -> bool
-    ensures { result ≡ is_cut_then group at cut.now }
-{
-    is_cut_of(cut, group) && cut.at <= at && at < cut.until
 }

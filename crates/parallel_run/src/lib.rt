@@ -1,6 +1,6 @@
 //! Runs of a scenario by several threads: each part of the cluster is a logical process.
 //!
-//! Once a round a process tells each other what went out of its window and the first moment that is left; so each knows how
+//! Once a round a process sends each other what went out of its window and the first moment that is left; so each knows how
 //! far its next window goes, with no driver. The processes lie on a board, from which the workers take them. Their rows go
 //! over a relay each to the calling thread, which writes.
 #![tactic(auto)]

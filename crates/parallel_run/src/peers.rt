@@ -54,14 +54,14 @@ pub(crate) fn peers_of<'b, K: OfRun>(
 {
     let mut all = Vec::new(alloc);
     for event_count in event_counts {
-        let peers = joined(alloc, &mut all, event_count, event_counts)?;
+        let peers = joined_peers(alloc, &mut all, event_count, event_counts)?;
         all.push(peers)?;
     }
     Ok(all)
 }
 
 /// Joins one more process to those before it: its peers.
-fn joined<'b, K: OfRun>(
+fn joined_peers<'b, K: OfRun>(
     alloc: Global,
     before: &mut Vec<Vec<Peer<'b, K>>>,
     own: &'b EventCount,

@@ -163,7 +163,7 @@ fn run_into<T: RowSink<P>, P, G: Gate, R: Threads + Wait + Sync>(
 }
 
 /// Runs these parts by so many workers, and takes the rows, which go over these relays. `ended` gets their seats at the
-/// end, and `record` what was dealt and taken on the board.
+/// end, and `deals` what was dealt and taken on the board.
 fn by_workers<
     'a,
     T: RowSink<P>,
@@ -183,7 +183,7 @@ fn by_workers<
     gate: &G,
     place: &mut P,
     ended: &mut Vec<ClosedRelay>,
-    record: &mut RunBoardRecord,
+    deals: &mut RunBoardRecord,
 ) -> Result<Tallies, Fault>
     requires rounds { GoBy rounds.now }
     requires run { K.basis ≡ Some (basis_of rounds.now) }
@@ -199,7 +199,7 @@ fn by_workers<
     ensures trace { KeepsTrace rounds.now.cluster.scenario.now (T.held place.old) (T.held place.new) (T.failed place.old) (T.failed place.new) result }
     ensures gathered { IfOk result (T.gathered place.new rounds.now.cluster.scenario.now) }
     ensures relayed { OnOk result (AreRelayed relays.now ended.new.items) }
-    ensures settled { OnOk result (AreDealt (length parts.items) record.new) }
+    ensures settled { OnOk result (AreDealt (length parts.items) deals.new) }
 {
     let event_counts = event_counts_of(alloc, parts.len())?;
     let ends = ends_of::<K>(alloc, relays, relay_seats)?;
@@ -220,7 +220,7 @@ fn by_workers<
         rt, alloc, board, seats, relays, processes, workers, crew, rounds, gate, writer, place,
     );
     *ended = relayed;
-    *record = dealt;
+    *deals = dealt;
     outcome
 }
 

@@ -124,7 +124,7 @@ pub(crate) fn run_threads<
                 }
             };
             let written = write_all::<T, P, K, R>(rt, alloc, scenario, &mut takers, tallies, place);
-            let posts = joined(rt, threads, posts);
+            let posts = joined_threads(rt, threads, posts);
             let senders = take_back(rt, alloc, &mut own);
             (written, own, posts, ReturnedEnds { takers, senders }, place)
         },
@@ -259,7 +259,7 @@ fn shares_are_even()
 {}
 
 /// These posts, and those of the threads once they have ended.
-fn joined<'p, 'b, K: OfRun, Q: EventQueue<Event> + Drop, J: Site>(
+fn joined_threads<'p, 'b, K: OfRun, Q: EventQueue<Event> + Drop, J: Site>(
     rt: &impl Threads,
     mut threads: Vec<JoinHandle<RunPost<'p, 'b, K, Q, J>>>,
     mut posts: Vec<RunPost<'p, 'b, K, Q, J>>,

@@ -1,9 +1,9 @@
-//! The message by which a process tells another one at the end of a round which events left its window, and the least
+//! The message that a process sends another at the end of a round: which events left its window, and the least
 //! moment that pends, from which the next window's bound follows.
 use base::{Fault, Moment};
 use member::Event;
 
-/// What one process tells another of a round.
+/// What one process sends another at the end of a round.
 #[derive(Drop)]
 pub struct WindowMessage {
     /// The part of the process that tells it.

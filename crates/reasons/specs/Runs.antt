@@ -13,11 +13,15 @@ abbrev pub set_text : List ℕ → List ℕ
 set_text name = codes "without these values the scenario is accepted; write them into a copy of " ++ shown_name name
     ++ codes ", and swimsim explain prints what is wrong"
 
+-- one of the files of these names was refused a write
+abbrev pub full_text : List ℕ → List ℕ
+full_text names = codes "a file took less than it was given, as where the disk is full: " ++ names
+
 -- what is wrong with the scenario or the run
 abbrev pub run_reason_text : RunReason → List ℕ
 run_reason_text (Rule name) = explain_text name.now
 run_reason_text (Setting name) = set_text name.now
 run_reason_text Memory = codes "memory was refused; give the program more, or take a shorter run, fewer members or fewer workers"
 run_reason_text Counter = codes "a counter would pass 2^63; take a shorter run or smaller numbers"
-run_reason_text Write = codes "a file took less than it was given, as where the disk is full"
+run_reason_text (Write names) = full_text names.now
 run_reason_text Thread = codes "the system gave no thread; take fewer workers"

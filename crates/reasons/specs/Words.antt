@@ -4,15 +4,15 @@ use Rattle.std.specs.Fmt.{decimal}
 use Rattle.shown_names.specs.Shown.{shown_name}
 use Rattle.reasons.specs.declared.words.Clash.{Clash}
 use Rattle.reasons.specs.declared.words.Clash.TheVariants as clash
-use Rattle.reasons.specs.declared.words.Written.{Written}
-use Rattle.reasons.specs.declared.words.Written.TheVariants as written
+use Rattle.reasons.specs.declared.words.OutputFile.{OutputFile}
+use Rattle.reasons.specs.declared.words.OutputFile.TheVariants as written
 use Rattle.reasons.specs.declared.words.WordFault.{WordFault}
 use Rattle.reasons.specs.declared.words.WordFault.TheVariants as fault
 use Rattle.reasons.specs.declared.words.WordReason.{WordReason}
 use Rattle.reasons.specs.declared.words.WordReason.TheVariants as reason
 
 -- the option that names a file that is written
-abbrev pub written_name : Written → List ℕ
+abbrev pub written_name : OutputFile → List ℕ
 written_name written.Trace = codes "trace"
 written_name written.Report = codes "report"
 written_name written.Table = codes "table"
@@ -20,7 +20,7 @@ written_name written.Page = codes "page"
 written_name written.Out = codes "out"
 
 -- such a file is named `-`
-abbrev pub dash_text : Written → List ℕ
+abbrev pub dash_text : OutputFile → List ℕ
 dash_text file = codes "--" ++ written_name file ++ codes " -: - isn't standard output here; write the name of a file, or ./- for one with the name -"
 
 -- the option that has the word
@@ -35,6 +35,7 @@ option_of fault.Seeds = codes "--seeds"
 option_of fault.SeedsOrder = codes "--seeds"
 option_of fault.SeedsMany = codes "--seeds"
 option_of fault.Swept = codes "--set"
+option_of fault.Joined = codes "--set"
 option_of fault.KeyTwice = codes "--set"
 option_of fault.Want = codes "--want"
 option_of fault.Tick = codes "--tick"
@@ -51,6 +52,7 @@ advice_of fault.Seeds = codes "write A..B, two whole numbers with two dots betwe
 advice_of fault.SeedsOrder = codes "the first is after the last"
 advice_of fault.SeedsMany = codes "a sweep has at most 1000000 runs"
 advice_of fault.Swept = codes "write KEY=V1,V2,.. as swim.period=200,300"
+advice_of fault.Joined = codes "keys joined by + take values joined by +; write KEY1+KEY2=V1+W1,V2+W2,.. as 3+1,4+2"
 advice_of fault.KeyTwice = codes "the key is set twice; write all its values behind one --set"
 advice_of fault.Want = codes "write 'STATISTIC<=N', as 'out<=0.01', with at most six digits behind the point"
 advice_of fault.Tick = codes "write a whole number and us, ms or s, from 1us to 1s, as 1ms"

@@ -4,9 +4,11 @@
 mod files;
 mod items;
 mod runs;
+mod shards;
 mod words;
 
-pub use files::FileReason;
+pub use files::{FileReason, NamedFile};
 pub use items::ItemReason;
 pub use runs::RunReason;
-pub use words::{Clash, WordFault, WordReason, Written, written_name};
+pub use shards::ShardReason;
+pub use words::{Clash, OutputFile, WordFault, WordReason, written_name};

@@ -1,7 +1,7 @@
 //! What is wrong with a scenario, a run or a piece, and what to do.
 ghost use Rattle.std.specs.Prelude.{Some};
 ghost use Rattle.std.specs.Fmt.{WritesOnOk};
-ghost use Rattle.reasons.specs.Runs.{explain_text, run_reason_text, set_text};
+ghost use Rattle.reasons.specs.Runs.{explain_text, full_text, run_reason_text, set_text};
 
 use shown_names::write_name;
 use std::fmt;
@@ -18,8 +18,8 @@ pub enum RunReason<'a> {
     Memory,
     /// A counter is full.
     Counter,
-    /// A write was refused.
-    Write,
+    /// A write was refused: to one of the files of these names, as a line shows them.
+    Write(&'a str),
     /// A thread was lost.
     Thread,
 }
@@ -37,12 +37,18 @@ impl Display for RunReason<'_> {
             RunReason::Counter => f.write_str(
                 "a counter would pass 2^63; take a shorter run or smaller numbers",
             ),
-            RunReason::Write => f.write_str(
-                "a file took less than it was given, as where the disk is full",
-            ),
+            RunReason::Write(names) => write_full(f, names),
             RunReason::Thread => f.write_str("the system gave no thread; take fewer workers"),
         }
     }
+}
+
+/// Writes which files were written.
+fn write_full<W: Write>(f: &mut Formatter<W>, names: &str) -> fmt::Result
+    ensures { WritesOnOk W.write_str_gives f.old result (full_text names.now) f.new }
+{
+    f.write_str("a file took less than it was given, as where the disk is full: ")?;
+    f.write_str(names)
 }
 
 /// Writes what tells all mistakes.

@@ -22,7 +22,7 @@ pub enum Clash {
 
 /// A file that a command writes, by the option that names it.
 #[derive(Clone, Copy, Debug, PartialEq, Eq)]
-pub enum Written {
+pub enum OutputFile {
     /// `--trace`.
     Trace,
     /// `--report`.
@@ -58,6 +58,8 @@ pub enum WordFault {
     SeedsMany,
     /// A word of `--set` is no key with values, as swim.period=200,300.
     Swept,
+    /// A word of `--set` has keys that are joined by `+`, and values that aren't joined so.
+    Joined,
     /// A word of `--set` sets a key that an earlier one sets.
     KeyTwice,
     /// A word of `--want` is no statistic with a bound, as out<=0.01.
@@ -72,7 +74,7 @@ pub enum WordReason<'a> {
     /// Options that don't go together.
     Clash(Clash),
     /// This file is named `-`.
-    Dash(Written),
+    Dash(OutputFile),
     /// The word of an option.
     Word {
         fault: WordFault,
@@ -106,15 +108,15 @@ pub enum WordReason<'a> {
 }
 
 /// The option that names a file, without its dashes.
-pub fn written_name(written: Written) -> &'static str
+pub fn written_name(written: OutputFile) -> &'static str
     ensures { result.now ≡ written_name written }
 {
     match written {
-        Written::Trace => "trace",
-        Written::Report => "report",
-        Written::Table => "table",
-        Written::Page => "page",
-        Written::Out => "out",
+        OutputFile::Trace => "trace",
+        OutputFile::Report => "report",
+        OutputFile::Table => "table",
+        OutputFile::Page => "page",
+        OutputFile::Out => "out",
     }
 }
 
@@ -129,7 +131,7 @@ fn option_of(fault: WordFault) -> &'static str
         WordFault::Until => "--until",
         WordFault::Shard => "--shard",
         WordFault::Seeds | WordFault::SeedsOrder | WordFault::SeedsMany => "--seeds",
-        WordFault::Swept | WordFault::KeyTwice => "--set",
+        WordFault::Swept | WordFault::Joined | WordFault::KeyTwice => "--set",
         WordFault::Want => "--want",
         WordFault::Tick => "--tick",
     }
@@ -149,6 +151,8 @@ fn advice_of(fault: WordFault) -> &'static str
         WordFault::SeedsOrder => "the first is after the last",
         WordFault::SeedsMany => "a sweep has at most 1000000 runs",
         WordFault::Swept => "write KEY=V1,V2,.. as swim.period=200,300",
+        WordFault::Joined =>
+            "keys joined by + take values joined by +; write KEY1+KEY2=V1+W1,V2+W2,.. as 3+1,4+2",
         WordFault::KeyTwice => "the key is set twice; write all its values behind one --set",
         WordFault::Want =>
             "write 'STATISTIC<=N', as 'out<=0.01', with at most six digits behind the point",
@@ -202,7 +206,7 @@ impl Display for WordReason<'_> {
 }
 
 /// Writes that a file is named `-`, and what to write.
-fn write_dash<W: Write>(f: &mut Formatter<W>, written: Written) -> fmt::Result
+fn write_dash<W: Write>(f: &mut Formatter<W>, written: OutputFile) -> fmt::Result
     ensures { WritesOnOk W.write_str_gives f.old result (dash_text written) f.new }
 {
     f.write_str("--")?;

@@ -18,7 +18,7 @@ use Rattle.reports.proofs.Detections.{and-true}
 
 -- ---- places of kinds
 
-pub place_within : (kind : What) → count_place kind < 24
+pub place_within : (kind : What) → count_place kind < 29
 place_within what.Start = lit< tt
 place_within what.Crash = lit< tt
 place_within what.Joined = lit< tt
@@ -43,9 +43,14 @@ place_within what.Call = lit< tt
 place_within what.Answer = lit< tt
 place_within what.Push = lit< tt
 place_within what.Pull = lit< tt
+place_within what.Restart = lit< tt
+place_within what.Exit = lit< tt
+place_within what.Left = lit< tt
+place_within what.Forget = lit< tt
+place_within what.Reconnect = lit< tt
 
 abbrev kinds : List What
-kinds = what.Start ∷ what.Crash ∷ what.Joined ∷ what.Join ∷ what.Welcome ∷ what.Ping ∷ what.PingReq ∷ what.Ack ∷ what.Nack ∷ what.Fail ∷ what.Health ∷ what.Alive ∷ what.Suspect ∷ what.Confirm ∷ what.Accuse ∷ what.Refute ∷ what.Dead ∷ what.Leave ∷ what.Bye ∷ what.Gossip ∷ what.Call ∷ what.Answer ∷ what.Push ∷ what.Pull ∷ []
+kinds = what.Start ∷ what.Crash ∷ what.Joined ∷ what.Join ∷ what.Welcome ∷ what.Ping ∷ what.PingReq ∷ what.Ack ∷ what.Nack ∷ what.Fail ∷ what.Health ∷ what.Alive ∷ what.Suspect ∷ what.Confirm ∷ what.Accuse ∷ what.Refute ∷ what.Dead ∷ what.Leave ∷ what.Bye ∷ what.Gossip ∷ what.Call ∷ what.Answer ∷ what.Push ∷ what.Pull ∷ what.Restart ∷ what.Exit ∷ what.Left ∷ what.Forget ∷ what.Reconnect ∷ []
 
 abbrev kind_at : ℕ → What
 kind_at place = get_or kinds place what.Start
@@ -75,12 +80,17 @@ kind_at-count_place what.Call = refl
 kind_at-count_place what.Answer = refl
 kind_at-count_place what.Push = refl
 kind_at-count_place what.Pull = refl
+kind_at-count_place what.Restart = refl
+kind_at-count_place what.Exit = refl
+kind_at-count_place what.Left = refl
+kind_at-count_place what.Forget = refl
+kind_at-count_place what.Reconnect = refl
 
 -- kinds of one place are one
 one_place : (a b : What) → count_place a ≡ count_place b → a ≡ b
 one_place a b same = sym (kind_at-count_place a) ∙ ap kind_at same ∙ kind_at-count_place b
 
-pub none_counted : (kind : What) → slice_index (replicate 24 0) (count_place kind) ≡ 0
+pub none_counted : (kind : What) → slice_index (replicate 29 0) (count_place kind) ≡ 0
 none_counted what.Start = refl
 none_counted what.Crash = refl
 none_counted what.Joined = refl
@@ -105,13 +115,18 @@ none_counted what.Call = refl
 none_counted what.Answer = refl
 none_counted what.Push = refl
 none_counted what.Pull = refl
+none_counted what.Restart = refl
+none_counted what.Exit = refl
+none_counted what.Left = refl
+none_counted what.Forget = refl
+none_counted what.Reconnect = refl
 
 -- ---- one row more
 
 abbrev raised : List ℕ → What → Bool → List ℕ
 raised counts kind does_count = if does_count then slice_set counts (count_place kind) (slice_index counts (count_place kind) + 1) else counts
 
-raised_at : (counts : List ℕ) (row : Row) (kind : What) (n : ℕ) → length counts ≡ 24 → slice_index counts (count_place kind) ≡ n
+raised_at : (counts : List ℕ) (row : Row) (kind : What) (n : ℕ) → length counts ≡ 29 → slice_index counts (count_place kind) ≡ n
     → slice_index (raised counts row.what true) (count_place kind) ≡ n + cond (has_kind kind row && true) 1 0
 raised_at counts row kind n long is =
     elim (cases_Bool (sameb the_type row.what kind)) [
@@ -123,7 +138,7 @@ raised_at counts row kind n long is =
           (λ at. same_false the_type row.what kind other (sym (one_place kind row.what at))) ∙ is ∙ sym (add-zero n))
     ]
 
-raised_if : (does_count : Bool) (counts : List ℕ) (row : Row) (kind : What) (n : ℕ) → length counts ≡ 24 → slice_index counts (count_place kind) ≡ n
+raised_if : (does_count : Bool) (counts : List ℕ) (row : Row) (kind : What) (n : ℕ) → length counts ≡ 29 → slice_index counts (count_place kind) ≡ n
     → slice_index (raised counts row.what does_count) (count_place kind) ≡ n + cond (has_kind kind row && does_count) 1 0
 raised_if true counts row kind n long is = raised_at counts row kind n long is
 raised_if false counts row kind n long is = is ∙ sym (ap (λ b. n + cond b 1 0) (and-false (has_kind kind row)) ∙ add-zero n)
@@ -132,7 +147,7 @@ raised_if false counts row kind n long is = is ∙ sym (ap (λ b. n + cond b 1 0
 count-push : (test : Row → Bool) (rows : List Row) (row : Row) → count_by test (rows ++ row ∷ []) ≡ count_by test rows + cond (test row) 1 0
 count-push test rows row = sum_by_push (λ r. cond (test r) 1 0) rows row
 
-pub told-push : (counts new : List ℕ) (rows : List Row) (row : Row) (place : ℕ) → length counts ≡ 24 → place ≡ count_place row.what
+pub told-push : (counts new : List ℕ) (rows : List Row) (row : Row) (place : ℕ) → length counts ≡ 29 → place ≡ count_place row.what
     → new ≡ (if true then slice_set counts place (slice_index counts place + 1) else counts)
     → ((kind : What) → slice_index counts (count_place kind) ≡ count_of kind rows)
     → (kind : What) → slice_index new (count_place kind) ≡ count_of kind (rows ++ row ∷ [])
@@ -141,7 +156,7 @@ told-push counts new rows row place long at is so_far kind =
     ∙ raised_if true counts row kind (count_of kind rows) long (so_far kind)
     ∙ ap (λ b. count_of kind rows + cond b 1 0) (and-true (has_kind kind row)) ∙ sym (count-push (has_kind kind) rows row)
 
-pub lost-push : (counts new : List ℕ) (rows : List Row) (row : Row) (place : ℕ) → length counts ≡ 24 → place ≡ count_place row.what
+pub lost-push : (counts new : List ℕ) (rows : List Row) (row : Row) (place : ℕ) → length counts ≡ 29 → place ≡ count_place row.what
     → new ≡ (if row.lost then slice_set counts place (slice_index counts place + 1) else counts)
     → ((kind : What) → slice_index counts (count_place kind) ≡ losses_of kind rows)
     → (kind : What) → slice_index new (count_place kind) ≡ losses_of kind (rows ++ row ∷ [])

@@ -32,6 +32,11 @@ count_place what.Call = 20
 count_place what.Answer = 21
 count_place what.Push = 22
 count_place what.Pull = 23
+count_place what.Restart = 24
+count_place what.Exit = 25
+count_place what.Left = 26
+count_place what.Forget = 27
+count_place what.Reconnect = 28
 
 -- the counts are those of these rows
 pub record AreCountsOf (counts : Counts) (rows : List Row) : Type 0 where

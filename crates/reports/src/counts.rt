@@ -8,7 +8,7 @@ use crate::rows::has_kind;
 use trace::{Row, What};
 
 /// How many kinds of row there are.
-const KINDS: usize = 24;
+const KINDS: usize = 29;
 
 /// The counts of the rows so far.
 #[derive(Drop)]
@@ -66,9 +66,9 @@ impl Counts {
 
 /// Raises the count at a place by one, if it counts.
 fn raise(counts: &mut [u64; KINDS], place: usize, does_count: bool)
-    requires place { place < 24 }
+    requires place { place < 29 }
     requires by_one { slice_index counts.old place < 2 ^ 63 }
-    ensures long { length counts.old ≡ 24 }
+    ensures long { length counts.old ≡ 29 }
     ensures raised { counts.new ≡ (if does_count then slice_set counts.old place (slice_index counts.old place + 1) else counts.old) }
 {
     if does_count {
@@ -90,7 +90,7 @@ fn worse(health: u64, row: &Row) -> u64
 /// The place of a kind of row among the counts.
 fn count_place(kind: What) -> usize
     ensures place { result ≡ count_place kind }
-    ensures within { result < 24 }
+    ensures within { result < 29 }
 {
     match kind {
         What::Start => 0,
@@ -117,5 +117,10 @@ fn count_place(kind: What) -> usize
         What::Answer => 21,
         What::Push => 22,
         What::Pull => 23,
+        What::Restart => 24,
+        What::Exit => 25,
+        What::Left => 26,
+        What::Forget => 27,
+        What::Reconnect => 28,
     }
 }

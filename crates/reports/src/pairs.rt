@@ -32,7 +32,7 @@ impl Marks {
     }
 
     /// Has room for a mark at a place. The marks stay, also where it is refused.
-    fn reach(&mut self, place: usize) -> Result<(), Memory>
+    fn grow_to_place(&mut self, place: usize) -> Result<(), Memory>
         ensures room { OnOk result (place < vec_len self.new.marks) }
         ensures same { (k : ℕ) → is_marked self.new k ≡ is_marked self.old k }
     {
@@ -84,13 +84,13 @@ impl Pairs {
     }
 
     /// Has room for the mark of a pair. The marks stay, also where it is refused.
-    pub(crate) fn reach(&mut self, first: MemberId, second: MemberId) -> Result<(), Memory>
+    pub(crate) fn grow_to_pair(&mut self, first: MemberId, second: MemberId) -> Result<(), Memory>
         ensures room { OnOk result (HasPlace self.new first second) }
         ensures same { (a b : ℕ) → are_marked self.new a b ≡ are_marked self.old a b }
     {
         let place = second.index();
         self.reach_column(place)?;
-        self.columns[place].reach(first.index())
+        self.columns[place].grow_to_place(first.index())
     }
 
     /// Has a column for a second member.

@@ -33,7 +33,7 @@ impl Revivals {
     }
 
     /// Has room for what a row tells. What is kept stays, also where it is refused.
-    pub(crate) fn reach(&mut self, row: &Row) -> Result<(), Memory>
+    pub(crate) fn make_room_for_row(&mut self, row: &Row) -> Result<(), Memory>
         ensures room { OnOk result (HasPlaceFor self.new row.now) }
         ensures same { (rows : List AnyRow) → AreRevivalsOf self.old rows → AreRevivalsOf self.new rows }
     {
@@ -41,7 +41,7 @@ impl Revivals {
             return Ok(());
         }
         match row.about {
-            Some(subject) => self.failed.reach(row.member, subject),
+            Some(subject) => self.failed.grow_to_pair(row.member, subject),
             None => Ok(()),
         }
     }

@@ -71,7 +71,7 @@ impl Tallies {
         if self.counts.rows >= COUNTER_LIMIT {
             return Err(Fault::CounterOverflow);
         }
-        self.revivals.reach(row)?;
+        self.revivals.make_room_for_row(row)?;
         self.failures.follow(row)?;
         self.revivals.follow(row);
         self.counts.count(row);

@@ -1,1 +1,2 @@
+pub mod SpanEnds
 pub mod Stacking

@@ -1,5 +1,5 @@
 -- The members' local health counters, over time.
-use Rattle.std.specs.Prelude.{ℕ, ◌-◌, ◌*◌, ◌^◌, ◌==◌, nat_eq, if◌then◌else◌, List, [], ◌++◌, codes, decimal, map, flat_map, slice_index, Option}
+use Rattle.std.specs.Prelude.{ℕ, ◌+◌, ◌-◌, ◌*◌, ◌^◌, ◌==◌, nat_eq, if◌then◌else◌, List, [], ◌++◌, codes, decimal, map, min, flat_map, slice_index, Option}
 use Rattle.std.specs.List.{range_with_len}
 use Rattle.scenario.specs.Setup.{Setup}
 use Rattle.trace.specs.declared.row.Row.{Row}
@@ -10,7 +10,7 @@ use Rattle.series.specs.Series.{healths_of}
 use Rattle.drawing.specs.Axes.{axis_up}
 use Rattle.drawing.specs.Legends.{entry}
 use Rattle.drawing.specs.Shapes.{figure_opening, figure_end, plot_opening, plot_end}
-use Rattle.member_timelines.specs.Heights.{heights, flat, axis_height}
+use Rattle.member_timelines.specs.Heights.{level, flat, axis_height}
 use Rattle.member_timelines.specs.Lanes.{moments}
 use Rattle.member_timelines.specs.LaneTable.{time_axis, is_unchanged}
 use Rattle.run_page.specs.Stacks.{Layer, layers, tops, greatest}
@@ -25,9 +25,16 @@ values = range_with_len 1 16
 abbrev pub class_of_value : ℕ → List ℕ
 class_of_value value = if value == 1 then codes "two" else if value == 2 then codes "one" else if value == 3 then codes "six" else codes "dead"
 
--- how many members stand at a value in each span
+-- how many are in a state at the end of each of so many spans, where nobody is at first, none more than `most`
+abbrev pub end_height : (ℕ → ℕ) → (ℕ → ℕ) → ℕ → ℕ → ℕ
+end_height came went most span = min (level came went 0 (span + 1)) most
+
+abbrev pub ends : (ℕ → ℕ) → (ℕ → ℕ) → ℕ → ℕ → List ℕ
+ends came went spans most = map (end_height came went most) (range_with_len 0 spans)
+
+-- how many members stand at a value at the end of each span
 abbrev pub at_value : Setup → List Row → ℕ → ℕ → List ℕ
-at_value s rows most value = heights (λ span. came value span (healths_of s rows)) (λ span. went value span (healths_of s rows)) (span_count s) 0 most
+at_value s rows most value = ends (λ span. came value span (healths_of s rows)) (λ span. went value span (healths_of s rows)) (span_count s) most
 
 -- what is drawn of a value
 abbrev pub health_layer : Setup → List Row → ℕ → ℕ → Layer
@@ -44,7 +51,7 @@ health_areas s rows most = layers s most (flat (span_count s)) (map (health_laye
 -- what the plot shows
 unfoldable pub health_words : List ℕ
 health_words =
-    codes "<p class=\"soft\">A member's health counter (Lifeguard) rises as its own probes fail. " ++ codes "Members at 0 aren't drawn.</p><ul class=\"legend\">"
+    codes "<p class=\"soft\">A member's health counter (Lifeguard) rises as its own probes fail. " ++ codes "Of each span the value at its end counts. Members at 0 aren't drawn.</p><ul class=\"legend\">"
     ++ entry (codes "two") (codes "at 1") ++ entry (codes "one") (codes "at 2") ++ entry (codes "six") (codes "at 3") ++ entry (codes "dead") (codes "at 4 and more")
     ++ codes "</ul>"
 

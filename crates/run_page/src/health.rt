@@ -7,10 +7,11 @@ ghost use Rattle.member_timelines.specs.Run.{IsTold};
 ghost use Rattle.run_page.specs.Stacks.{greatest};
 ghost use Rattle.run_page.specs.Health.{values, class_of_value, at_value, unwell, health_areas, health_words, health_plot, health_row, health_span, health_rows, value_rows, health_table, health_figure, health_text};
 
-use crate::kinds::{open_time_plot, push_layer, reach};
+use crate::ends::ends;
+use crate::kinds::{layer_tops, open_time_plot, push_layer};
 use base::Memory;
 use drawing::{close_figure, close_plot, open_figure, push_entry, push_moment_alone, push_up};
-use member_timelines::{Run, axis_height, before, flat, greatest, heights, push_time_axis};
+use member_timelines::{Run, axis_height, before, flat, greatest, push_time_axis};
 use std::alloc::{AllocError, Global};
 use ticks::Tick;
 
@@ -104,14 +105,14 @@ fn class_of_value(value: usize) -> &'static str
     }
 }
 
-/// How many members stand at a value in each span, none more than `most`.
+/// How many members stand at a value at the end of each span, none more than `most`.
 fn at_value(alloc: Global, run: &Run, most: u64, value: usize) -> Result<Vec<u64>, Memory>
     requires told { IsTold run.now }
     requires few { value ≤ 16 }
     ensures value { IfOk result (λ list. list.items ≡ at_value run.now.scenario.now run.now.tallies.now most value) }
     ensures all { IfOk result (λ list. length list.items ≡ span_count run.now.scenario.now) }
 {
-    heights(alloc, run.series.health(), value, run.spans(), 0, most)
+    ends(alloc, run.series.health(), value, run.spans(), most)
 }
 
 /// Appends what the plot shows.
@@ -122,7 +123,9 @@ fn push_words(text: &mut String) -> Result<(), AllocError>
     text.push_str(
         "<p class=\"soft\">A member's health counter (Lifeguard) rises as its own probes fail. ",
     )?;
-    text.push_str("Members at 0 aren't drawn.</p><ul class=\"legend\">")?;
+    text.push_str(
+        "Of each span the value at its end counts. Members at 0 aren't drawn.</p><ul class=\"legend\">",
+    )?;
     push_entry(text, "two", "at 1")?;
     push_entry(text, "one", "at 2")?;
     push_entry(text, "six", "at 3")?;
@@ -149,7 +152,7 @@ fn unwell(alloc: Global, run: &Run) -> Result<Vec<u64>, Memory>
     let values = values();
     for value in values {
         let counts = at_value(alloc, run, u64::MAX, *value)?;
-        let reached = reach(alloc, tops, counts)?;
+        let reached = layer_tops(alloc, tops, counts)?;
         tops = reached;
     }
     Ok(tops)

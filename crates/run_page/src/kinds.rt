@@ -171,7 +171,11 @@ pub(crate) fn push_layer(
 }
 
 /// How high each span reaches with so many on top, as far as 64 bits hold it.
-pub(crate) fn reach(alloc: Global, tops: Vec<u64>, counts: Vec<u64>) -> Result<Vec<u64>, Memory>
+pub(crate) fn layer_tops(
+    alloc: Global,
+    tops: Vec<u64>,
+    counts: Vec<u64>,
+) -> Result<Vec<u64>, Memory>
     ensures { IfOk result (λ list. list.items ≡ stacked tops.items counts.items (2 ^ 64 - 1)) }
 {
     stacked(alloc, tops.as_slice(), counts.as_slice(), u64::MAX)

@@ -1,6 +1,7 @@
 //! The page of a run: one HTML file that shows what happened, without scripts.
 #![tactic(auto)]
 
+mod ends;
 mod health;
 mod kinds;
 mod layout;

@@ -9,7 +9,7 @@ use Rattle.schema.specs.declared.schema.KeyRule.{KeyRule}
 use Rattle.schema.specs.declared.schema.FormatKey.{FormatKey}
 use Rattle.schema.specs.declared.schema.Section.{Section}
 use Rattle.schema.specs.declared.schema.Section.TheVariants as section
-use Rattle.scenario.specs.Setup.{Setup, Group}
+use Rattle.scenario.specs.Setup.{Setup, Group, member_count, name_of}
 use Rattle.scenario.specs.declared.settings.Link.{Link}
 use Rattle.scenario.specs.declared.settings.Path.{Path}
 use Rattle.scenario.specs.declared.settings.Gossip.{Gossip}
@@ -60,9 +60,22 @@ third_entries s preset Three = gossip_entries s preset s.gossip ++ section_entri
 abbrev pub start_words : ℕ → List ℕ
 start_words at = if nat_lt 0 at then codes ", start " ++ grouped at else []
 
--- a group: how many members it has, and when they start
-unfoldable pub group_entry : Group → List ℕ
-group_entry g = chip_opening (nat_lt 0 g.start) ++ codes "group " ++ escaped g.name ++ codes ": count " ++ grouped g.count ++ start_words g.start ++ codes "</li>"
+-- the name of a contact: one of the members
+abbrev pub contact_name : Setup → ℕ → List ℕ
+contact_name s contact = if nat_lt contact (member_count s) then name_of s contact else []
+
+-- whom the members of a group ask to let them join, where they ask somebody
+unfoldable pub contact_words : Setup → Option ℕ → List ℕ
+contact_words s (Some contact) = codes ", contact " ++ escaped (contact_name s contact)
+contact_words s None = []
+
+-- when they start and whom they ask
+unfoldable pub joining_words : Setup → ℕ → Option ℕ → List ℕ
+joining_words s start contact = start_words start ++ contact_words s contact
+
+-- a group: how many members it has, when they start, and whom they ask to let them join
+unfoldable pub group_entry : Setup → Group → List ℕ
+group_entry s g = chip_opening (nat_lt 0 g.start) ++ codes "group " ++ escaped g.name ++ codes ": count " ++ grouped g.count ++ joining_words s g.start g.contact ++ codes "</li>"
 
 -- the link isn't the one of all pairs
 abbrev pub is_other_link : Link → Link → Bool
@@ -97,7 +110,7 @@ unfoldable pub entries : Setup → Preset → List ℕ
 entries s preset =
     top_entries s ++ section_entries s preset (codes "swim.") section.Swim ++ section_entries s preset (codes "suspicion.") section.Suspicion
     ++ section_entries s preset (codes "lifeguard.") section.Lifeguard ++ section_entries s preset (codes "link.") section.Link
-    ++ third_entries s preset s.version ++ flat_map group_entry s.groups ++ last_entries s
+    ++ third_entries s preset s.version ++ flat_map (group_entry s) s.groups ++ last_entries s
 
 -- what is in bold beside a preset, and the list of all begins
 unfoldable pub bold_words : Preset → List ℕ

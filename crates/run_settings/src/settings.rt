@@ -5,11 +5,12 @@ ghost use Rattle.schema.specs.Schema.{spelling_of};
 ghost use Rattle.scenario.specs.SetupOf.{group_of};
 ghost use Rattle.run_settings.specs.Events.{group_name};
 ghost use Rattle.presets.specs.Presets.{word_of};
-ghost use Rattle.run_settings.specs.Settings.{bold_words, chip_opening, chip, switch, entry_of, key_entry, section_entries, gossip_entries, third_entries, group_entry, start_words, path_entry, is_other_link, link_words, version_number, top_entries, last_entries, entries, settings_beside, settings_text};
+ghost use Rattle.run_settings.specs.Settings.{bold_words, chip_opening, chip, switch, entry_of, key_entry, section_entries, gossip_entries, third_entries, group_entry, start_words, contact_name, contact_words, joining_words, path_entry, is_other_link, link_words, version_number, top_entries, last_entries, entries, settings_beside, settings_text};
 
 use crate::events::push_events;
 use crate::nearest::{is_other_number, is_other_switch, nearest, usual, usual_switch};
 use crate::values::{switch_of, value_of};
+use base::MemberId;
 use drawing::{close_figure, open_figure, push_escaped, push_grouped};
 use presets::Preset;
 use scenario::{Group, Link, Path, Scenario, Version};
@@ -84,7 +85,7 @@ fn push_entries(text: &mut String, scenario: &Scenario, preset: Preset) -> Resul
     push_section(text, scenario, preset, "lifeguard.", Section::Lifeguard)?;
     push_section(text, scenario, preset, "link.", Section::Link)?;
     push_third(text, scenario, preset)?;
-    push_groups(text, scenario.groups())?;
+    push_groups(text, scenario, scenario.groups())?;
     push_last(text, scenario)
 }
 
@@ -268,19 +269,19 @@ fn push_switch(
 }
 
 /// Appends these groups.
-fn push_groups(text: &mut String, groups: &[Group]) -> Result<(), AllocError>
-    ensures { OnOk result (string_bytes text.new ≡ string_bytes text.old ++ flat_map group_entry (map group_of groups.now)) }
+fn push_groups(text: &mut String, scenario: &Scenario, groups: &[Group]) -> Result<(), AllocError>
+    ensures { OnOk result (string_bytes text.new ≡ string_bytes text.old ++ flat_map (group_entry scenario.now) (map group_of groups.now)) }
 {
     for group in groups {
-        push_group(text, group)?;
+        push_group(text, scenario, group)?;
     }
     Ok(())
 }
 
 /// Appends a group; one whose members start later than at 0 stands out.
 #[tactic(auto, unfolding(crate::specs::Settings::group_entry))]
-fn push_group(text: &mut String, group: &Group) -> Result<(), AllocError>
-    ensures { OnOk result (string_bytes text.new ≡ string_bytes text.old ++ group_entry (group_of group.now)) }
+fn push_group(text: &mut String, scenario: &Scenario, group: &Group) -> Result<(), AllocError>
+    ensures { OnOk result (string_bytes text.new ≡ string_bytes text.old ++ group_entry scenario.now (group_of group.now)) }
 {
     let start = group.start.ticks();
     push_opening(text, start > 0)?;
@@ -288,8 +289,49 @@ fn push_group(text: &mut String, group: &Group) -> Result<(), AllocError>
     push_escaped(text, group.name.as_str())?;
     text.push_str(": count ")?;
     push_grouped(text, group.count)?;
-    push_start(text, start)?;
+    push_joining(text, scenario, start, group.contact)?;
     text.push_str("</li>")
+}
+
+/// Appends when the members of a group start, and whom they ask to let them join.
+#[tactic(auto, unfolding(crate::specs::Settings::joining_words))]
+fn push_joining(
+    text: &mut String,
+    scenario: &Scenario,
+    start: u64,
+    contact: Option<MemberId>,
+) -> Result<(), AllocError>
+    ensures { OnOk result (string_bytes text.new ≡ string_bytes text.old ++ joining_words scenario.now start contact) }
+{
+    push_start(text, start)?;
+    push_contact(text, scenario, contact)?;
+    Ok(())
+}
+
+/// Appends whom the members of a group ask to let them join, where they ask somebody.
+#[tactic(auto, unfolding(crate::specs::Settings::contact_words))]
+fn push_contact(
+    text: &mut String,
+    scenario: &Scenario,
+    contact: Option<MemberId>,
+) -> Result<(), AllocError>
+    ensures { OnOk result (string_bytes text.new ≡ string_bytes text.old ++ contact_words scenario.now contact) }
+{
+    if let Some(contact) = contact {
+        text.push_str(", contact ")?;
+        return push_escaped(text, contact_name(scenario, contact));
+    }
+    Ok(())
+}
+
+/// The name of a contact: one of the members.
+fn contact_name(scenario: &Scenario, contact: MemberId) -> &str
+    ensures { result.now ≡ contact_name scenario.now contact }
+{
+    if contact.index() < scenario.members() {
+        return scenario.name(contact);
+    }
+    ""
 }
 
 /// Appends when the members of a group start, where that is later than at 0.

@@ -1,20 +1,22 @@
 -- What happened, in a few words.
-use Rattle.std.specs.Prelude.{ℕ, Bool, nat_lt, nat_eq, if◌then◌else◌, Option, Some, None, List, [], ◌∷◌, ◌++◌, codes, decimal, length, count_by, min, max}
+use Rattle.std.specs.Prelude.{ℕ, Bool, false, nat_lt, nat_eq, if◌then◌else◌, Option, Some, None, List, [], ◌∷◌, ◌++◌, codes, decimal, length, count_by, min, max}
 use Rattle.std.specs.Option.{is_some}
-use Rattle.std.specs.List.{reduce}
+use Rattle.std.specs.List.{reduce, list_any}
 use Rattle.schema.specs.declared.schema.Version.{Version}
 use Rattle.schema.specs.declared.schema.Version.TheVariants.{One, Two, Three}
 use Rattle.scenario.specs.Setup.{Setup, member_count}
 use Rattle.trace.specs.declared.row.What.TheVariants as what
 use Rattle.trace.specs.declared.row.Row.{Row}
 use Rattle.reports.specs.declared.departure.Departure.{Departure}
+use Rattle.reports.specs.declared.false_positives.FalsePositive.{FalsePositive}
+use Rattle.reports.specs.Failures.{false_positives_of}
 use Rattle.reports.specs.Rows.{count_of, worst_health}
 use Rattle.reports.specs.Departures.{crashes_of, latencies_of}
 use Rattle.reports.specs.Revivals.{revivals}
 use Rattle.reports.specs.FalsePositives.{ways_to_depart, false_positives}
 use Rattle.drawing.specs.Numbers.{grouped}
 use Rattle.member_timelines.specs.Numbers.{by_number}
-use Rattle.member_timelines.specs.Wrongly.{count_out}
+use Rattle.member_timelines.specs.Wrongly.{count_out, is_claim_about}
 use Rattle.drawing.specs.Lengths.{lasting, lasting_between}
 use Rattle.ticks.specs.declared.tick.Tick.{Tick}
 
@@ -31,11 +33,26 @@ crashed_words count = if nat_eq count 1 then codes "1 member crashed" else decim
 unfoldable pub some_found : ℕ → List ℕ
 some_found found = codes ", " ++ decimal found ++ by_number found (codes " of them was detected") (codes " of them were detected")
 
--- how many of so many were detected
-unfoldable pub found_words : ℕ → ℕ → List ℕ
-found_words count found =
-    if nat_eq found 0 then codes ", undetected. "
-    else if nat_lt found count then some_found found else []
+-- how many others had been declared dead before
+unfoldable pub known_words : ℕ → List ℕ
+known_words known = if nat_eq known 0 then [] else codes ", " ++ decimal known ++ codes " already declared dead"
+
+-- the same of so many, where none was detected
+unfoldable pub unfound_words : ℕ → ℕ → List ℕ
+unfound_words count known =
+    if nat_eq known 0 then codes ", undetected. "
+    else if nat_eq known count then codes ", already declared dead. "
+    else codes ", " ++ decimal known ++ codes " already declared dead, the others undetected. "
+
+-- how many were detected and how many had been declared dead before, where some were detected and others weren't
+unfoldable pub part_found : ℕ → ℕ → List ℕ
+part_found found known = some_found found ++ known_words known
+
+-- how many of so many were detected, and how many others had been declared dead before
+unfoldable pub found_words : ℕ → ℕ → ℕ → List ℕ
+found_words count found known =
+    if nat_eq found 0 then unfound_words count known
+    else if nat_lt found count then part_found found known else []
 
 -- the greatest time, where it is another than the least
 abbrev pub greatest_words : ℕ → ℕ → List ℕ
@@ -58,11 +75,15 @@ latency_words time _ _ = []
 abbrev pub is_found : Departure → Bool
 is_found crash = is_some crash.detection.confirm
 
--- how many crashed, and how soon they were detected
-unfoldable pub crash_words : Option Tick → List Departure → List ℕ
-crash_words time crashes =
+-- nobody did, but one of these false claims, all made before it crashed, is about the member
+abbrev pub is_known : List FalsePositive → Departure → Bool
+is_known claims crash = if is_found crash then false else list_any (is_claim_about crash.member) claims
+
+-- how many crashed, and how soon they were detected, where these are the false claims that members are dead
+unfoldable pub crash_words : Option Tick → List Departure → List FalsePositive → List ℕ
+crash_words time crashes claims =
     if nat_eq (length crashes) 0 then codes "Nobody crashed. "
-    else crashed_words (length crashes) ++ found_words (length crashes) (count_by is_found crashes)
+    else crashed_words (length crashes) ++ found_words (length crashes) (count_by is_found crashes) (count_by (is_known claims) crashes)
     ++ latency_words time (reduce min (latencies_of crashes)) (reduce max (latencies_of crashes))
 
 -- how many members have a false death
@@ -112,14 +133,29 @@ last_figures suspicions refutations fails worst rows =
 abbrev pub last_figures_of : List Row → List ℕ
 last_figures_of rows = last_figures (false_positives ways_to_depart what.Suspect rows) (count_of what.Refute rows) (count_of what.Fail rows) (worst_health rows) (length rows)
 
+-- a figure without a class, where it isn't 0
+abbrev pub some_figure : ℕ → List ℕ → List ℕ → List ℕ
+some_figure number one several = if nat_lt 0 number then figure (codes "") number one several else []
+
+-- the rows that only the members of a harness write, and that count in no other figure but that of all rows
+unfoldable pub harness_figures : ℕ → ℕ → ℕ → List ℕ
+harness_figures left forgotten reconnects =
+    some_figure left (codes "row <code>left</code>") (codes "rows <code>left</code>")
+    ++ some_figure forgotten (codes "row <code>forget</code>") (codes "rows <code>forget</code>")
+    ++ some_figure reconnects (codes "row <code>reconnect</code>") (codes "rows <code>reconnect</code>")
+
+-- the same of these rows
+abbrev pub harness_figures_of : List Row → List ℕ
+harness_figures_of rows = harness_figures (count_of what.Left rows) (count_of what.Forget rows) (count_of what.Reconnect rows)
+
 -- the figures, where so many members have a false death
 unfoldable pub figures : Version → ℕ → List Row → List ℕ
-figures version out rows = first_figures_of out rows ++ back_figure version rows ++ last_figures_of rows
+figures version out rows = first_figures_of out rows ++ back_figure version rows ++ last_figures_of rows ++ harness_figures_of rows
 
 -- what happened, where so many members have a false death
 unfoldable pub summary_of : Option Tick → Setup → ℕ → List Row → List ℕ
 summary_of time s out rows =
-    codes "<p class=\"lead\">" ++ size_words time s ++ crash_words time (crashes_of rows) ++ out_words out
+    codes "<p class=\"lead\">" ++ size_words time s ++ crash_words time (crashes_of rows) (false_positives_of what.Confirm rows) ++ out_words out
     ++ codes "</p><ul class=\"figures\">" ++ figures s.version out rows ++ codes "</ul>\n"
 
 -- what happened

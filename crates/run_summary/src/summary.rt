@@ -1,19 +1,19 @@
 //! What happened, in a few words.
 ghost use Rattle.std.specs.Prelude.{◌≡◌, ◌++◌, ℕ, OnOk, IfOk, nat_lt, codes, length, count_by, min, max};
 ghost use Rattle.std.specs.String.{string_bytes};
-ghost use Rattle.std.specs.List.{reduce};
+ghost use Rattle.std.specs.List.{reduce, list_any};
 ghost use Rattle.scenario.specs.Setup.{member_count};
 ghost use Rattle.reports.specs.Departures.{crashes_of, latencies_of};
 ghost use Rattle.drawing.specs.Numbers.{grouped};
 ghost use Rattle.member_timelines.specs.Numbers.{by_number};
 ghost use Rattle.member_timelines.specs.Run.{IsTold};
-ghost use Rattle.member_timelines.specs.Wrongly.{count_out};
-ghost use Rattle.run_summary.specs.Summary.{size_words, crashed_words, some_found, found_words, greatest_words, lasting_from, between_words, latency_words, is_found, crash_words, out_words, figure_start, figure, out_class, back_figure, first_figures, first_figures_of, last_figures, last_figures_of, figures, summary_of, summary_text};
+ghost use Rattle.member_timelines.specs.Wrongly.{count_out, is_claim_about};
+ghost use Rattle.run_summary.specs.Summary.{size_words, crashed_words, some_found, known_words, unfound_words, part_found, found_words, greatest_words, lasting_from, between_words, latency_words, is_found, is_known, crash_words, out_words, figure_start, figure, out_class, back_figure, first_figures, first_figures_of, last_figures, last_figures_of, some_figure, harness_figures, harness_figures_of, figures, summary_of, summary_text};
 
-use base::Memory;
+use base::{MemberId, Memory};
 use drawing::{push_grouped, push_lasting, push_lasting_between};
 use member_timelines::{Run, by_number, claims_by_member};
-use reports::{Departure, Tallies, false_positive_count};
+use reports::{Departure, FalsePositive, Tallies, false_positive_count};
 use scenario::Version;
 use std::alloc::{AllocError, Global};
 use ticks::Tick;
@@ -54,7 +54,8 @@ fn push_all(text: &mut String, run: &Run, out: u64) -> Result<(), AllocError>
 {
     text.push_str("<p class=\"lead\">")?;
     push_size(text, run)?;
-    push_crashes(text, run.tick, run.tallies.crashes())?;
+    let claims = run.tallies.false_positives(What::Confirm);
+    push_crashes(text, run.tick, run.tallies.crashes(), claims)?;
     push_out(text, out)?;
     text.push_str("</p><ul class=\"figures\">")?;
     push_figures(text, run.scenario.version(), run.tallies, out)?;
@@ -83,21 +84,28 @@ fn push_with(text: &mut String, number: u64, one: &str, several: &str) -> Result
     text.push_str(by_number(number, one, several))
 }
 
-/// Appends how many crashed, and how soon they were detected.
+/// Appends how many crashed, and how soon they were detected, where these are the false claims that
+/// members are dead.
 #[tactic(auto, unfolding(crate::specs::Summary::crash_words))]
 fn push_crashes(
     text: &mut String,
     time: Option<Tick>,
     crashes: &[Departure],
+    claims: &[FalsePositive],
 ) -> Result<(), AllocError>
-    ensures { OnOk result (string_bytes text.new ≡ string_bytes text.old ++ crash_words time crashes.now) }
+    ensures { OnOk result (string_bytes text.new ≡ string_bytes text.old ++ crash_words time crashes.now claims.now) }
 {
     if crashes.is_empty() {
         return text.push_str("Nobody crashed. ");
     }
     let count = crashes.len();
     push_crashed(text, count)?;
-    push_found(text, count, count_found(crashes))?;
+    push_found(
+        text,
+        count,
+        count_found(crashes),
+        count_known(crashes, claims),
+    )?;
     push_latencies(
         text,
         time,
@@ -128,18 +136,93 @@ fn count_found(crashes: &[Departure]) -> usize
         .count()
 }
 
-/// Appends how many of so many crashes were detected.
+/// How many of these crashes weren't detected, but are of members of which a false claim was made.
+fn count_known(crashes: &[Departure], claims: &[FalsePositive]) -> usize
+    ensures { result ≡ count_by (is_known claims.now) crashes.now }
+{
+    crashes
+        .iter()
+        .filter(|crash| is_known(claims, crash))
+        .count()
+}
+
+/// Whether a crash wasn't detected, but a false claim was made of its member.
+fn is_known(claims: &[FalsePositive], crash: &Departure) -> bool
+    ensures { result ≡ is_known claims.now crash.now }
+{
+    if crash.detection.confirm.is_some() {
+        return false;
+    }
+    is_claimed(claims, crash.member)
+}
+
+/// Whether one of these claims is about a member.
+fn is_claimed(claims: &[FalsePositive], member: MemberId) -> bool
+    ensures { result ≡ list_any (is_claim_about member) claims.now }
+{
+    claims.iter().any(|claim| is_about(claim, member))
+}
+
+/// Whether a claim is about a member.
+fn is_about(claim: &FalsePositive, member: MemberId) -> bool
+    ensures { result ≡ is_claim_about member claim.now }
+{
+    match claim.about {
+        Some(about) => about == member,
+        None => false,
+    }
+}
+
+/// Appends how many of so many crashes were detected, and how many others had been declared dead before.
 #[tactic(auto, unfolding(crate::specs::Summary::found_words))]
-fn push_found(text: &mut String, count: usize, found: usize) -> Result<(), AllocError>
-    ensures { OnOk result (string_bytes text.new ≡ string_bytes text.old ++ found_words count found) }
+fn push_found(text: &mut String, count: usize, found: usize, known: usize) -> Result<(), AllocError>
+    ensures { OnOk result (string_bytes text.new ≡ string_bytes text.old ++ found_words count found known) }
 {
     if found == 0 {
-        return text.push_str(", undetected. ");
+        return push_unfound(text, count, known);
     }
     if found < count {
-        return push_some_found(text, found);
+        return push_part_found(text, found, known);
     }
     Ok(())
+}
+
+/// Appends how many of so many crashes, none of which was detected, had been declared dead before.
+#[tactic(auto, unfolding(crate::specs::Summary::unfound_words))]
+fn push_unfound(text: &mut String, count: usize, known: usize) -> Result<(), AllocError>
+    ensures { OnOk result (string_bytes text.new ≡ string_bytes text.old ++ unfound_words count known) }
+{
+    if known == 0 {
+        return text.push_str(", undetected. ");
+    }
+    if known == count {
+        return text.push_str(", already declared dead. ");
+    }
+    write!(
+        text,
+        ", {known} already declared dead, the others undetected. "
+    )
+}
+
+/// Appends how many crashes were detected, and how many others had been declared dead before.
+#[tactic(auto, unfolding(crate::specs::Summary::part_found))]
+fn push_part_found(text: &mut String, found: usize, known: usize) -> Result<(), AllocError>
+    ensures { OnOk result (string_bytes text.new ≡ string_bytes text.old ++ part_found found known) }
+{
+    push_some_found(text, found)?;
+    push_known(text, known)?;
+    Ok(())
+}
+
+/// Appends how many had been declared dead before.
+#[tactic(auto, unfolding(crate::specs::Summary::known_words))]
+fn push_known(text: &mut String, known: usize) -> Result<(), AllocError>
+    ensures { OnOk result (string_bytes text.new ≡ string_bytes text.old ++ known_words known) }
+{
+    if known == 0 {
+        return Ok(());
+    }
+    write!(text, ", {known} already declared dead")
 }
 
 /// Appends that only so many of the crashes were detected.
@@ -270,6 +353,7 @@ fn push_figures(
     push_first_of(text, tallies, out)?;
     push_back(text, version, tallies)?;
     push_last_of(text, tallies)?;
+    push_harness_of(text, tallies)?;
     Ok(())
 }
 
@@ -356,6 +440,59 @@ fn push_last(
     push_figure(text, "", worst, "worst health", "worst health")?;
     push_figure(text, "", rows, "row in the trace", "rows in the trace")?;
     Ok(())
+}
+
+/// Appends the figures of the rows that only the members of a harness write.
+fn push_harness_of(text: &mut String, tallies: &Tallies) -> Result<(), AllocError>
+    ensures { OnOk result (string_bytes text.new ≡ string_bytes text.old ++ harness_figures_of tallies.now) }
+{
+    push_harness(
+        text,
+        tallies.rows_of(What::Left),
+        tallies.rows_of(What::Forget),
+        tallies.rows_of(What::Reconnect),
+    )
+}
+
+/// Appends those of these figures that aren't 0.
+#[tactic(auto, unfolding(crate::specs::Summary::harness_figures))]
+fn push_harness(
+    text: &mut String,
+    left: u64,
+    forgotten: u64,
+    reconnects: u64,
+) -> Result<(), AllocError>
+    ensures { OnOk result (string_bytes text.new ≡ string_bytes text.old ++ harness_figures left forgotten reconnects) }
+{
+    push_some(
+        text,
+        left,
+        "row <code>left</code>",
+        "rows <code>left</code>",
+    )?;
+    push_some(
+        text,
+        forgotten,
+        "row <code>forget</code>",
+        "rows <code>forget</code>",
+    )?;
+    push_some(
+        text,
+        reconnects,
+        "row <code>reconnect</code>",
+        "rows <code>reconnect</code>",
+    )?;
+    Ok(())
+}
+
+/// Appends a figure without a class, where it isn't 0.
+fn push_some(text: &mut String, number: u64, one: &str, several: &str) -> Result<(), AllocError>
+    ensures { OnOk result (string_bytes text.new ≡ string_bytes text.old ++ some_figure number one.now several.now) }
+{
+    if number == 0 {
+        return Ok(());
+    }
+    push_figure(text, "", number, one, several)
 }
 
 /// The class of a figure of false deaths.

@@ -1,4 +1,4 @@
-//! What the text of a scenario says, and how a fault of what goes by it is told.
+//! What the text of a scenario says, and how a fault of what is read by it is reported.
 ghost use Rattle.std.specs.Prelude.{◌≡◌, Ok, IfOk, IfErr};
 ghost use Rattle.scenario_reader.specs.Rules.{verdict};
 ghost use Rattle.command_line.specs.Failures.{RefusesText};

@@ -8,6 +8,7 @@ mod sequential;
 mod streaming;
 mod stretches;
 mod tallying;
+mod watching;
 
 pub use in_turn::run_in_turn;
 pub use laws::{
@@ -17,3 +18,4 @@ pub use laws::{
 pub use one_queue::run_streamed;
 pub use sequential::run_one;
 pub use tallying::tally_run;
+pub use watching::{RunWatch, Unwatched};

@@ -6,6 +6,7 @@ ghost use Rattle.member_laws.specs.Runs.{IsRunOf, CounterOverflows};
 ghost use Rattle.run_output.specs.Promise.{KeepsPromise, ReportOverflows, summed};
 
 use crate::streaming::stream_run;
+use crate::watching::Unwatched;
 use base::Fault;
 use reports::Tallies;
 use run_output::{RowObserver, TraceAndGathered, Written, end_run};
@@ -44,6 +45,11 @@ pub fn run_streamed<A: Sink, B: Sink, C: RowObserver>(
     ensures relay { IfErr result (λ fault. fault ≢ Fault.ThreadLost) }
 {
     let _end = scenario.end();
-    let outcome = stream_run::<Written, TraceAndGathered<A, C>>(alloc, scenario, place);
+    let outcome = stream_run::<Written, TraceAndGathered<A, C>, Unwatched>(
+        alloc,
+        scenario,
+        place,
+        &mut Unwatched,
+    );
     end_run(alloc, outcome, scenario, &mut place.trace, report)
 }

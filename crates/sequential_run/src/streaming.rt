@@ -6,6 +6,7 @@ ghost use Rattle.member_laws.specs.Runs.{IsRunOf, CounterOverflows};
 ghost use Rattle.run_output.specs.Promise.{BeginsTrace, ReportOverflows};
 
 use crate::stretches::run_stretches;
+use crate::watching::RunWatch;
 use base::Fault;
 use links::Links;
 use member::Event;
@@ -17,14 +18,15 @@ use windows::{Cluster, Part};
 use worker_queue::WheelQueue;
 
 /// Runs the scenario on this thread, and takes the rows of its run as they come, in the order made. None is kept for
-/// longer than a stretch of the run, and nothing is flushed. After a fault the place has got a beginning of the trace.
+/// longer than a stretch of the run, and nothing is flushed. The watch gets how far it has come. After a fault the place has got a beginning of the trace.
 ///
 /// Faults: `Memory`; `CounterOverflow` where a counter of the run or of the report would pass 2^63; `Write` where the place
 /// failed.
-pub(crate) fn stream_run<T: RowSink<P>, P>(
+pub(crate) fn stream_run<T: RowSink<P>, P, W: RunWatch>(
     alloc: Global,
     scenario: &Scenario,
     place: &mut P,
+    watch: &mut W,
 ) -> Result<Tallies, Fault>
     requires countable { T.failed place.old < 2 ^ 63 }
     requires none_gathered { T.gathered place.old scenario.now [] }
@@ -48,5 +50,5 @@ pub(crate) fn stream_run<T: RowSink<P>, P>(
     let part = Part::whole(alloc, scenario, wheel)?;
     T::begin(place)?;
     let cluster = Cluster { scenario, links };
-    run_stretches::<T, P, WheelQueue<Event>>(alloc, part, cluster, place)
+    run_stretches::<T, P, WheelQueue<Event>, W>(alloc, part, cluster, place, watch)
 }

@@ -9,22 +9,32 @@ ghost use Rattle.windows.specs.WorldOf.{world_of};
 ghost use Rattle.run_output.specs.Promise.{BeginsTrace, ReportOverflows};
 ghost use Rattle.run_output.specs.Written.{HasWritten};
 
+use crate::watching::RunWatch;
 use base::{Fault, Moment};
 use member::Event;
 use reports::Tallies;
 use run_output::RowSink;
+use scenario::Scenario;
 use std::alloc::Global;
 use turns::TurnLimit;
 use windows::{Cluster, Done, Part};
 use worker_queue::EventQueue;
 
+/// Into how many stretches a run is cut at least, where that is some work for each.
+const STRETCHES: u64 = 50;
+
+/// For how many ticks a cluster of one member runs where that is some work, about some milliseconds.
+const TICKS_OF_WORK: u64 = 4_194_304;
+
 /// Takes the rows of the run that begins in this part, which owns every member: those of one window after another,
-/// each as long as its limit lets it be. What the place holds it has got since it held what it held first.
-pub(crate) fn run_stretches<T: RowSink<P>, P, Q: EventQueue<Event> + Drop>(
+/// each as long as its limit lets it be, and the watch gets how far the run has come. What the place holds it has got since it
+/// held what it held first.
+pub(crate) fn run_stretches<T: RowSink<P>, P, Q: EventQueue<Event> + Drop, W: RunWatch>(
     alloc: Global,
     mut part: Part<Q>,
     cluster: Cluster,
     place: &mut P,
+    watch: &mut W,
 ) -> Result<Tallies, Fault>
     requires sound { IsSound cluster.scenario.now }
     requires opened { world_of Q.set part ≡ opening cluster.scenario.now }
@@ -47,9 +57,10 @@ pub(crate) fn run_stretches<T: RowSink<P>, P, Q: EventQueue<Event> + Drop>(
     let mut tallies = Tallies::new(alloc);
     let mut limit = TurnLimit::new();
     let last = cluster.scenario.end().ticks();
+    let most = longest_stretch(cluster.scenario);
     let mut from = 0;
     while from <= last {
-        let bound = limit.end(Moment(from));
+        let bound = stretch_end(&limit, from, most);
         let done = part.run(alloc, bound, cluster)?;
         let Done {
             part: after,
@@ -58,8 +69,28 @@ pub(crate) fn run_stretches<T: RowSink<P>, P, Q: EventQueue<Event> + Drop>(
         } = done;
         limit.adapt(rows.len());
         T::take(alloc, &rows, cluster.scenario, &mut tallies, place)?;
+        watch.has_come(bound, cluster.scenario.end());
         part = after;
         from = bound.ticks();
     }
     Ok(tallies)
+}
+
+/// How many ticks a stretch of a run may have, however few rows there are: a fiftieth of the run, or more where that is little work.
+fn longest_stretch(scenario: &Scenario) -> u64
+    ensures { 0 < result }
+{
+    let members = scenario.members() as u64;
+    let some_work = TICKS_OF_WORK / members.max(1);
+    (scenario.end().ticks() / STRETCHES).max(some_work).max(1)
+}
+
+/// The moment before which the stretch ends that begins at another one: as the limit lets it, and after no more than so many ticks.
+fn stretch_end(limit: &TurnLimit, from: u64, most: u64) -> Moment
+    requires some { 0 < most }
+    requires lasts { from < 2 ^ 63 }
+    ensures { from < result }
+{
+    let bound = limit.end(Moment(from));
+    Moment(bound.ticks().min(from.saturating_add(most)))
 }

@@ -55,6 +55,11 @@ kind_at-place what.Accuse place is = none_at place what.Accuse is
 kind_at-place what.Refute place is = none_at place what.Refute is
 kind_at-place what.Dead place is = none_at place what.Dead is
 kind_at-place what.Leave place is = none_at place what.Leave is
+kind_at-place what.Restart place is = none_at place what.Restart is
+kind_at-place what.Exit place is = none_at place what.Exit is
+kind_at-place what.Left place is = none_at place what.Left is
+kind_at-place what.Forget place is = none_at place what.Forget is
+kind_at-place what.Reconnect place is = none_at place what.Reconnect is
 
 -- a row is of the kind just where its own kind has the same place
 pub same_place : (kind : What) (row : Row) (place own : ℕ) → kind_place kind ≡ Some place → kind_place row.what ≡ Some own → (place == own) ≡ has_kind kind row

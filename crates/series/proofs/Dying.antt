@@ -228,6 +228,11 @@ no_hearing (Some refutation) row is = ap (λ t. t && nat_le refutation.number ro
     other_kind what.Answer h = refl
     other_kind what.Push h = refl
     other_kind what.Pull h = refl
+    other_kind what.Restart h = refl
+    other_kind what.Exit h = refl
+    other_kind what.Left h = refl
+    other_kind what.Forget h = refl
+    other_kind what.Reconnect h = refl
 
 heard_more : (subject : ℕ) (rows : List Row) (row : Row) → times_heard subject (rows ++ row ∷ [])
     ≡ count_by (hears_of subject) (if tells_of what.Refute subject row then [] else since (λ r. tells_of what.Refute subject r.row) (reached rows)) + cond (hears_of subject (met rows row)) 1 0

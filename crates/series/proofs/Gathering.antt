@@ -278,6 +278,11 @@ few_states what.Call state is = no_state state is
 few_states what.Answer state is = no_state state is
 few_states what.Push state is = no_state state is
 few_states what.Pull state is = no_state state is
+few_states what.Restart state is = no_state state is
+few_states what.Exit state is = no_state state is
+few_states what.Left state is = no_state state is
+few_states what.Forget state is = no_state state is
+few_states what.Reconnect state is = no_state state is
 
 -- ---- stories, each at its member's number
 

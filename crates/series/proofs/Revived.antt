@@ -75,6 +75,11 @@ viewed what.Call = refl
 viewed what.Answer = refl
 viewed what.Push = refl
 viewed what.Pull = refl
+viewed what.Restart = refl
+viewed what.Exit = refl
+viewed what.Left = refl
+viewed what.Forget = refl
+viewed what.Reconnect = refl
 
 -- the last row tells that a member holds another to have failed just where the last change leads to state 2
 abbrev AreAlike : Option Row → Option Change → Type 0

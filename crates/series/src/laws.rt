@@ -1,4 +1,4 @@
-//! What the flows of members tell, stated over the definitions alone.
+//! What the flows of members count, stated over the definitions alone.
 ghost use Rattle.std.specs.Prelude.{◌≡◌, ℕ, ◌+◌, ◌<◌, [], List, All, sum_by};
 ghost use Rattle.std.specs.List.{range_with_len};
 ghost use Rattle.series.specs.Changes.{Change as AChange, came, went, holding};

@@ -1,4 +1,4 @@
-//! Lines of the trace that are told of.
+//! Lines of the trace that are reported.
 ghost use Rattle.std.specs.Prelude.{◌≡◌, Some, None, if◌then◌else◌};
 ghost use Rattle.std.specs.Option.{option_or};
 ghost use Rattle.reports.specs.Rows.{has_kind};

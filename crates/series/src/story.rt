@@ -1,4 +1,4 @@
-//! What the rows of a run tell of one member.
+//! What the rows of a run say of one member.
 ghost use Rattle.std.specs.Prelude.{◌≡◌, ℕ, ◌+◌, ◌<◌, ◌≤◌, ◌^◌, ◌&&◌, ◌==◌, ◌++◌, ◌∷◌, [], true, false, cond, List, Some, OnOk, length, slice_index};
 ghost use Rattle.std.specs.Option.{option_to_list};
 ghost use Rattle.reports.specs.Rows.{has_kind, is_about};
@@ -14,7 +14,7 @@ use base::Memory;
 use std::alloc::Global;
 use trace::{Row, What};
 
-/// What the rows of a run tell of one member.
+/// What the rows of a run say of one member.
 #[derive(Drop)]
 pub struct Story {
     /// How others hold it: state 0 is alive, 1 suspected, 2 confirmed to have failed.

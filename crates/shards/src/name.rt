@@ -1,4 +1,4 @@
-//! The name by which a shard tells which it is of which sweep.
+//! The name of a shard: which shard it is, of which sweep.
 ghost use Rattle.std.specs.Prelude.{◌≡◌, string_bytes, IfOk};
 ghost use Rattle.shards.specs.Names.{head_cell};
 

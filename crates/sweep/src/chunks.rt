@@ -42,7 +42,7 @@ pub(crate) fn make_runs<S: Sink, P: Progress, G: Gather>(
     first: usize,
     from: usize,
     till: usize,
-    progress: &mut P,
+    progress: &P,
     gathering: &mut G,
     table: &mut S,
 ) -> Result<(), Fault>
@@ -63,6 +63,7 @@ pub(crate) fn make_runs<S: Sink, P: Progress, G: Gather>(
     let mut next = from;
     while next < till {
         let lot = next_lot(alloc, plan, document, workers, LOT, next, till)?;
+        progress.some_begin(next - first, till - first);
         make_some(
             rt,
             alloc,
@@ -72,6 +73,7 @@ pub(crate) fn make_runs<S: Sink, P: Progress, G: Gather>(
             &lot.shares,
             next,
             lot.till,
+            progress,
             gathering,
             table,
         )?;
@@ -83,7 +85,7 @@ pub(crate) fn make_runs<S: Sink, P: Progress, G: Gather>(
 
 /// Makes the runs from one number to before another, which are those of these shares, side by side, writes their lines, and
 /// gathers what their settings keep of them.
-fn make_some<S: Sink, G: Gather>(
+fn make_some<S: Sink, P: Progress, G: Gather>(
     rt: &(impl Threads + Sync),
     alloc: Global,
     plan: &Plan,
@@ -92,6 +94,7 @@ fn make_some<S: Sink, G: Gather>(
     shares: &[Share],
     from: usize,
     till: usize,
+    progress: &P,
     gathering: &mut G,
     table: &mut S,
 ) -> Result<(), Fault>
@@ -109,7 +112,7 @@ fn make_some<S: Sink, G: Gather>(
     ensures causes { IfErr result (HasCause (view document.now) plan.now) }
     ensures failures { S.failed table.new ≡ S.failed table.old + sink_failures result }
 {
-    let runs = make_side_by_side(rt, alloc, plan, key, document, shares)?;
+    let runs = make_side_by_side(rt, alloc, plan, key, document, shares, progress)?;
     for made in runs {
         let run = made?;
         write_line(alloc, &run, gathering, table)?;

@@ -32,7 +32,7 @@ pub use progress::{NoProgress, Progress};
 pub use reading::read_run;
 pub use revived::counts_revived;
 pub use shares::{Lot, LotSize, Share, next_lot};
-pub use standing::{Standing, are_lines_of, is_older, lines_of_runs};
+pub use standing::{LeadingLines, are_lines_of, is_older, lines_of_runs};
 pub use summing::{LineKey, key_of_text, line_key, sweep_key};
 pub use tables::{sweep, write_table};
 pub use texts::lines_of_settings;

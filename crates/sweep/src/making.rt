@@ -10,6 +10,7 @@ ghost use Rattle.sweep.specs.Shares.{numbers_of};
 ghost use Rattle.sweep.specs.Table.{IsMadeLot, IsMadeOf};
 
 use crate::planned::planned;
+use crate::progress::{OneRun, Progress};
 use crate::reading::read_run;
 use crate::revived::counts_revived;
 use crate::shares::Share;
@@ -37,14 +38,16 @@ pub struct MadeRun {
 /// The runs of these shares, in their order; or why there is no run of a number: `Memory`; `CounterOverflow` where a
 /// counter of that run, or a count of its tallies, would pass 2^63. As many threads as there are shares, and no more
 /// than two for each processor, make the runs of the shares, side by side. `key` is that of the checksums of their
-/// lines. Each document must have been judged to be accepted. It fails where memory is refused for the list of runs.
-pub fn make_side_by_side(
+/// lines. `progress` gets how far the runs have come. Each document must have been judged to be accepted. It fails where memory is
+/// refused for the list of runs.
+pub fn make_side_by_side<P: Progress>(
     rt: &(impl Threads + Sync),
     alloc: Global,
     plan: &Plan,
     key: &[u8],
     document: &Value,
     shares: &[Share],
+    progress: &P,
 ) -> Result<Vec<Result<MadeRun, Fault>>, Memory>
     requires asked { IsAskedFor plan.now }
     requires judged { AreAccepted (view document.now) plan.now }
@@ -58,19 +61,20 @@ pub fn make_side_by_side(
             |share: &Share| -> Result<Vec<Result<MadeRun, Fault>>, Memory>
                 requires { IsAskedFor plan.now × AreAccepted (view document.now) plan.now × share.now.till ≤ run_count plan.now }
                 ensures { IsMadeLot (view document.entry.now) plan.entry.now key.entry.now (numbers_of share.entry.now) result }
-            { make_in_turn(alloc, plan, key, document, *share) },
+            { make_in_turn(alloc, plan, key, document, *share, progress) },
         )
         .collect(rt, alloc)?;
-    joined(alloc, lots)
+    joined_runs(alloc, lots)
 }
 
 /// The runs of a share, made one after the other.
-fn make_in_turn(
+fn make_in_turn<P: Progress>(
     alloc: Global,
     plan: &Plan,
     key: &[u8],
     document: &Value,
     share: Share,
+    progress: &P,
 ) -> Result<Vec<Result<MadeRun, Fault>>, Memory>
     requires asked { IsAskedFor plan.now }
     requires judged { AreAccepted (view document.now) plan.now }
@@ -79,13 +83,13 @@ fn make_in_turn(
 {
     let mut runs = Vec::new(alloc);
     for number in share.from..share.till {
-        runs.push(make_run(alloc, plan, key, document, number))?;
+        runs.push(make_run(alloc, plan, key, document, number, progress))?;
     }
     Ok(runs)
 }
 
 /// The runs of all lots, one lot after the other.
-fn joined(
+fn joined_runs(
     alloc: Global,
     lots: Vec<Result<Vec<Result<MadeRun, Fault>>, Memory>>,
 ) -> Result<Vec<Result<MadeRun, Fault>>, Memory>
@@ -102,12 +106,13 @@ fn joined(
 }
 
 /// Makes the run of this number, and lays out its line, with its checksum. All else that is known of the run is dropped.
-fn make_run(
+fn make_run<P: Progress>(
     alloc: Global,
     plan: &Plan,
     key: &[u8],
     document: &Value,
     number: usize,
+    progress: &P,
 ) -> Result<MadeRun, Fault>
     requires asked { IsAskedFor plan.now }
     requires judged { AreAccepted (view document.now) plan.now }
@@ -116,7 +121,8 @@ fn make_run(
 {
     let run = planned(alloc, plan, number)?;
     let scenario = read_run(alloc, plan, document, number)?;
-    let tallies = tally_run(alloc, &scenario)?;
+    let mut watch = OneRun::new(progress);
+    let tallies = tally_run(alloc, &scenario, &mut watch)?;
     let figures = RunFigures::of(alloc, &tallies, &scenario)?;
     let note = RunMetadata::of(alloc, &tallies, &figures, &scenario)?;
     let body = line_of(
@@ -128,5 +134,6 @@ fn make_run(
         counts_revived(document),
     )?;
     let line = summed(alloc, key, &body)?;
+    watch.end(&scenario);
     Ok(MadeRun { line, note })
 }

@@ -17,7 +17,7 @@ use sweep_plan::Plan;
 
 /// The lines of runs with which a text begins.
 #[derive(Clone, Copy)]
-pub struct Standing<'a> {
+pub struct LeadingLines<'a> {
     /// How many they are.
     pub count: usize,
     /// What comes behind them.
@@ -34,7 +34,7 @@ pub fn lines_of_runs<'a>(
     first: usize,
     most: usize,
     text: &'a [u8],
-) -> Result<Standing<'a>, Memory>
+) -> Result<LeadingLines<'a>, Memory>
     requires asked { IsAskedFor plan.now }
     requires within { first + most ≤ run_count plan.now }
     ensures begins { IfOk result (λ stood. BeginsWithLines key.now plan.now first text.entry.now stood.left.now stood.count) }
@@ -44,11 +44,11 @@ pub fn lines_of_runs<'a>(
     let mut left = text;
     for count in 0..most {
         let Some(rest) = behind_line(alloc, plan, key, first + count, left)? else {
-            return Ok(Standing { count, left });
+            return Ok(LeadingLines { count, left });
         };
         left = rest;
     }
-    Ok(Standing { count: most, left })
+    Ok(LeadingLines { count: most, left })
 }
 
 /// Whether a text is the lines of so many runs, from that of this number on.

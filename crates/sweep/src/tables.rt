@@ -39,7 +39,7 @@ pub fn sweep<S: Sink, P: Progress>(
     mark: &str,
     document: &Value,
     workers: Workers,
-    progress: &mut P,
+    progress: &P,
     table: &mut S,
 ) -> Result<Vec<SettingSummary>, Fault>
     requires asked { IsAskedFor plan.now }
@@ -76,7 +76,7 @@ pub fn sweep<S: Sink, P: Progress>(
 /// lack of the first line, which is the shard's name and the header, and a line for each run that is left, in the order of the
 /// settings and of the seeds, with its checksum and what its setting keeps of it before it; at the end the table is flushed.
 /// `mark` is that of the scenario's text. Runs are made some at a time, as many side by side as there are workers, each of which
-/// keeps a cluster in memory; each time `progress` gets how many were made. What settings keep of these runs is gathered.
+/// keeps a cluster in memory; `progress` gets how far they have come, and each time how many were made. What settings keep of these runs is gathered.
 /// Each document must have been judged to be accepted. After a fault the table has got a beginning of that.
 ///
 /// Faults: `Memory`; `CounterOverflow` where a counter of some run, or a count of its tallies, would pass 2^63; `Write`
@@ -90,7 +90,7 @@ pub fn write_table<S: Sink, P: Progress, G: Gather>(
     begun: &Begun,
     document: &Value,
     workers: Workers,
-    progress: &mut P,
+    progress: &P,
     gathering: &mut G,
     table: &mut S,
 ) -> Result<(), Fault>

@@ -42,12 +42,6 @@ rate_words rate = option_map_or hundredths_words rate (codes "-")
 unfoldable pub runs_words : SettingSummary → List ℕ
 runs_words setting = grouped setting.runs_with ++ markup (codes " of ") ++ grouped setting.runs
 
--- a setting's false deaths per run, with two digits and rounded down
-unfoldable pub deaths_words : SettingSummary → List ℕ
-deaths_words setting =
-    decimal (setting.thrown_out / max setting.runs 1) ++ codes "." ++ decimal (setting.thrown_out % max setting.runs 1 * 10 / max setting.runs 1)
-    ++ decimal (setting.thrown_out % max setting.runs 1 * 100 / max setting.runs 1 % 10)
-
 -- the words for one thing, or for several
 unfoldable pub noun_words : ℕ → List ℕ → List ℕ → List ℕ
 noun_words n one many = if n == 1 then markup one else markup many
@@ -59,6 +53,10 @@ count_words n one many = grouped n ++ noun_words n one many
 -- an interval of shares, in thousandths
 unfoldable pub interval_words : ℕ → ℕ → List ℕ
 interval_words low high = percent_words low ++ markup (codes " to ") ++ percent_words high
+
+-- an interval of numbers, in hundredths
+unfoldable pub hundredths_interval_words : ℕ → ℕ → List ℕ
+hundredths_interval_words low high = hundredths_words low ++ markup (codes " to ") ++ hundredths_words high
 
 -- a share is at most the whole
 abbrev pub thousandths : ℕ → ℕ

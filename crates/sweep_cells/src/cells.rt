@@ -3,7 +3,7 @@ ghost use Rattle.std.specs.Prelude.{◌≡◌, ◌<◌, ◌++◌, OnOk, slice_ge
 ghost use Rattle.std.specs.String.{string_bytes};
 ghost use Rattle.sweep_plan.specs.Sweep.{setting_count};
 ghost use Rattle.sweep_cells.specs.Cells.{cell, time_cell};
-ghost use Rattle.sweep_cells.specs.Words.{lasting_words, time_words, whole_percent, tenth_percent, percent_words, hundredths_words, rate_words, runs_words, deaths_words, count_words, noun_words, interval_words, number_words, swept_keys_words, swept_keys_at, thousandths, share_of};
+ghost use Rattle.sweep_cells.specs.Words.{lasting_words, time_words, whole_percent, tenth_percent, percent_words, hundredths_words, rate_words, runs_words, count_words, noun_words, interval_words, hundredths_interval_words, number_words, swept_keys_words, swept_keys_at, thousandths, share_of};
 
 use base::Memory;
 use drawing::{push_escaped, push_grouped, push_lasting, push_markup, push_time_alone};
@@ -106,19 +106,6 @@ pub fn push_runs_with(text: &mut String, setting: &SettingSummary) -> Result<(),
     push_grouped(text, setting.runs)
 }
 
-/// Appends how many false deaths there were per run, with two digits and rounded down.
-#[tactic(auto, unfolding(crate::specs::Words::deaths_words))]
-pub fn push_deaths(text: &mut String, setting: &SettingSummary) -> Result<(), AllocError>
-    ensures { OnOk result (string_bytes text.new ≡ string_bytes text.old ++ deaths_words setting.now) }
-{
-    let runs = u128::from(setting.runs).max(1);
-    let whole = setting.thrown_out / runs;
-    let rest = setting.thrown_out % runs;
-    let tenth = rest * 10 / runs;
-    let last = rest * 100 / runs % 10;
-    write!(text, "{whole}.{tenth}{last}")
-}
-
 /// Appends a number of things: the number, and the words for one or for several.
 #[tactic(auto, unfolding(crate::specs::Words::count_words))]
 pub fn push_count(text: &mut String, count: u64, one: &str, many: &str) -> Result<(), AllocError>
@@ -148,6 +135,16 @@ pub fn push_interval(text: &mut String, low: u64, high: u64) -> Result<(), Alloc
     push_percent(text, low)?;
     push_markup(text, " to ")?;
     push_percent(text, high)
+}
+
+/// Appends the 95 % interval of a number in hundredths.
+#[tactic(auto, unfolding(crate::specs::Words::hundredths_interval_words))]
+pub fn push_hundredths_interval(text: &mut String, low: u128, high: u128) -> Result<(), AllocError>
+    ensures { OnOk result (string_bytes text.new ≡ string_bytes text.old ++ hundredths_interval_words low high) }
+{
+    push_hundredths(text, low)?;
+    push_markup(text, " to ")?;
+    push_hundredths(text, high)
 }
 
 /// A share in thousandths, of which 1,000 are all.

@@ -7,8 +7,8 @@ mod cells;
 mod paths;
 
 pub use cells::{
-    push_cell, push_count, push_deaths, push_hundredths, push_interval, push_lasting_of,
-    push_number, push_percent, push_rate, push_runs_with, push_swept_keys, push_swept_keys_at,
-    push_time, push_time_cell, setting_at, share_of, thousandths,
+    push_cell, push_count, push_hundredths, push_hundredths_interval, push_interval,
+    push_lasting_of, push_number, push_percent, push_rate, push_runs_with, push_swept_keys,
+    push_swept_keys_at, push_time, push_time_cell, setting_at, share_of, thousandths,
 };
 pub use paths::{push_start, push_step};

@@ -36,7 +36,7 @@ pub(crate) fn make_runs<S: Sink, P: Progress>(
     mark: &str,
     document: &Value,
     workers: Workers,
-    progress: &mut P,
+    progress: &P,
     table: &mut S,
 ) -> Result<Vec<SettingSummary>, Fault>
     requires asked { IsAskedFor plan.now }
@@ -66,7 +66,7 @@ pub(crate) fn make_shard<S: Sink, P: Progress>(
     begun: &Begun,
     document: &Value,
     workers: Workers,
-    progress: &mut P,
+    progress: &P,
     table: &mut S,
 ) -> Result<(), Fault>
     requires asked { IsAskedFor plan.now }

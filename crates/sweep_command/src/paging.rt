@@ -29,7 +29,7 @@ use trace::{Put, Sink, Stopped};
 
 /// Makes the runs, and writes their table to the file that the words name and a page of their settings
 /// to another. Either both files are made or neither is.
-pub(crate) fn store_paged<'a, F: Files, P: Write>(
+pub(crate) fn store_paged<'a, F: Files, P: Write + Send>(
     rt: &(impl Threads + Sync),
     alloc: Global,
     release: &Release<'_>,
@@ -65,7 +65,7 @@ pub(crate) fn store_paged<'a, F: Files, P: Write>(
 
 /// Makes the runs, writes their table to one writer and a page of their settings to the other, and gives
 /// both back, with the text of the settings.
-fn fill_both<T: Write, U: Write, P: Write>(
+fn fill_both<T: Write, U: Write, P: Write + Send>(
     rt: &(impl Threads + Sync),
     alloc: Global,
     release: &Release<'_>,
@@ -89,9 +89,9 @@ fn fill_both<T: Write, U: Write, P: Write>(
     let mut table = Put::new(table);
     let mut page = Put::new(page);
     if words.progress {
-        let mut lines = RunLines { out: progress };
+        let lines = RunLines::new(progress);
         let outcome = write_both(
-            rt, alloc, release, words, prepared, &mut lines, &mut table, &mut page,
+            rt, alloc, release, words, prepared, &lines, &mut table, &mut page,
         );
         return (table, page, outcome);
     }
@@ -101,7 +101,7 @@ fn fill_both<T: Write, U: Write, P: Write>(
         release,
         words,
         prepared,
-        &mut NoProgress,
+        &NoProgress,
         &mut table,
         &mut page,
     );
@@ -116,7 +116,7 @@ fn write_both<S: Sink, U: Sink, P: Progress>(
     release: &Release<'_>,
     words: &SweepWords<'_>,
     prepared: &PreparedSweep,
-    progress: &mut P,
+    progress: &P,
     table: &mut S,
     page: &mut U,
 ) -> Result<String, Fault>

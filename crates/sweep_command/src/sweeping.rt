@@ -36,7 +36,7 @@ use trace::{Put, Sink};
 /// made once all checks have passed. Returns the text of the settings; an empty one for a shard.
 /// `release` is what the page says of the program. How far it has come goes to `progress`, where
 /// the words ask for that.
-pub fn sweep_file<'a, F: Files, P: Write>(
+pub fn sweep_file<'a, F: Files, P: Write + Send>(
     rt: &(impl Threads + Sync),
     alloc: Global,
     release: &Release<'_>,
@@ -60,7 +60,7 @@ pub fn sweep_file<'a, F: Files, P: Write>(
 }
 
 /// Makes the runs, and writes their table to the file that the words name, and their page to another where one is asked for.
-fn store_asked<'a, F: Files, P: Write>(
+fn store_asked<'a, F: Files, P: Write + Send>(
     rt: &(impl Threads + Sync),
     alloc: Global,
     release: &Release<'_>,
@@ -89,7 +89,7 @@ fn store_asked<'a, F: Files, P: Write>(
 }
 
 /// The same where no page is asked for. Where a shard goes on, what stays of its table stands there at every moment.
-fn store_table<'a, F: Files, P: Write>(
+fn store_table<'a, F: Files, P: Write + Send>(
     rt: &(impl Threads + Sync),
     alloc: Global,
     words: &SweepWords<'a>,
@@ -120,7 +120,7 @@ fn store_table<'a, F: Files, P: Write>(
 }
 
 /// Makes the runs, writes their table to a writer, and gives it back, with the text of the settings.
-fn fill_table<T: Write, P: Write>(
+fn fill_table<T: Write, P: Write + Send>(
     rt: &(impl Threads + Sync),
     alloc: Global,
     words: &SweepWords<'_>,
@@ -145,19 +145,11 @@ fn fill_table<T: Write, P: Write>(
 {
     let mut table = Put::new(table);
     if words.progress {
-        let mut lines = RunLines { out: progress };
-        let outcome = write_asked(rt, alloc, words, prepared, begun, &mut lines, &mut table);
+        let lines = RunLines::new(progress);
+        let outcome = write_asked(rt, alloc, words, prepared, begun, &lines, &mut table);
         return (table, outcome);
     }
-    let outcome = write_asked(
-        rt,
-        alloc,
-        words,
-        prepared,
-        begun,
-        &mut NoProgress,
-        &mut table,
-    );
+    let outcome = write_asked(rt, alloc, words, prepared, begun, &NoProgress, &mut table);
     (table, outcome)
 }
 
@@ -168,7 +160,7 @@ fn write_asked<S: Sink, P: Progress>(
     words: &SweepWords<'_>,
     prepared: &PreparedSweep,
     begun: &Begun,
-    progress: &mut P,
+    progress: &P,
     table: &mut S,
 ) -> Result<String, Fault>
     requires asked { IsAskedFor words.now.plan }
@@ -199,7 +191,7 @@ fn write_shard<S: Sink, P: Progress>(
     prepared: &PreparedSweep,
     begun: &Begun,
     shard: Shard,
-    progress: &mut P,
+    progress: &P,
     table: &mut S,
 ) -> Result<String, Fault>
     requires asked { IsAskedFor words.now.plan }
@@ -232,7 +224,7 @@ fn write_whole<S: Sink, P: Progress>(
     alloc: Global,
     words: &SweepWords<'_>,
     prepared: &PreparedSweep,
-    progress: &mut P,
+    progress: &P,
     table: &mut S,
 ) -> Result<String, Fault>
     requires wants { All IsBounded words.now.wants.items }

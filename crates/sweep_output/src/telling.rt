@@ -1,4 +1,4 @@
-//! What is told of the settings of a sweep.
+//! What is printed of the settings of a sweep.
 ghost use Rattle.std.specs.Prelude.{◌≡◌, All, IfOk, length, string_bytes};
 ghost use Rattle.goals.specs.Wants.{HasFewRuns, IsBounded};
 ghost use Rattle.sweep_plan.specs.Sweep.{setting_count};

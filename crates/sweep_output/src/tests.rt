@@ -31,6 +31,9 @@ const THREE_RUNS: SettingSummary = SettingSummary {
     runs_with: 2,
     share_low: 208,
     share_high: 938,
+    deaths: 67,
+    deaths_low: 18,
+    deaths_high: 243,
     messages: Some(5),
 };
 
@@ -60,6 +63,9 @@ const ONE_RUN: SettingSummary = SettingSummary {
     runs_with: 0,
     share_low: 0,
     share_high: 793,
+    deaths: 0,
+    deaths_low: 0,
+    deaths_high: 384,
     messages: None,
 };
 

@@ -141,7 +141,7 @@ front_row_of time swept_keys settings p = option_map_or (front_row time swept_ke
 
 -- what its columns are
 unfoldable pub front_heads : List ℕ
-front_heads = codes "<details><summary>The front in numbers</summary><div class=\"wide\"><table><caption>The settings on the front</caption><thead><tr><th scope=\"col\">number</th><th scope=\"col\">setting</th><th scope=\"col\">confirmed, median</th><th scope=\"col\">runs with a false death</th><th scope=\"col\">their share</th><th scope=\"col\">95&nbsp;% interval</th><th scope=\"col\">false deaths per run</th><th scope=\"col\">messages per member per 1,000 ticks</th></tr></thead><tbody>"
+front_heads = codes "<details><summary>The front in numbers</summary><div class=\"wide\"><table><caption>The settings on the front</caption><thead><tr><th scope=\"col\">number</th><th scope=\"col\">setting</th><th scope=\"col\">confirmed, median</th><th scope=\"col\">runs with a false death</th><th scope=\"col\">their share</th><th scope=\"col\">95&nbsp;% interval</th><th scope=\"col\">members with a false death per run</th><th scope=\"col\">their 95&nbsp;% interval</th><th scope=\"col\">messages per member per 1,000 ticks</th></tr></thead><tbody>"
 
 -- the figures of the front, folded
 unfoldable pub front_table : Option Tick → List KeyValues → List SettingSummary → List FrontPoint → List ℕ

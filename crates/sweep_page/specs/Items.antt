@@ -4,7 +4,7 @@ use Rattle.std.specs.Option.{option_map_or}
 use Rattle.sweep_plan.specs.Sweep.{KeyValues}
 use Rattle.drawing.specs.Escaped.{markup}
 use Rattle.figures.specs.declared.summary.SettingSummary.{SettingSummary}
-use Rattle.sweep_cells.specs.Words.{deaths_words, interval_words, number_words, rate_words, runs_words, swept_keys_at, thousandths, lasting_words, time_words}
+use Rattle.sweep_cells.specs.Words.{hundredths_words, hundredths_interval_words, interval_words, number_words, rate_words, runs_words, swept_keys_at, thousandths, lasting_words, time_words}
 use Rattle.ticks.specs.declared.tick.Tick.{Tick}
 
 -- which of three a setting is, by the 95 % interval of its share of runs with a false death, as its ends are told: safe where the whole interval is at most 5 %,
@@ -34,9 +34,10 @@ item_opening class place = markup (codes "<li class=\"") ++ markup class ++ mark
 unfoldable pub confirm_span : Option Tick → SettingSummary → List ℕ
 confirm_span time setting = markup (codes "<span>first confirmed after <b>") ++ time_words None setting.confirm_p50 ++ markup (codes "</b> ticks") ++ lasting_words time setting.confirm_p50 ++ markup (codes ", median</span>")
 
--- where no run has a crash: how many false deaths it has
+-- where no run has a crash: how many false deaths it has, with their interval
 unfoldable pub deaths_span : SettingSummary → List ℕ
-deaths_span setting = markup (codes "<span><b>") ++ deaths_words setting ++ markup (codes "</b> false deaths per run</span>")
+deaths_span setting =
+    markup (codes "<span><b>") ++ hundredths_words setting.deaths ++ markup (codes "</b> members with a false death per run (") ++ hundredths_interval_words setting.deaths_low setting.deaths_high ++ markup (codes ")</span>")
 
 unfoldable pub speed_span : Option Tick → Bool → SettingSummary → List ℕ
 speed_span time crashed setting = if crashed then confirm_span time setting else deaths_span setting

@@ -24,7 +24,7 @@ statistic_words ConfirmGreatest = codes "ticks until a crash is first confirmed,
 statistic_words LastP50 = codes "ticks until a crash is last confirmed, median"
 statistic_words LastGreatest = codes "ticks until a crash is last confirmed, greatest"
 statistic_words FalseSuspect = codes "false suspicions per run"
-statistic_words ThrownOut = codes "false deaths in all runs"
+statistic_words ThrownOut = codes "members with a false death in all runs"
 statistic_words Messages = codes "messages per member per 1,000 ticks"
 
 -- one that is wanted

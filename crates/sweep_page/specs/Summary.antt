@@ -37,7 +37,7 @@ front_opening crashed = if crashed then speed_opening else messages_opening
 
 -- what the words for how safe a setting is mean
 unfoldable pub safety_words : List ℕ
-safety_words = codes "<p class=\"soft\">A false death: a member that has neither crashed nor left is declared dead. Safe: the whole 95&nbsp;% interval of the share of runs with a false death is at most 5&nbsp;%. Unsafe: the whole interval is above 5&nbsp;%. Unknown: only a part of it is, so more runs would decide.</p><ol class=\"answers\">"
+safety_words = codes "<p class=\"soft\">A false death: a member that has neither crashed nor left is declared dead. Safe: the whole 95&nbsp;% interval of the share of runs with a false death is at most 5&nbsp;%. Unsafe: the whole interval is above 5&nbsp;%. Unknown: only a part of it is, so more runs would decide. A range in parentheses: the 95&nbsp;% interval.</p><ol class=\"answers\">"
 
 -- how many more there are
 unfoldable pub more_words : ℕ → List ℕ

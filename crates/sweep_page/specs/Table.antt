@@ -12,15 +12,20 @@ use Rattle.drawing.specs.Escaped.{markup}
 use Rattle.drawing.specs.Shapes.{figure_opening, figure_end}
 use Rattle.figures.specs.declared.summary.SettingSummary.{SettingSummary}
 use Rattle.sweep_cells.specs.Cells.{cell, time_cell}
-use Rattle.sweep_cells.specs.Words.{deaths_words, percent_words, hundredths_words, rate_words, runs_words, interval_words, thousandths, share_of, number_words}
+use Rattle.sweep_cells.specs.Words.{percent_words, hundredths_words, hundredths_interval_words, rate_words, runs_words, interval_words, thousandths, share_of, number_words}
 use Rattle.sweep_page.specs.Points.{is_marked}
 use Rattle.ticks.specs.declared.tick.Tick.{Tick}
 
--- the cells that tell how often a setting threw out healthy members
+-- the cells of a setting's members with a false death per run
+unfoldable pub death_cells : SettingSummary → List ℕ
+death_cells setting =
+    markup (codes "<td>") ++ hundredths_words setting.deaths ++ markup (codes "</td><td>") ++ hundredths_interval_words setting.deaths_low setting.deaths_high ++ markup (codes "</td>")
+
+-- the cells that tell how often it threw out healthy members
 unfoldable pub share_cells : SettingSummary → List ℕ
 share_cells setting =
     markup (codes "<td>") ++ runs_words setting ++ markup (codes "</td><td>") ++ percent_words (share_of setting) ++ markup (codes "</td><td>")
-    ++ interval_words (thousandths setting.share_low) (thousandths setting.share_high) ++ markup (codes "</td><td>") ++ deaths_words setting ++ markup (codes "</td>")
+    ++ interval_words (thousandths setting.share_low) (thousandths setting.share_high) ++ markup (codes "</td>") ++ death_cells setting
 
 -- the cells of what it cost: false suspicions a run, and messages
 unfoldable pub cost_cells : SettingSummary → List ℕ
@@ -72,7 +77,7 @@ table_words time = markup (codes "<p class=\"soft\">Times are ") ++ markup (sinc
 
 -- the words over the figures
 unfoldable pub figure_heads : List ℕ
-figure_heads = codes "<th scope=\"col\">confirmed, median</th><th scope=\"col\">runs with a false death</th><th scope=\"col\">their share</th><th scope=\"col\">95&nbsp;% interval</th><th scope=\"col\">false deaths per run</th><th scope=\"col\">suspected, median</th><th scope=\"col\">confirmed, 99th percentile</th><th scope=\"col\">confirmed, greatest</th><th scope=\"col\">last confirmed, median</th><th scope=\"col\">last confirmed, greatest</th><th scope=\"col\">false suspicions per run</th><th scope=\"col\">messages per member per 1,000 ticks</th>"
+figure_heads = codes "<th scope=\"col\">confirmed, median</th><th scope=\"col\">runs with a false death</th><th scope=\"col\">their share</th><th scope=\"col\">95&nbsp;% interval</th><th scope=\"col\">members with a false death per run</th><th scope=\"col\">their 95&nbsp;% interval</th><th scope=\"col\">suspected, median</th><th scope=\"col\">confirmed, 99th percentile</th><th scope=\"col\">confirmed, greatest</th><th scope=\"col\">last confirmed, median</th><th scope=\"col\">last confirmed, greatest</th><th scope=\"col\">false suspicions per run</th><th scope=\"col\">messages per member per 1,000 ticks</th>"
 
 -- the table: a column for each key and each figure, a row for each setting
 unfoldable pub table : Option Tick → List KeyValues → List SettingSummary → List Bool → List ℕ

@@ -341,7 +341,8 @@ fn push_heads(text: &mut String) -> Result<(), AllocError>
          <caption>The settings on the front</caption><thead><tr><th scope=\"col\">number</th>\
          <th scope=\"col\">setting</th><th scope=\"col\">confirmed, median</th>\
          <th scope=\"col\">runs with a false death</th><th scope=\"col\">their share</th>\
-         <th scope=\"col\">95&nbsp;% interval</th><th scope=\"col\">false deaths per run</th>\
+         <th scope=\"col\">95&nbsp;% interval</th><th scope=\"col\">members with a false death per run</th>\
+         <th scope=\"col\">their 95&nbsp;% interval</th>\
          <th scope=\"col\">messages per member per 1,000 ticks</th></tr></thead><tbody>",
     )
 }

@@ -8,8 +8,8 @@ use drawing::push_markup;
 use figures::SettingSummary;
 use std::alloc::{AllocError, Global};
 use sweep_cells::{
-    push_deaths, push_interval, push_lasting_of, push_number, push_rate, push_runs_with,
-    push_swept_keys_at, push_time, setting_at, thousandths,
+    push_hundredths, push_hundredths_interval, push_interval, push_lasting_of, push_number,
+    push_rate, push_runs_with, push_swept_keys_at, push_time, setting_at, thousandths,
 };
 use sweep_plan::Plan;
 use ticks::Tick;
@@ -161,14 +161,16 @@ fn push_confirm(
     push_markup(text, ", median</span>")
 }
 
-/// Appends how many false deaths there were per run.
+/// Appends how many false deaths there were per run, with their interval.
 #[tactic(auto, unfolding(crate::specs::Items::deaths_span))]
 fn push_false_deaths(text: &mut String, setting: &SettingSummary) -> Result<(), AllocError>
     ensures { OnOk result (string_bytes text.new ≡ string_bytes text.old ++ deaths_span setting.now) }
 {
     push_markup(text, "<span><b>")?;
-    push_deaths(text, setting)?;
-    push_markup(text, "</b> false deaths per run</span>")
+    push_hundredths(text, setting.deaths)?;
+    push_markup(text, "</b> members with a false death per run (")?;
+    push_hundredths_interval(text, setting.deaths_low, setting.deaths_high)?;
+    push_markup(text, ")</span>")
 }
 
 /// Appends how safe a setting is.

@@ -37,7 +37,7 @@ details{margin:.5em 0}summary{cursor:pointer;color:var(--soft);font-size:.9rem}\
 .wide{overflow-x:auto}table{border-collapse:collapse;font-size:.82rem;margin:.4em 0}caption{text-align:left;color:var(--soft)}\
 th,td{text-align:right;padding:.2em .5em .2em 0;border-bottom:1px solid var(--line);font-variant-numeric:tabular-nums}\
 thead th{color:var(--soft);font-weight:600;font-size:.7rem;vertical-align:bottom;line-height:1.2}th{font-weight:400}\
-table:has(th:nth-child(16)){font-size:.72rem}table:has(th:nth-child(16)) thead th{font-size:.65rem}table:has(th:nth-child(16)) :is(th,td){padding-right:.3em}\
+table:has(th:nth-child(17)){font-size:.72rem}table:has(th:nth-child(17)) thead th{font-size:.65rem}table:has(th:nth-child(17)) :is(th,td){padding-right:.3em}\
 .best td,.best th{font-weight:600}tr.best{background:var(--field)}\
 @media(max-width:760px){.chart{grid-template-columns:3.4rem 1fr}.plane{height:14rem}}\
 @media print{details{display:none}.answers li,.chart{break-inside:avoid}.number{print-color-adjust:exact}}";

@@ -120,7 +120,7 @@ fn statistic_words(statistic: Statistic) -> &'static str
         Statistic::LastP50 => "ticks until a crash is last confirmed, median",
         Statistic::LastGreatest => "ticks until a crash is last confirmed, greatest",
         Statistic::FalseSuspect => "false suspicions per run",
-        Statistic::ThrownOut => "false deaths in all runs",
+        Statistic::ThrownOut => "members with a false death in all runs",
         Statistic::Messages => "messages per member per 1,000 ticks",
     }
 }

@@ -178,7 +178,8 @@ fn push_safety_words(text: &mut String) -> Result<(), AllocError>
         "<p class=\"soft\">A false death: a member that has neither crashed nor left is declared \
          dead. Safe: the whole 95&nbsp;% interval of the share of runs with a false death is at \
          most 5&nbsp;%. Unsafe: the whole interval is above 5&nbsp;%. Unknown: only a part of it \
-         is, so more runs would decide.</p><ol class=\"answers\">",
+         is, so more runs would decide. A range in parentheses: the 95&nbsp;% interval.</p>\
+         <ol class=\"answers\">",
     )
 }
 

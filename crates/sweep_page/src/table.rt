@@ -4,7 +4,7 @@ ghost use Rattle.std.specs.List.{flat_map, range_with_len};
 ghost use Rattle.std.specs.Str.{chars};
 ghost use Rattle.std.specs.String.{string_bytes};
 ghost use Rattle.sweep_plan.specs.Sweep.{setting_count};
-ghost use Rattle.sweep_page.specs.Table.{share_cells, cost_cells, figure_cells, value_cell, value_cells, row_opening, row, row_at, name_char, key_head, since_words, table_words, figure_heads, table};
+ghost use Rattle.sweep_page.specs.Table.{share_cells, death_cells, cost_cells, figure_cells, value_cell, value_cells, row_opening, row, row_at, name_char, key_head, since_words, table_words, figure_heads, table};
 
 use crate::front_points::is_marked;
 use base::Memory;
@@ -12,8 +12,8 @@ use drawing::{close_figure, open_figure, push_markup};
 use figures::SettingSummary;
 use std::alloc::{AllocError, Global};
 use sweep_cells::{
-    push_cell, push_deaths, push_hundredths, push_interval, push_number, push_percent, push_rate,
-    push_runs_with, push_time_cell, setting_at, share_of, thousandths,
+    push_cell, push_hundredths, push_hundredths_interval, push_interval, push_number, push_percent,
+    push_rate, push_runs_with, push_time_cell, setting_at, share_of, thousandths,
 };
 use sweep_plan::{Choice, Plan, Swept};
 use ticks::Tick;
@@ -122,7 +122,8 @@ fn push_figure_words(text: &mut String) -> Result<(), AllocError>
          <th scope=\"col\">runs with a false death</th>\
          <th scope=\"col\">their share</th>\
          <th scope=\"col\">95&nbsp;% interval</th>\
-         <th scope=\"col\">false deaths per run</th>\
+         <th scope=\"col\">members with a false death per run</th>\
+         <th scope=\"col\">their 95&nbsp;% interval</th>\
          <th scope=\"col\">suspected, median</th>\
          <th scope=\"col\">confirmed, 99th percentile</th>\
          <th scope=\"col\">confirmed, greatest</th>\
@@ -292,7 +293,18 @@ pub(crate) fn push_shares(text: &mut String, setting: &SettingSummary) -> Result
         thousandths(setting.share_low),
         thousandths(setting.share_high),
     )?;
+    push_markup(text, "</td>")?;
+    push_deaths(text, setting)
+}
+
+/// Appends how many members with a false death it has per run.
+#[tactic(auto, unfolding(crate::specs::Table::death_cells))]
+fn push_deaths(text: &mut String, setting: &SettingSummary) -> Result<(), AllocError>
+    ensures { OnOk result (string_bytes text.new ≡ string_bytes text.old ++ death_cells setting.now) }
+{
+    push_markup(text, "<td>")?;
+    push_hundredths(text, setting.deaths)?;
     push_markup(text, "</td><td>")?;
-    push_deaths(text, setting)?;
+    push_hundredths_interval(text, setting.deaths_low, setting.deaths_high)?;
     push_markup(text, "</td>")
 }

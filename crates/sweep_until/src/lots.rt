@@ -16,7 +16,7 @@ use sequential_run::the_run_is_one;
 use std::alloc::Global;
 use std::marker::Sync;
 use std::thread::Threads;
-use sweep::{Share, make_side_by_side, write_line};
+use sweep::{Progress, Share, make_side_by_side, write_line};
 use sweep_plan::Plan;
 use toml::Value;
 use trace::Sink;
@@ -24,7 +24,7 @@ use trace::Sink;
 /// Makes the runs of a setting from one number to before another, which are those of these shares, side by side, and writes their
 /// lines up to the first run with which the interval is narrow enough. Answers the number of the run after the last that
 /// was written; what was made beyond is thrown away.
-pub(crate) fn make_lot<S: Sink>(
+pub(crate) fn make_lot<S: Sink, P: Progress>(
     rt: &(impl Threads + Sync),
     alloc: Global,
     plan: &Plan,
@@ -34,6 +34,7 @@ pub(crate) fn make_lot<S: Sink>(
     shares: &[Share],
     from: usize,
     till: usize,
+    progress: &P,
     runs: &mut SettingRuns,
     table: &mut S,
 ) -> Result<usize, Fault>
@@ -54,7 +55,7 @@ pub(crate) fn make_lot<S: Sink>(
     ensures failures { S.failed table.new ≡ S.failed table.old + sink_failures result }
 {
     the_run_is_one();
-    let lot = make_side_by_side(rt, alloc, plan, key, document, shares)?;
+    let lot = make_side_by_side(rt, alloc, plan, key, document, shares, progress)?;
     let mut past = from;
     for made in lot {
         let run = made?;

@@ -42,7 +42,7 @@ pub fn sweep_until<S: Sink, P: Progress>(
     width: u64,
     document: &Value,
     workers: Workers,
-    progress: &mut P,
+    progress: &P,
     table: &mut S,
 ) -> Result<Vec<SettingSummary>, Fault>
     requires asked { IsAskedFor plan.now }
@@ -99,7 +99,7 @@ pub fn write_table_until<S: Sink, P: Progress>(
     begun: &Begun,
     document: &Value,
     workers: Workers,
-    progress: &mut P,
+    progress: &P,
     table: &mut S,
 ) -> Result<(), Fault>
     requires asked { IsAskedFor plan.now }
@@ -154,7 +154,7 @@ fn write_open<S: Sink, P: Progress>(
     begun: &Begun,
     document: &Value,
     workers: Workers,
-    progress: &mut P,
+    progress: &P,
     table: &mut S,
 ) -> Result<(), Fault>
     requires asked { IsAskedFor plan.now }
@@ -205,7 +205,7 @@ fn finish_setting<S: Sink, P: Progress>(
     begun: &Begun,
     document: &Value,
     workers: Workers,
-    progress: &mut P,
+    progress: &P,
     table: &mut S,
 ) -> Result<(), Fault>
     requires asked { IsAskedFor plan.now }
@@ -227,13 +227,13 @@ fn finish_setting<S: Sink, P: Progress>(
     let number = first + begun.count;
     let started = begun.started.as_slice();
     let key = sweep_key(alloc, plan, mark)?;
-    let mut part = ShardProgress {
+    let part = ShardProgress {
         whole: progress,
         before: first.saturating_mul(plan.runs_of_setting()),
         all: (shard.past(count) - first).saturating_mul(plan.runs_of_setting()),
     };
     make_setting(
-        rt, alloc, plan, &key, width, document, workers, number, started, &mut part, table,
+        rt, alloc, plan, &key, width, document, workers, number, started, &part, table,
     )?;
     Ok(())
 }
@@ -251,7 +251,7 @@ fn write_settings<S: Sink, P: Progress>(
     made: usize,
     document: &Value,
     workers: Workers,
-    progress: &mut P,
+    progress: &P,
     settings: &mut Vec<SettingSummary>,
     table: &mut S,
 ) -> Result<(), Fault>
@@ -274,7 +274,7 @@ fn write_settings<S: Sink, P: Progress>(
     let first = shard.first(count);
     let from = first + made;
     let till = shard.past(count);
-    let mut part = ShardProgress {
+    let part = ShardProgress {
         whole: progress,
         before: first.saturating_mul(plan.runs_of_setting()),
         all: (till - first).saturating_mul(plan.runs_of_setting()),
@@ -292,7 +292,7 @@ fn write_settings<S: Sink, P: Progress>(
         table,
     )?;
     make_settings(
-        rt, alloc, plan, &key, width, document, workers, from, till, &mut part, settings, table,
+        rt, alloc, plan, &key, width, document, workers, from, till, &part, settings, table,
     )?;
     flush(table)?;
     Ok(())

@@ -43,7 +43,7 @@ pub(crate) fn make_settings<S: Sink, P: Progress>(
     workers: Workers,
     first: usize,
     past: usize,
-    progress: &mut P,
+    progress: &P,
     settings: &mut Vec<SettingSummary>,
     table: &mut S,
 ) -> Result<(), Fault>
@@ -106,7 +106,7 @@ pub(crate) fn make_setting<S: Sink, P: Progress>(
     workers: Workers,
     number: usize,
     before: &[RunMetadata],
-    progress: &mut P,
+    progress: &P,
     table: &mut S,
 ) -> Result<SettingSummary, Fault>
     requires asked { IsAskedFor plan.now }
@@ -155,7 +155,7 @@ fn make_runs_of<S: Sink, P: Progress>(
     workers: Workers,
     first: usize,
     past: usize,
-    progress: &mut P,
+    progress: &P,
     runs: &mut SettingRuns,
     table: &mut S,
 ) -> Result<(), Fault>
@@ -176,6 +176,7 @@ fn make_runs_of<S: Sink, P: Progress>(
     let mut next = first;
     while next < past {
         let lot = next_lot(alloc, plan, document, workers, LOT, next, past)?;
+        progress.some_begin(next, all);
         let reached = make_lot(
             rt,
             alloc,
@@ -186,6 +187,7 @@ fn make_runs_of<S: Sink, P: Progress>(
             &lot.shares,
             next,
             lot.till,
+            progress,
             runs,
             table,
         )?;

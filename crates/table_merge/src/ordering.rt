@@ -24,7 +24,7 @@ pub(crate) fn take_in(tables: &mut Vec<Found>, table: Found) -> Result<(), Merge
     if let Some(other) = sharing(tables, table.seeds) {
         return Err(MergeFault::Overlap(table.place, other.place));
     }
-    let at = place_of(tables, table.seeds.first);
+    let at = insertion_place(tables, table.seeds.first);
     match tables.insert(at, table) {
         Ok(()) => Ok(()),
         Err(_) => Err(MergeFault::Shards(JoinFault::Memory)),
@@ -53,7 +53,7 @@ fn share(a: Seeds, b: Seeds) -> bool
 }
 
 /// How many tables begin before a seed, of those that are in order, up to the first that doesn't.
-fn place_of(tables: &[Found], seed: u64) -> usize
+fn insertion_place(tables: &[Found], seed: u64) -> usize
     ensures within { result ≤ length tables.now }
     ensures before { (k : ℕ) (d : Table) → k < result → (get_or tables.now k d).seeds.first < seed }
     ensures behind { (d : Table) → result < length tables.now → seed ≤ (get_or tables.now result d).seeds.first }

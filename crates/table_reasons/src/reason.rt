@@ -1,7 +1,7 @@
 //! A reason for which tables aren't joined.
 ghost use Rattle.std.specs.Prelude.{Some};
 ghost use Rattle.std.specs.Fmt.{WritesOnOk};
-ghost use Rattle.table_reasons.specs.Words.{one_text, range_text, reason_text, two_text};
+ghost use Rattle.table_reasons.specs.Words.{missing_text, one_text, range_text, reason_text, shared_text, two_text};
 
 use shown_names::write_name;
 use std::fmt;
@@ -59,25 +59,46 @@ impl Display for TableReason<'_> {
                 " was made without --seeds; make it with a range of seeds",
             ),
             TableReason::Shared(name, other, first, last) => {
-                write_two(f, name, other, " both have the seeds ")?;
-                write_range(
-                    f,
-                    *first,
-                    *last,
-                    "; leave one of them out, or make it with other seeds",
-                )
+                write_shared(f, name, other, *first, *last)
             }
             TableReason::Missing(name, other, first, last) => {
-                write_two(f, name, other, " leave out the seeds ")?;
-                write_range(
-                    f,
-                    *first,
-                    *last,
-                    "; make a table with these, and join it too",
-                )
+                write_missing(f, name, other, *first, *last)
             }
         }
     }
+}
+
+/// Writes which seeds two tables have in common.
+fn write_shared<W: Write>(
+    f: &mut Formatter<W>,
+    name: &str,
+    other: &str,
+    first: u64,
+    last: u64,
+) -> fmt::Result
+    ensures { WritesOnOk W.write_str_gives f.old result (shared_text name.now other.now first last) f.new }
+{
+    write_two(f, name, other, " both have the seeds ")?;
+    write_range(
+        f,
+        first,
+        last,
+        "; leave one of them out, or make it with other seeds",
+    )
+}
+
+/// Writes which seeds lie between those of two tables.
+fn write_missing<W: Write>(
+    f: &mut Formatter<W>,
+    name: &str,
+    other: &str,
+    first: u64,
+    last: u64,
+) -> fmt::Result
+    ensures { WritesOnOk W.write_str_gives f.old result (missing_text name.now other.now first last) f.new }
+{
+    write_two(f, name, other, " leave out the seeds ")?;
+    write_range(f, first, last, "; make a table with these, and join it too")
 }
 
 /// Writes what is told of a name.

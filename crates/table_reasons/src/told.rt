@@ -1,4 +1,4 @@
-//! What the first line of a table tells.
+//! What the first line of a table says.
 use base::Memory;
 use shard_merge::{Head, JoinFault, head_of};
 use shards::{Shard, plan_text};

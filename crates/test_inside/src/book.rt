@@ -1,4 +1,4 @@
-//! A gate that keeps what it was told, and runs that are told it.
+//! A gate that records its calls, and runs that call it.
 ghost use Rattle.std.specs.Prelude.{⊤, ◌≤◌};
 
 use crate::into_sinks::run_rings;

@@ -1,4 +1,4 @@
-//! How far the window of each part goes in a round, as the engine tells a gate: worked out by hand.
+//! How far the window of each part goes in a round, as the engine calls a gate: worked out by hand.
 ghost use Rattle.std.specs.Prelude.{⊤, ◌≡◌, Some};
 ghost use Rattle.test_inside.specs.Told.{one_run, IsToldOfOne};
 

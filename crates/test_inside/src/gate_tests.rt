@@ -1,4 +1,4 @@
-//! Runs by threads, told to a gate: each part is entered once in each window, before it is run, by a worker that there
+//! Runs by threads that call a gate: each part is entered once in each window, before it is run, by a worker that there
 //! is; and the workers run at once.
 
 use crate::book::{Book, Holding, run_result};

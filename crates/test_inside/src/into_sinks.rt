@@ -19,7 +19,7 @@ use std::thread::Threads;
 use trace::testing::MemorySink;
 
 /// The place of a run that writes its trace into this sink, which is left empty.
-fn place_of(
+fn place_of_run(
     rt: &impl AllocGlobal,
     trace: &mut MemorySink,
 ) -> TraceAndGathered<MemorySink, NothingGathered>
@@ -53,7 +53,7 @@ pub(crate) fn stream(
     requires countable { memory_failures trace.old < 2 ^ 63 }
     requires countable_report { memory_failures report.old < 2 ^ 63 }
 {
-    let mut place = place_of(rt, trace);
+    let mut place = place_of_run(rt, trace);
     let outcome = run_streamed(rt.alloc(), scenario, &mut place, report);
     *trace = place.trace;
     summary_of(outcome)
@@ -76,7 +76,7 @@ pub(crate) fn run_rings<G: Gate, R: AllocGlobal + Threads + Wait + Sync>(
     requires windows { AwaitsRun G.awaits scenario.now division.now }
 {
     let alloc = rt.alloc();
-    let mut place = place_of(rt, trace);
+    let mut place = place_of_run(rt, trace);
     let mut account = RunAccount::none(alloc);
     let outcome = run_by_rings(
         rt,

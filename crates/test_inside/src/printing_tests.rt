@@ -1,4 +1,4 @@
-//! What a failure tells that no command can be made to have.
+//! The words of a failure that no command can be made to have.
 use base::Fault;
 use command_line::{Failure, refuse};
 use files::testing::{Failing, MemoryWriter};

@@ -1,4 +1,4 @@
-//! Where a text breaks a rule, which only the library tells.
+//! Where a text breaks a rule, which only the library returns.
 use scenario_reader::read;
 use schema::{Check, ShapeFault, TablePlace, Version, check_shape};
 use std::alloc::Global;
@@ -156,7 +156,7 @@ const FAULTS: [(&str, &str, Check, TablePlace); 3] = [
 ];
 
 /// The texts one after the other.
-fn joined(alloc: Global, rt: &impl Abort, parts: &[&str]) -> String {
+fn concatenated(alloc: Global, rt: &impl Abort, parts: &[&str]) -> String {
     let mut text = String::new(alloc);
     for part in parts {
         text.push_str(*part).expect(rt, "memory");
@@ -180,7 +180,7 @@ fn answer_to(alloc: Global, text: &[u8]) -> (u8, u32) {
 
 /// What `read` answers to the texts one after the other.
 fn answer_to_parts(alloc: Global, rt: &impl Abort, parts: &[&str]) -> (u8, u32) {
-    let text = joined(alloc, rt, parts);
+    let text = concatenated(alloc, rt, parts);
     answer_to(alloc, text.as_bytes())
 }
 

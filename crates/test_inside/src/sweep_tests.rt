@@ -54,7 +54,7 @@ fn sweep_by(
         "mark",
         &text,
         workers,
-        &mut NoProgress,
+        &NoProgress,
         table,
     ))
 }

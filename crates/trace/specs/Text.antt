@@ -37,6 +37,11 @@ word_of what.Call = codes "call"
 word_of what.Answer = codes "answer"
 word_of what.Push = codes "push"
 word_of what.Pull = codes "pull"
+word_of what.Restart = codes "restart"
+word_of what.Exit = codes "exit"
+word_of what.Left = codes "left"
+word_of what.Forget = codes "forget"
+word_of what.Reconnect = codes "reconnect"
 
 -- the name of the member that a row is about, and nothing where it is about none
 abbrev pub about_text : Setup → Option ℕ → List ℕ

@@ -1,4 +1,4 @@
-//! A row of the trace: the key of the event that a member handled, and what it tells of, such as a ping of SWIM, a nack
+//! A row of the trace: the key of the event that a member handled, and what it is about, such as a ping of SWIM, a nack
 //! of Lifeguard or a stream of memberlist, each with its word.
 ghost use Rattle.std.specs.Prelude.{◌≡◌};
 ghost use Rattle.trace.specs.Text.{word_of};
@@ -56,6 +56,16 @@ pub enum What {
     Push,
     /// And is told all that the other knows.
     Pull,
+    /// The member starts again.
+    Restart,
+    /// A member that left ends.
+    Exit,
+    /// A member is taken to have left.
+    Left,
+    /// The member forgets another, which it held to have failed or left.
+    Forget,
+    /// A member tries to reach one that failed (Serf's rule).
+    Reconnect,
 }
 
 impl What {
@@ -88,6 +98,11 @@ impl What {
             What::Answer => "answer",
             What::Push => "push",
             What::Pull => "pull",
+            What::Restart => "restart",
+            What::Exit => "exit",
+            What::Left => "left",
+            What::Forget => "forget",
+            What::Reconnect => "reconnect",
         }
     }
 }

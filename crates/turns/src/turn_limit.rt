@@ -4,13 +4,14 @@ ghost use Rattle.std.specs.Prelude.{◌<◌, ◌≤◌, ◌^◌};
 use base::Moment;
 
 /// How many ticks the first turn of a run may take.
-const FIRST_TICKS: u64 = 8_192;
+const FIRST_TICKS: u64 = 256;
 
 /// A turn that writes fewer rows than these may be longer.
-const FEW_ROWS: usize = 4_096;
+const FEW_ROWS: usize = 256;
 
-/// A turn that writes more rows than these is too long: they are kept until it ends.
-const MANY_ROWS: usize = 16_384;
+/// A turn that writes more rows than these is too long: they are kept until it ends, and more rows than these drive the
+/// members' own memory out of a processor's caches.
+const MANY_ROWS: usize = 1_024;
 
 /// How far past the first pending moment the windows of a turn go at most, so that the rows which are kept until a
 /// turn ends stay few, and turns are long where little is written.

@@ -1,4 +1,4 @@
-//! What `findings_of` tells of a scenario: its lookahead (the least link delay), its greatest round trip, its warnings.
+//! What `findings_of` returns for a scenario: its lookahead (the least link delay), its greatest round trip, its warnings.
 ghost use Rattle.std.specs.Prelude.{◌≤◌, ◌^◌, IfOk};
 ghost use Rattle.warnings.specs.Findings.{AreFindings};
 

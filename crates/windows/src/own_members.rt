@@ -42,14 +42,14 @@ impl OwnMembers {
     pub(crate) fn insert(&mut self, number: MemberId, member: Member) -> Result<(), Memory>
         ensures { OnOk result (states_in self.new ≡ insert (states_in self.old) number (state_of member)) }
     {
-        self.reach(number)?;
+        self.grow_to_member(number)?;
         let place = number.index();
         self.slots[place] = Some(member);
         Ok(())
     }
 
     /// Has a place for that number.
-    fn reach(&mut self, number: MemberId) -> Result<(), Memory>
+    fn grow_to_member(&mut self, number: MemberId) -> Result<(), Memory>
         ensures same { OnOk result (states_in self.new ≡ states_in self.old) }
         ensures place { OnOk result (number < vec_len self.new.slots) }
     {

@@ -28,6 +28,7 @@ of_word rows text both (reason.Word fault.Seeds w) is = absurd is
 of_word rows text both (reason.Word fault.SeedsOrder w) is = absurd is
 of_word rows text both (reason.Word fault.SeedsMany w) is = absurd is
 of_word rows text both (reason.Word fault.Swept w) is = absurd is
+of_word rows text both (reason.Word fault.Joined w) is = absurd is
 of_word rows text both (reason.Word fault.KeyTwice w) is = absurd is
 of_word rows text both (reason.Word fault.Tick w) is = absurd is
 of_word rows text both (reason.Dash file) is = absurd is

@@ -81,6 +81,7 @@ IsRefusedWord rows fault.Seeds word = (first_of (codes "seeds") rows ≡ Some wo
 IsRefusedWord rows fault.SeedsOrder word = (first_of (codes "seeds") rows ≡ Some word) × SeedsNothing word
 IsRefusedWord rows fault.SeedsMany word = (first_of (codes "seeds") rows ≡ Some word) × SeedsNothing word
 IsRefusedWord rows fault.Swept word = Contains (words_of (codes "set") rows) word × SetsNothing word
+IsRefusedWord rows fault.Joined word = Contains (words_of (codes "set") rows) word × SetsNothing word
 IsRefusedWord rows fault.KeyTwice word = Contains (words_of (codes "set") rows) word
 IsRefusedWord rows fault.Want word = Contains (words_of (codes "want") rows) word × WantsNothing word
 IsRefusedWord rows fault.Tick word = (first_of (codes "tick") rows ≡ Some word) × ((tick : Tick) → ¬ (IsTickWord word tick))
@@ -104,6 +105,7 @@ IsReasonMet met reason = (rows : List Row) × (option_map (λ (p : Text × List 
 -- what is wrong with a word of --set
 abbrev pub IsSweptReason : Text → WordReason → Type 0
 IsSweptReason word (reason.Word fault.Swept w) = w.now ≡ word
+IsSweptReason word (reason.Word fault.Joined w) = w.now ≡ word
 IsSweptReason word (reason.Key w key guess) = (w.now ≡ word) × NamesNoKey key.now
 IsSweptReason word (reason.Value w value) = (w.now ≡ word) × IsNoValue value.now
 IsSweptReason word (reason.Share w parts) = w.now ≡ word

@@ -5,15 +5,15 @@ ghost use Rattle.word_reasons.specs.Found.{IsReasonOf};
 
 use arguments::value_of;
 use clap::ArgMatches;
-use reasons::{WordReason, Written, written_name};
+use reasons::{OutputFile, WordReason, written_name};
 
 /// The files that a command may write.
-const FILES: [Written; 5] = [
-    Written::Trace,
-    Written::Report,
-    Written::Table,
-    Written::Page,
-    Written::Out,
+const FILES: [OutputFile; 5] = [
+    OutputFile::Trace,
+    OutputFile::Report,
+    OutputFile::Table,
+    OutputFile::Page,
+    OutputFile::Out,
 ];
 
 /// The first file that a command writes and that is named `-`, where there is one.
@@ -29,7 +29,7 @@ pub(crate) fn dash_word<'a>(matches: &ArgMatches<'a>) -> Option<WordReason<'a>>
 }
 
 /// The same of one of these files.
-fn dash_of<'a>(matches: &ArgMatches<'a>, file: Written) -> Option<WordReason<'a>>
+fn dash_of<'a>(matches: &ArgMatches<'a>, file: OutputFile) -> Option<WordReason<'a>>
     ensures { IfSome result (IsReasonOf (rows_of (found_of matches.now))) }
 {
     let word = value_of(matches, written_name(file))?;

@@ -58,7 +58,7 @@ fn swept_reason<'a>(alloc: Global, word: &'a str) -> Result<WordReason<'a>, Memo
     }
     match refused_value(list) {
         Some(value) => Ok(value_reason(word, names, value)),
-        None => Ok(form_reason(word)),
+        None => Ok(written_reason(word, names)),
     }
 }
 
@@ -80,6 +80,19 @@ fn form_reason<'a>(word: &'a str) -> WordReason<'a>
 {
     WordReason::Word {
         fault: WordFault::Swept,
+        word,
+    }
+}
+
+/// The word is none, though its keys and its values are some: in keys that are joined by `+` it may be that the values aren't.
+fn written_reason<'a>(word: &'a str, names: &str) -> WordReason<'a>
+    ensures { IsSweptReason word.entry.now result }
+{
+    if !names.contains('+') {
+        return form_reason(word);
+    }
+    WordReason::Word {
+        fault: WordFault::Joined,
         word,
     }
 }

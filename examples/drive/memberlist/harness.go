@@ -162,7 +162,8 @@ func (n *node) compare() {
 		}
 		n.known[index] = now
 		switch {
-		case !now.Is: // it has forgotten a dead member
+		case !now.Is:
+			n.row("forget", name, int(was.Incarnation))
 		case !was.Is && now.State == memberlist.StateAlive:
 			n.row("joined", name, int(now.Incarnation))
 		case !was.Is || was.State != now.State || was.Incarnation != now.Incarnation:

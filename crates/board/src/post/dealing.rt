@@ -19,7 +19,7 @@ impl<'b, T: Drop, V: Drop, S: ItemRule<T, V>, J: Site> Post<'b, T, V, S, J> {
         let entry = S::entry_of(&item);
         match self.board.deal(rt, &mut self.seat, item) {
             Ok(()) => {
-                Past::append(&mut self.record.dealt, &entry);
+                Past::append(&mut self.log.dealt, &entry);
                 Ok(())
             }
             Err(item) => Err(item),
@@ -34,7 +34,7 @@ impl<'b, T: Drop, V: Drop, S: ItemRule<T, V>, J: Site> Post<'b, T, V, S, J> {
         match self.board.take(rt, &mut self.seat) {
             Some(item) => {
                 let entry = S::entry_of(&item);
-                Past::append(&mut self.record.taken, &entry);
+                Past::append(&mut self.log.taken, &entry);
                 Some(item)
             }
             None => None,

@@ -1,3 +1,4 @@
+//! All members that get a lane, chosen from the rows and the scenario, and sorted.
 ghost use Rattle.std.specs.Prelude.{◌≡◌, ◌-◌, ◌<◌, ◌≤◌, ◌==◌, ◌^◌, ◌++◌, IfOk, OnOk, All, min};
 ghost use Rattle.std.specs.Option.{option_or, option_to_list};
 ghost use Rattle.std.specs.List.{list_any};

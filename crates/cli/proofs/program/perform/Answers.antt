@@ -1,6 +1,6 @@
 -- a run or a sweep that the words ask for, done and told or not done
 use Rattle.std.proofs.lemmas.Result.{IfErr-weaker, on_ok_weaker}
-use Rattle.cli.proofs.Commands.{asked_drive_done, asked_drive_failed, asked_undriven, asked_explain_done, asked_explain_failed, asked_init_done, asked_init_failed, asked_join_done, asked_join_fails, asked_join_unprinted, asked_page_done, asked_page_failed, asked_shard, asked_run_done, asked_run_fails, asked_run_unprinted, asked_run_untold, asked_sweep_done, asked_sweep_fails, asked_sweep_unprinted, asked_untold, asked_wants, is_command, joined_wants, on_done}
+use Rattle.cli.proofs.Commands.{asked_drive_done, asked_drive_failed, asked_undriven, asked_expand_done, asked_expand_fails, asked_expand_unprinted, asked_explain_done, asked_explain_failed, asked_init_done, asked_init_failed, asked_join_done, asked_join_fails, asked_join_unprinted, asked_page_done, asked_page_failed, asked_shard, asked_run_done, asked_run_fails, asked_run_unprinted, asked_run_untold, asked_sweep_done, asked_sweep_fails, asked_sweep_unprinted, asked_untold, asked_wants, is_command, joined_wants, on_done}
 use Rattle.scenario_files.proofs.Held.{handed_on}
 use Rattle.cli.proofs.program.perform.Goals as goal
 
@@ -140,3 +140,26 @@ returns-in-Drive-clause-other g c none = absurd (none (is_command _ _ c.in_ok-he
 
 pub returns-in-Drive-clause-undriven : goal.returns-in-Drive-clause-undriven
 returns-in-Drive-clause-undriven g c none = asked_undriven _ _ _ c.in-Drive.is c.in_ok-help.ensures.answer none
+
+pub returns-in_ok-text-in-Expand-clause-done : goal.returns-in_ok-text-in-Expand-clause-done
+returns-in_ok-text-in-Expand-clause-done g c =
+    asked_expand_done c.args.release.now _ _ _ _ _ _ _ _ _ _ _ _ c.print_text-in-Expand.result c.in-Expand.is c.in_ok-help.ensures.answer c.in_ok-text-in-Expand.ensures.same c.in_ok-text-in-Expand.ensures.done c.as_str-in-Expand.ensures.value c.print_text-in-Expand.ensures.printed
+
+pub returns-in_ok-text-in-Expand-clause-failed : goal.returns-in_ok-text-in-Expand-clause-failed
+returns-in_ok-text-in-Expand-clause-failed g c =
+    asked_expand_unprinted _ _ _ _ _ _ _ _ _ _ _ _ c.print_text-in-Expand.result c.in-Expand.is c.in_ok-help.ensures.answer c.in_ok-text-in-Expand.ensures.same c.in_ok-text-in-Expand.ensures.done c.print_text-in-Expand.ensures.failure
+
+pub returns-in_ok-text-in-Expand-clause-command : goal.returns-in_ok-text-in-Expand-clause-command
+returns-in_ok-text-in-Expand-clause-command g c =
+    on_ok_weaker c.print_text-in-Expand.result (λ _. is_command _ _ c.in_ok-help.ensures.answer) c.print_text-in-Expand.ensures.printed
+
+pub returns-in_ok-text-in-Expand-clause-other : goal.returns-in_ok-text-in-Expand-clause-other
+returns-in_ok-text-in-Expand-clause-other g c none = absurd (none (is_command _ _ c.in_ok-help.ensures.answer))
+
+pub returns-in_err-text-in-Expand-clause-failed : goal.returns-in_err-text-in-Expand-clause-failed
+returns-in_err-text-in-Expand-clause-failed g c =
+    handed_on _ _ _ c.from_residual-in_err-text-in-Expand.ensures.1
+    (asked_expand_fails _ _ _ _ _ _ _ _ _ _ _ _ c.in-Expand.is c.in_ok-help.ensures.answer c.in_err-text-in-Expand.ensures.same c.in_err-text-in-Expand.ensures.failed)
+
+pub returns-in_err-text-in-Expand-clause-other : goal.returns-in_err-text-in-Expand-clause-other
+returns-in_err-text-in-Expand-clause-other g c none = absurd (none (is_command _ _ c.in_ok-help.ensures.answer))

@@ -12,8 +12,8 @@ loop-span-preserved c =
     let span = c.loop-span.span in
     let next : c.after-next.result ≡ c.loop-span.before + came span - went span =
     c.after-next.ensures ∙ ap (λ x. c.loop-span.before + x - c.went.result) c.came-came.ensures ∙ ap (λ x. c.loop-span.before + came span - x) c.went.ensures in
-    let is : c.shown.result ≡ min (shown c.loop-span.before (came span) c.after-next.result) c.args.most =
-    c.shown.ensures ∙ ap (λ x. min (shown c.loop-span.before x c.after-next.result) c.args.most) c.came-came.ensures in
+    let is : c.shown.result ≡ min (shown (came span) c.after-next.result) c.args.most =
+    c.shown.ensures ∙ ap (λ x. min (shown x c.after-next.result) c.args.most) c.came-came.ensures in
     record {
       made =
           c.in_ok-push.ensures.items

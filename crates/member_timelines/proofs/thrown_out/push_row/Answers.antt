@@ -7,7 +7,5 @@ unfolding row
 returns c =
     let first = rw c.first_confirm.ensures.value at c.in_ok-push_first_cells.ensures in
     let back = rw c.times_back.ensures at c.in_ok-push_cell-2.ensures in
-    let condition = rw c.first_confirm-2.ensures.value at c.in_ok-push_condition.ensures in
     let failed = rw (c.fails.ensures, c.story.ensures.fails) at c.in_ok-push_cell-3.ensures in
-    let refuted = rw c.last_refute.ensures at c.in_ok-push_refute.ensures in
-    and_then _ _ _ (and_then _ _ _ (and_then _ _ _ (and_then _ _ _ (and_then _ _ _ (and_then _ _ _ first c.in_ok-push_cell.ensures) back) condition) failed) refuted) c.in_ok-push_str.ensures.bytes
+    and_then _ _ _ (and_then _ _ _ (and_then _ _ _ (and_then _ _ _ first c.in_ok-push_cell.ensures) back) failed) c.in_ok-push_str.ensures.bytes

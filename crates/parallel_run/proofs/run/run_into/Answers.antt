@@ -75,7 +75,7 @@ by_workers-requires-clause-seats_each g c _ _ = omega (arith, c.in_ok-relays.ens
 
 pub returns-clause-relayed : goal.returns-clause-relayed
 returns-clause-relayed g c =
-    let account : RunAccount = record { relays = c.of-2.result; closed = c.by_workers.new.ended; board = c.by_workers.new.record } in
+    let account : RunAccount = record { relays = c.of-2.result; closed = c.by_workers.new.ended; board = c.by_workers.new.deals } in
     let made = c.in_ok-relays.ensures.count.0 in
     let each = c.in_ok-parts.ensures.opened.count in
     on_ok_weaker c.by_workers.result
@@ -91,4 +91,4 @@ by_workers-requires-clause-parts_each g c _ _ = omega (arith, c.in_ok-relays.ens
 pub returns-clause-settled : goal.returns-clause-settled
 returns-clause-settled g c =
     let some = c.parts.ensures in
-    on_ok_weaker c.by_workers.result (λ dealt. (omega (arith, some.at_most_64.0, some.value), subst (λ n. AreDealt n c.by_workers.new.record) c.in_ok-parts.ensures.opened.count dealt)) c.by_workers.ensures.settled
+    on_ok_weaker c.by_workers.result (λ dealt. (omega (arith, some.at_most_64.0, some.value), subst (λ n. AreDealt n c.by_workers.new.deals) c.in_ok-parts.ensures.opened.count dealt)) c.by_workers.ensures.settled

@@ -4,9 +4,8 @@ use Rattle.series.specs.Spans.{span_count}
 use Rattle.series.specs.Grid.{count_at}
 use Rattle.series.specs.Changes.{came, went}
 use Rattle.series.specs.Series.{healths_of}
-use Rattle.member_timelines.specs.Heights.{heights}
-use Rattle.member_timelines.proofs.Levels.{heights_same}
-use Rattle.run_page.specs.Health.{at_value}
+use Rattle.run_page.specs.Health.{at_value, ends}
+use Rattle.run_page.proofs.SpanEnds.{ends_same}
 use Rattle.run_page.proofs.health.at_value.Goals as goal
 
 pub returns-clause-value : goal.returns-clause-value
@@ -21,7 +20,7 @@ returns-clause-value c =
     λ k below. ap (λ f. count_at f.came state k) c.health.ensures ∙ c.requires.told.gathered.health.came state k (low k below) in
     let went_same : (k : ℕ) → k < span_count s → count_at flows.went state k ≡ went state k changes =
     λ k below. ap (λ f. count_at f.went state k) c.health.ensures ∙ c.requires.told.gathered.health.went state k (low k below) in
-    let same : heights (count_at flows.came state) (count_at flows.went state) c.spans.result 0 c.args.most ≡ at_value s rows c.args.most state =
-    ap (λ n. heights (count_at flows.came state) (count_at flows.went state) n 0 c.args.most) c.spans.ensures.value
-    ∙ heights_same (count_at flows.came state) (λ k. came state k changes) (count_at flows.went state) (λ k. went state k changes) (span_count s) 0 c.args.most came_same went_same in
-    subst (λ hs. IfOk c.heights.result (λ list. list.items ≡ hs)) same c.heights.ensures.value
+    let same : ends (count_at flows.came state) (count_at flows.went state) c.spans.result c.args.most ≡ at_value s rows c.args.most state =
+    ap (λ n. ends (count_at flows.came state) (count_at flows.went state) n c.args.most) c.spans.ensures.value
+    ∙ ends_same (count_at flows.came state) (λ k. came state k changes) (count_at flows.went state) (λ k. went state k changes) (span_count s) c.args.most came_same went_same in
+    subst (λ hs. IfOk c.ends.result (λ list. list.items ≡ hs)) same c.ends.ensures.value

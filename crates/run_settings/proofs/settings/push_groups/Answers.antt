@@ -8,5 +8,5 @@ use Rattle.run_settings.proofs.settings.push_groups.Goals as goal
 
 pub returns : goal.returns
 returns c =
-    let held : string_bytes c.loop-group.text ≡ string_bytes c.args.text.now ++ flat_map (λ group. group_entry (group_of group)) c.args.groups.now = grind (arith, common_steps) in
-    held ∙ ap (λ l. string_bytes c.args.text.now ++ l) (flat_map_of_map group_entry group_of c.args.groups.now)
+    let held : string_bytes c.loop-group.text ≡ string_bytes c.args.text.now ++ flat_map (λ group. group_entry c.args.scenario.now (group_of group)) c.args.groups.now = grind (arith, common_steps) in
+    held ∙ ap (λ l. string_bytes c.args.text.now ++ l) (flat_map_of_map (group_entry c.args.scenario.now) group_of c.args.groups.now)

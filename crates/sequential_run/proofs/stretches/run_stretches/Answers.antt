@@ -40,7 +40,7 @@ returns-in_err-done-clause-part g c = λ first wrote.
 
 pub returns-in_err-done-clause-overflow : goal.returns-in_err-done-clause-overflow
 returns-in_err-done-clause-overflow g c = λ h.
-    inl (comes_overflow c.args.cluster.scenario.now c.requires.sound c.loop-from.from (world_of g.Q.EventQueue.set c.loop-from.part) c.loop-from.tallies c.loop-from.invariant.come c.end-bound.result
+    inl (comes_overflow c.args.cluster.scenario.now c.requires.sound c.loop-from.from (world_of g.Q.EventQueue.set c.loop-from.part) c.loop-from.tallies c.loop-from.invariant.come c.stretch_end-bound.result
     (c.in_err-done.ensures.overflow (overflow_step c.from_residual.result _ c.from_residual.ensures.1 h)))
 
 pub returns-in_err-done-clause-others : goal.returns-in_err-done-clause-others
@@ -52,10 +52,10 @@ take-requires-clause-named g c =
     let set = g.Q.EventQueue.set in
     let before = c.loop-from.tallies in
     let after = world_of set c.in_ok-done.done.part in
-    let on = comes_on s c.requires.sound c.loop-from.from (world_of set c.loop-from.part) before c.loop-from.invariant.come c.end-bound.result c.in_ok-done.done.out.items c.in_ok-done.done.rows.items after c.in_ok-done.ensures.ok in
+    let on = comes_on s c.requires.sound c.loop-from.from (world_of set c.loop-from.part) before c.loop-from.invariant.come c.stretch_end-bound.result c.in_ok-done.done.out.items c.in_ok-done.done.rows.items after c.in_ok-done.ensures.ok in
     let named : All (NamesMembers s) c.deref.result.now =
     names_next s c.requires.sound before c.deref.result.now
-    (subst (λ l. BeginsRun s (before ++ l)) (sym c.deref.ensures.value) (comes_first s c.requires.sound c.end-bound.result after (before ++ c.in_ok-done.done.rows.items) on)) in
+    (subst (λ l. BeginsRun s (before ++ l)) (sym c.deref.ensures.value) (comes_first s c.requires.sound c.stretch_end-bound.result after (before ++ c.in_ok-done.done.rows.items) on)) in
     search (rules, named)
 
 pub returns-in_err-take-clause-part : goal.returns-in_err-take-clause-part
@@ -65,10 +65,10 @@ returns-in_err-take-clause-part g c = λ first wrote.
     let before = c.loop-from.tallies in
     let rows = c.deref.result.now in
     let after = world_of set c.in_ok-done.done.part in
-    let on = comes_on s c.requires.sound c.loop-from.from (world_of set c.loop-from.part) before c.loop-from.invariant.come c.end-bound.result c.in_ok-done.done.out.items c.in_ok-done.done.rows.items after c.in_ok-done.ensures.ok in
+    let on = comes_on s c.requires.sound c.loop-from.from (world_of set c.loop-from.part) before c.loop-from.invariant.come c.stretch_end-bound.result c.in_ok-done.done.out.items c.in_ok-done.done.rows.items after c.in_ok-done.ensures.ok in
     on_err _
     (begins_trace s (before ++ rows) _ _ _ _
-    (subst (λ l. BeginsRun s (before ++ l)) (sym c.deref.ensures.value) (comes_first s c.requires.sound c.end-bound.result after (before ++ c.in_ok-done.done.rows.items) on))
+    (subst (λ l. BeginsRun s (before ++ l)) (sym c.deref.ensures.value) (comes_first s c.requires.sound c.stretch_end-bound.result after (before ++ c.in_ok-done.done.rows.items) on))
     (written_on s before rows _ _ _ before c.take.new.tallies _ (c.loop-from.invariant.written first wrote) c.in_err-take.ensures.whole c.in_err-take.ensures.tallied c.in_err-take.ensures.part c.in_err-take.ensures.lasts c.in_err-take.ensures.overflow))
 
 pub returns-in_err-take-clause-overflow : goal.returns-in_err-take-clause-overflow
@@ -77,9 +77,9 @@ returns-in_err-take-clause-overflow g c = λ h.
     let set = g.Q.EventQueue.set in
     let before = c.loop-from.tallies in
     let after = world_of set c.in_ok-done.done.part in
-    let on = comes_on s c.requires.sound c.loop-from.from (world_of set c.loop-from.part) before c.loop-from.invariant.come c.end-bound.result c.in_ok-done.done.out.items c.in_ok-done.done.rows.items after c.in_ok-done.ensures.ok in
+    let on = comes_on s c.requires.sound c.loop-from.from (world_of set c.loop-from.part) before c.loop-from.invariant.come c.stretch_end-bound.result c.in_ok-done.done.out.items c.in_ok-done.done.rows.items after c.in_ok-done.ensures.ok in
     inr (wears_report s (before ++ c.deref.result.now)
-    (subst (λ l. BeginsRun s (before ++ l)) (sym c.deref.ensures.value) (comes_first s c.requires.sound c.end-bound.result after (before ++ c.in_ok-done.done.rows.items) on))
+    (subst (λ l. BeginsRun s (before ++ l)) (sym c.deref.ensures.value) (comes_first s c.requires.sound c.stretch_end-bound.result after (before ++ c.in_ok-done.done.rows.items) on))
     (c.in_err-take.ensures.overflow (handed_on c.from_residual-in_err-take.result _ _ c.from_residual-in_err-take.ensures.1 h)))
 
 pub returns-in_err-take-clause-others : goal.returns-in_err-take-clause-others
@@ -95,7 +95,7 @@ loop-from-preserved g c =
     let before = c.loop-from.tallies in
     let rows = c.deref.result.now in
     let after = world_of set c.in_ok-done.done.part in
-    let on = comes_on s c.requires.sound c.loop-from.from (world_of set c.loop-from.part) before c.loop-from.invariant.come c.end-bound.result c.in_ok-done.done.out.items c.in_ok-done.done.rows.items after c.in_ok-done.ensures.ok in
+    let on = comes_on s c.requires.sound c.loop-from.from (world_of set c.loop-from.part) before c.loop-from.invariant.come c.stretch_end-bound.result c.in_ok-done.done.out.items c.in_ok-done.done.rows.items after c.in_ok-done.ensures.ok in
     let same = c.in_ok-take.ensures.tallied in
     let none = c.in_ok-take.ensures.failures in
     let so_far = c.loop-from.invariant.unfailed in
@@ -103,7 +103,7 @@ loop-from-preserved g c =
       consistent = c.in_ok-done.ensures.consistent;
       come =
           subst (λ t. HasComeTo s t after c.take.new.tallies) (sym c.ticks-from.ensures)
-          (subst (HasComeTo s c.end-bound.result after) (sym (same ∙ ap (λ l. before ++ l) c.deref.ensures.value)) on);
+          (subst (HasComeTo s c.stretch_end-bound.result after) (sym (same ∙ ap (λ l. before ++ l) c.deref.ensures.value)) on);
       written = λ first wrote.
           subst (λ l. HasWritten {T = Unit {0}} s l first (g.T.RowSink.held c.take.new.place) c.take.new.tallies (Ok (tt {0}))) (sym same)
           (written_on s before rows _ _ _ before c.take.new.tallies _ (c.loop-from.invariant.written first wrote) c.in_ok-take.ensures.whole same c.in_ok-take.ensures.part c.in_ok-take.ensures.lasts c.in_ok-take.ensures.overflow);
@@ -113,7 +113,7 @@ loop-from-preserved g c =
     }
 
 pub loop-from-smaller : goal.loop-from-smaller
-loop-from-smaller g c = omega (arith, c.ticks-last.ensures, c.ticks-from.ensures, c.end-bound.ensures)
+loop-from-smaller g c = omega (arith, c.ticks-last.ensures, c.ticks-from.ensures, c.stretch_end-bound.ensures)
 
 pub returns-clause-run : goal.returns-clause-run
 returns-clause-run g c =

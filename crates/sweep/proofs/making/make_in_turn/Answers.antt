@@ -7,7 +7,7 @@ use Rattle.sweep.proofs.Numbers.{range_more}
 use Rattle.sweep.proofs.making.make_in_turn.Goals as goal
 
 pub loop-number-preserved : goal.loop-number-preserved
-loop-number-preserved c =
+loop-number-preserved g c =
     let from = c.args.share.from in
     let number = c.loop-number.number in
     let R = IsMadeOf (view c.args.document.now) c.args.plan.now c.args.key.now in
@@ -24,7 +24,7 @@ loop-number-preserved c =
     }
 
 pub returns : goal.returns
-returns c =
+returns g c =
     let from = c.args.share.from in
     let till = c.args.share.till in
     let all : c.loop-number.number - from ≡ till - from = omega (arith, c.loop-number-test.false, c.loop-number.invariant.low, c.loop-number.invariant.high) in

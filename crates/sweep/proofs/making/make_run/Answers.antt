@@ -10,7 +10,7 @@ use Rattle.sweep.proofs.Steps.{no_room}
 use Rattle.sweep.proofs.making.make_run.Goals as goal
 
 pub returns : goal.returns
-returns c =
+returns g c =
     let run = c.in_ok-run.run' in
     let read = c.in_ok-scenario.ensures in
     let figures = c.in_ok-figures.ensures in
@@ -31,5 +31,5 @@ returns c =
     }
 
 pub returns-in_err-line : goal.returns-in_err-line
-returns-in_err-line c =
+returns-in_err-line g c =
     no_room (view c.args.document.now) c.args.plan.now c.args.key.now c.args.number c.from_residual-in_err-line.result c.from_residual-in_err-line.ensures.1

@@ -4,4 +4,4 @@ use Rattle.sweep_page.proofs.items.push_false_deaths.Goals as goal
 
 pub returns : goal.returns
 unfolding deaths_span
-returns c = and_last _ _ _ _ c.push_markup-2.result (and_then _ _ _ c.in_ok-push_markup.ensures c.in_ok-push_deaths.ensures) c.push_markup-2.ensures
+returns c = and_last _ _ _ _ c.push_markup-3.result (and_then _ _ _ (and_then _ _ _ (and_then _ _ _ c.in_ok-push_markup.ensures c.in_ok-push_hundredths.ensures) c.in_ok-push_markup-2.ensures) c.in_ok-push_hundredths_interval.ensures) c.push_markup-3.ensures

@@ -3,7 +3,7 @@ use Rattle.std.specs.Borrow.{Bor}
 use Rattle.std.proofs.lemmas.List.{map-append, take_more}
 use Rattle.table_rows.specs.Lines.{HasLine}
 use Rattle.table_merge.proofs.Order.{all_mapped}
-use Rattle.table_merge.proofs.Puts.{both_put, still_put}
+use Rattle.table_merge.proofs.Puts.{both_put, none_put, still_put}
 use Rattle.table_merge.proofs.merging.put_lines.Goals as goal
 
 pub loop-start-preserved : goal.loop-start-preserved
@@ -23,3 +23,6 @@ pub put_line-requires-clause-line : goal.put_line-requires-clause-line
 put_line-requires-clause-line g c =
     let now : Bor (List ℕ) → List ℕ = λ start. start.now in
     all_mapped HasLine now c.args.starts.now c.requires.lines c.loop-start.start-index _ (omega (arith, c.loop-start-test.true))
+
+pub loop-start-init : goal.loop-start-init
+loop-start-init g c = record { so = none_put c.args.key.now _ _; same = search rules }

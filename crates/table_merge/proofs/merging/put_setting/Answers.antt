@@ -7,7 +7,7 @@ use Rattle.table_merge.specs.Lines.{IsFull}
 use Rattle.table_merge.specs.Tables.{starts_in}
 use Rattle.table_merge.specs.declared.lines.Table.{Table}
 use Rattle.table_merge.proofs.Order.{all_mapped}
-use Rattle.table_merge.proofs.Puts.{both_put, still_put, tables_more}
+use Rattle.table_merge.proofs.Puts.{both_put, none_put, still_put, tables_more}
 use Rattle.table_merge.proofs.merging.put_setting.Goals as goal
 
 pub starts_of_setting-starts-requires-clause-full : goal.starts_of_setting-starts-requires-clause-full
@@ -30,3 +30,6 @@ loop-table-preserved g c = record {
       (both_put c.args.key.now _ _ _ _ _ _ _ _ c.loop-table.invariant.so c.in_ok-put_lines.ensures.put);
   same = search rules;
 }
+
+pub loop-table-init : goal.loop-table-init
+loop-table-init g c = record { so = none_put c.args.key.now _ _; same = search rules }

@@ -1,7 +1,7 @@
 use Rattle.std.proofs.Common.{length, sym, subst, ◌∙◌, IsPermutation}
-use Rattle.figures.specs.Settings.{crashes_in, suspected_in, confirmed_in, last_in, runs_with}
+use Rattle.figures.specs.Settings.{crashes_in, suspected_in, confirmed_in, last_in, thrown_out_in, runs_with, false_deaths_in, death_squares_in, deaths_low, deaths_high}
 use Rattle.figures.specs.Histograms.{IsHistogramOf}
-use Rattle.figures.proofs.Summaries.{of_rank, false_rate_of, low_of, high_of, rate_of}
+use Rattle.figures.proofs.Summaries.{of_rank, false_rate_of, low_of, high_of, per_run_of, end_of, rate_of}
 use Rattle.figures.proofs.setting.SettingFigures.summary.Goals as goal
 
 pub returns : goal.returns
@@ -32,5 +32,8 @@ returns c runs are =
       with_thrown = are.with_thrown;
       low = low_of (runs_with runs) (length runs) setting.runs_with setting.runs _ c.share_low.ensures are.with_thrown are.all;
       high = high_of (runs_with runs) (length runs) setting.runs_with setting.runs _ c.share_high.ensures are.with_thrown are.all;
+      per_run = per_run_of (thrown_out_in runs) (length runs) setting.thrown_out setting.runs _ c.deaths_of.ensures are.thrown are.all;
+      fewest = end_of deaths_low (false_deaths_in runs) (death_squares_in runs) (length runs) setting.deaths setting.squares setting.runs _ c.deaths_low.ensures are.deaths are.squares are.all;
+      most = end_of deaths_high (false_deaths_in runs) (death_squares_in runs) (length runs) setting.deaths setting.squares setting.runs _ c.deaths_high.ensures are.deaths are.squares are.all;
       rate = rate_of runs setting.sent setting.member_ticks _ c.message_rate.ensures are.sendings are.lasting;
     }

@@ -1,25 +1,18 @@
-use Rattle.std.proofs.Common.{◌≡◌, ◌∙◌}
+use Rattle.std.proofs.Common.{◌≡◌, None, sym, ap, ◌∙◌, rules}
 use Rattle.streams.specs.Draw.{words_of}
-use Rattle.links.specs.Table.{link_at, is_cut_at}
-use Rattle.links.proofs.Arrivals.{arrival_cut, arrival_not_cut, arrival_lost, arrival_comes}
+use Rattle.links.proofs.Arrivals.{arrival_lost, arrival_comes}
 use Rattle.links.proofs.table.Links.arrival.Goals as goal
 
-pub returns-then-is_cut-clause-drawn : goal.returns-then-is_cut-clause-drawn
-returns-then-is_cut-clause-drawn c = λ s are sender receiver.
-    let cut : c.is_cut.result ≡ is_cut_at c.args.self.now c.args.from c.args.to c.args.now = cc in
-    arrival_cut c.args.self.now s are c.args.from c.args.to c.args.now sender receiver c.is_cut.result cut c.if-is_cut.true (words_of c.args.stream.now)
-
-pub returns-then-lost-clause-drawn : goal.returns-then-lost-clause-drawn
-returns-then-lost-clause-drawn c = λ s are sender receiver.
-    let cut : c.is_cut.result ≡ is_cut_at c.args.self.now c.args.from c.args.to c.args.now = cc in
-    let is : c.link_between-link.result ≡ link_at c.args.self.now c.args.from c.args.to = cc in
-    arrival_lost c.args.self.now s are c.args.from c.args.to c.args.now sender receiver c.link_between-link.result is (words_of c.args.stream.now) (words_of c.lost.new.self) c.lost.result c.lost.ensures c.if-lost.true
-    ∙ arrival_not_cut c.args.self.now s are c.args.from c.args.to c.args.now sender receiver c.is_cut.result cut c.if-is_cut.false (words_of c.args.stream.now)
+pub returns-in_err-there-clause-drawn : goal.returns-in_err-there-clause-drawn
+returns-in_err-there-clause-drawn c = λ s are sender receiver.
+    let none : c.from_residual.result ≡ None = search rules in
+    let lost : c.try_once.result ≡ None = search rules in
+    ap (λ r. (r, words_of c.try_once.new.stream)) none
+    ∙ arrival_lost s c.args.from c.args.to c.args.now (words_of c.args.stream.now) (words_of c.try_once.new.stream)
+    (ap (λ r. (r, words_of c.try_once.new.stream)) (sym lost) ∙ c.try_once.ensures.drawn s are sender receiver)
 
 pub returns-clause-drawn : goal.returns-clause-drawn
 returns-clause-drawn c = λ s are sender receiver.
-    let cut : c.is_cut.result ≡ is_cut_at c.args.self.now c.args.from c.args.to c.args.now = cc in
-    let is : c.link_between-link.result ≡ link_at c.args.self.now c.args.from c.args.to = cc in
-    arrival_comes c.args.self.now s are c.args.from c.args.to c.args.now sender receiver c.link_between-link.result is (words_of c.args.stream.now) (words_of c.lost.new.self) c.lost.result c.lost.ensures c.if-lost.false
-    c.below-jitter.result c.from.result c.ticks-2.result c.extra.result c.extra-2.result (words_of c.below-jitter.new.self) c.below-jitter.ensures.drawn c.from.ensures c.ticks-2.ensures (cc) c.extra-2.ensures.value
-    ∙ arrival_not_cut c.args.self.now s are c.args.from c.args.to c.args.now sender receiver c.is_cut.result cut c.if-is_cut.false (words_of c.args.stream.now)
+    arrival_comes s c.args.from c.args.to c.args.now c.in_ok-there.there c.comes.result (words_of c.args.stream.now) (words_of c.try_once.new.stream)
+    (ap (λ r. (r, words_of c.try_once.new.stream)) (sym c.in_ok-there.was) ∙ c.try_once.ensures.drawn s are sender receiver)
+    (c.comes.ensures.value s are (words_of c.try_once.new.stream))

@@ -7,5 +7,5 @@ pub follow-requires-2-clause-by_one : goal.follow-requires-2-clause-by_one
 follow-requires-2-clause-by_one c =
     let rows = c.self.inside.past in
     let counts = c.self.invariant.0 in
-    let revivals = c.in_ok-reach.ensures.same rows c.self.invariant.2 in
+    let revivals = c.in_ok-make_room_for_row.ensures.same rows c.self.invariant.2 in
     omega (arith, counts.all, revivals.all, few_revivals rows, c.if-self-ge-COUNTER_LIMIT.false)

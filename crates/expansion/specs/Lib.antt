@@ -1,0 +1,4 @@
+pub mod Late
+pub mod Turns
+pub mod Verdict
+pub mod Plain

@@ -1,0 +1,5 @@
+pub mod InOrder
+pub mod Members
+pub mod Turns
+pub mod Returns
+pub mod Whole

@@ -1,0 +1,4 @@
+pub mod Names
+pub mod Reading
+pub mod Filling
+pub mod Holding

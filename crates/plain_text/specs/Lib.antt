@@ -1,0 +1,3 @@
+pub mod Lines
+pub mod Document
+pub mod Headings

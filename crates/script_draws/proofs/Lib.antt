@@ -1,0 +1,2 @@
+pub mod ChoiceLemmas
+pub mod AgainLemmas

@@ -1,0 +1,9 @@
+pub mod Keys
+pub mod Values
+pub mod Numbers
+pub mod Rules
+pub mod Who
+pub mod Times
+pub mod Entries
+pub mod Lists
+pub mod Script

@@ -1,0 +1,114 @@
+-- Groups that are added one by one: whether a name is taken, and what one more group does to the rule on names.
+use Rattle.std.proofs.Common.{◌≡◌, ◌<◌, ◌^◌, ℕ, ◌+◌, List, [], ◌∷◌, ◌++◌, ◌||◌, Bool, true, false, not, cond, map, length, take, drop, get_or, Option, Some, None, is_some, refl, ap, sym, ◌∙◌, String, Global, string_bytes, bytes_eq, append_assoc, arith}
+use Rattle.std.specs.List.{list_any, sum_by}
+use Rattle.std.specs.Map.{lookup}
+use Rattle.std.specs.String.{string_eq}
+use Rattle.std.proofs.lemmas.List.{map_more, map-append, append-nil, take-append-drop}
+use Rattle.std.proofs.lemmas.List.Folds.{list_any-append}
+use Rattle.std.proofs.lemmas.List.Sums.{sum_by-cons}
+use Rattle.std.proofs.lemmas.Bool.{or_left, or_right}
+use Rattle.std.proofs.lemmas.Bool.Decides.{same_from_decides}
+use Rattle.std.proofs.lemmas.Slice.Eq.{bytes_eq-Decides}
+use Rattle.indexmap.specs.IndexMap.{IndexMap, get, insert_entry}
+use Rattle.indexmap.proofs.CallerLemmas.{insert_entry-new}
+use Rattle.schema.proofs.Trees.{any-map}
+use Rattle.scenario.specs.Setup.{Group}
+use Rattle.written_names.specs.Roster.{named_group, AreNumberedFrom}
+use Rattle.written_names.specs.declared.roster.Block.{Block}
+use Rattle.scenario_reader.specs.Rules.{any_two}
+use Rattle.written_names.specs.Names.{is_written_name, breaks_name, breaks_names}
+
+bytes_eq-sym : (a b : List ℕ) → bytes_eq a b ≡ bytes_eq b a
+bytes_eq-sym a b =
+    let there = bytes_eq-Decides b a in
+    same_from_decides (bytes_eq a b) (bytes_eq b a) (bytes_eq-Decides a b) (λ e. sym (there.0 e), λ e. there.1 (sym e))
+
+-- an entry's test, beside the rest's
+found : (b : Bool) (v : Block) (rest : Option Block) → is_some (cond b (Some v) rest) ≡ (b || is_some rest)
+found true v rest = refl
+found false v rest = refl
+
+-- a name is taken where the map finds it
+pub name_taken : (es : List (String Global × Block)) (k : String Global) → is_some (lookup (string_eq k) es) ≡ list_any (λ g. bytes_eq (string_bytes k) g.name) (map named_group es)
+name_taken [] k = refl
+name_taken (e ∷ es) k = found (string_eq k e.0) e.1 (lookup (string_eq k) es) ∙ ap (λ more. string_eq k e.0 || more) (name_taken es k)
+
+-- a name of the right form may be added unless it is taken
+pub taken_is : (gs : List Group) (name : List ℕ) (b : Bool) → is_written_name name ≡ true → list_any (λ g. bytes_eq name g.name) gs ≡ b → not b ≡ not (breaks_name gs name)
+taken_is gs name b named taken = sym (ap (λ n. not (not n || list_any (λ g. bytes_eq name g.name) gs)) named ∙ ap not taken)
+
+-- a group of a new name goes last
+pub group_added : {S : Type 0} (m : IndexMap (String Global) Block S) (k : String Global) (n : Block) → get string_eq m k ≡ None
+    → map named_group (insert_entry string_eq m.entries k n) ≡ map named_group m.entries ++ record { name = string_bytes k; count = n.count; start = n.start; contact = None } ∷ []
+group_added m k n new = ap (map named_group) (insert_entry-new string_eq m k n new) ∙ map-append named_group m.entries ((k, n) ∷ [])
+
+regroup : (a b c d : Bool) → ((a || (b || false)) || (c || d)) ≡ ((b || c) || (a || d))
+regroup true true c d = refl
+regroup true false true d = refl
+regroup true false false d = refl
+regroup false true c d = refl
+regroup false false c d = refl
+
+repeats-last : (ns : List (List ℕ)) (n : List ℕ) → any_two bytes_eq (ns ++ n ∷ []) ≡ (list_any (bytes_eq n) ns || any_two bytes_eq ns)
+repeats-last [] n = refl
+repeats-last (m ∷ ns) n =
+    ap (λ more. more || any_two bytes_eq (ns ++ n ∷ [])) (list_any-append (bytes_eq m) ns (n ∷ []))
+    ∙ ap (λ more. (list_any (bytes_eq m) ns || (bytes_eq m n || false)) || more) (repeats-last ns n)
+    ∙ ap (λ e. (list_any (bytes_eq m) ns || (e || false)) || (list_any (bytes_eq n) ns || any_two bytes_eq ns)) (bytes_eq-sym m n)
+    ∙ regroup (list_any (bytes_eq m) ns) (bytes_eq n m) (list_any (bytes_eq n) ns) (any_two bytes_eq ns)
+
+abbrev bad : Group → Bool
+bad g = not (is_written_name g.name)
+
+-- the rule on names after one more group
+pub breaks_names-last : (gs : List Group) (g : Group) → breaks_names (gs ++ g ∷ []) ≡ (breaks_name gs g.name || breaks_names gs)
+unfolding breaks_names
+breaks_names-last gs g =
+    ap (λ more. more || any_two bytes_eq (map (λ h. h.name) (gs ++ g ∷ []))) (list_any-append bad gs (g ∷ []))
+    ∙ ap (λ ns. (list_any bad gs || (bad g || false)) || any_two bytes_eq ns) (map-append (λ (h : Group). h.name) gs (g ∷ []))
+    ∙ ap (λ more. (list_any bad gs || (bad g || false)) || more) (repeats-last (map (λ h. h.name) gs) g.name)
+    ∙ ap (λ taken. (list_any bad gs || (bad g || false)) || (taken || any_two bytes_eq (map (λ h. h.name) gs))) (any-map (bytes_eq g.name) (λ (h : Group). h.name) gs)
+    ∙ regroup (list_any bad gs) (bad g) (list_any (λ h. bytes_eq g.name h.name) gs) (any_two bytes_eq (map (λ h. h.name) gs))
+
+-- what breaks the rule goes on breaking it
+breaks_names-kept : (gs hs : List Group) → breaks_names gs ≡ true → breaks_names (gs ++ hs) ≡ true
+breaks_names-kept gs [] broken = ap breaks_names (append-nil gs) ∙ broken
+breaks_names-kept gs (h ∷ hs) broken =
+    ap breaks_names (sym (append_assoc gs (h ∷ []) hs))
+    ∙ breaks_names-kept (gs ++ h ∷ []) hs (breaks_names-last gs h ∙ or_right (breaks_name gs h.name) (breaks_names gs) broken)
+
+module _ {V : Type 0} (group : V → Group) (vs : List V) (i : ℕ) (v : V) where
+  -- the group at the index breaks the rule, or may follow those before it
+  pub name_refused : i < length vs → get_or vs i v ≡ v → breaks_name (map group (take i vs)) (group v).name ≡ true → breaks_names (map group vs) ≡ true
+  name_refused within here broken =
+      let one_more : breaks_names (map group (take (i + 1) vs)) ≡ true =
+      ap breaks_names (map_more group vs i v within ∙ ap (λ w. map group (take i vs) ++ group w ∷ []) here)
+      ∙ breaks_names-last (map group (take i vs)) (group v) ∙ or_left (breaks_name (map group (take i vs)) (group v).name) (breaks_names (map group (take i vs))) broken in
+      ap (λ ws. breaks_names (map group ws)) (sym (take-append-drop (i + 1) vs)) ∙ ap breaks_names (map-append group (take (i + 1) vs) (drop (i + 1) vs))
+      ∙ breaks_names-kept (map group (take (i + 1) vs)) (map group (drop (i + 1) vs)) one_more
+
+  pub name_fits : i < length vs → get_or vs i v ≡ v → breaks_name (map group (take i vs)) (group v).name ≡ false → breaks_names (map group (take i vs)) ≡ false
+      → breaks_names (map group (take (i + 1) vs)) ≡ false
+  name_fits within here fits fine =
+      ap breaks_names (map_more group vs i v within ∙ ap (λ w. map group (take i vs) ++ group w ∷ []) here)
+      ∙ breaks_names-last (map group (take i vs)) (group v) ∙ ap (λ b. b || breaks_names (map group (take i vs))) fits ∙ fine
+
+-- a test whose opposite is known
+pub broken_by : (b a : Bool) → a ≡ not b → a ≡ false → b ≡ true
+broken_by true a same e = refl
+broken_by false a same e = sym e ∙ same
+
+pub fits_by : (b a : Bool) → a ≡ not b → a ≡ true → b ≡ false
+fits_by true a same e = sym e ∙ same
+fits_by false a same e = refl
+
+-- the blocks after one more
+pub block_added : {S : Type 0} (m : IndexMap (String Global) Block S) (k : String Global) (n : Block) → get string_eq m k ≡ None
+    → map (λ (e : String Global × Block). e.1) (insert_entry string_eq m.entries k n) ≡ map (λ (e : String Global × Block). e.1) m.entries ++ n ∷ []
+block_added m k n new = ap (map (λ (e : String Global × Block). e.1)) (insert_entry-new string_eq m k n new) ∙ map-append (λ (e : String Global × Block). e.1) m.entries ((k, n) ∷ [])
+
+-- the numbers go on with one more block
+pub numbered-last : (n : ℕ) (bs : List Block) (b : Block) → AreNumberedFrom n bs → b.first ≡ n + sum_by (λ (c : Block). c.count) bs → b.count < 2 ^ 64 → AreNumberedFrom n (bs ++ b ∷ [])
+numbered-last n [] b numbered next small = (omega (arith, next), small, tt)
+numbered-last n (c ∷ bs) b numbered next small =
+    (numbered.0, numbered.1, numbered-last (n + c.count) bs b numbered.2 (omega (arith, next, sum_by-cons (λ (d : Block). d.count) c bs)) small)
