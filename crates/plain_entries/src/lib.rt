@@ -13,8 +13,6 @@ mod spells;
 mod timing;
 mod turn;
 mod who;
-#[cfg(test)]
-mod worked_text;
 
 pub use departures::{Back, Departure, DepartureTime};
 pub use entry::Entry;
