@@ -130,7 +130,7 @@ def refusal_of(rule, settings, case):
 def figures_of(scenario, rows, version):
     """What is told of a run of a sweep of a text of this version, and `times`, `members`, `end` and `version`, which its
     case needs."""
-    crashes = model_text.ends_of(rows, 'crash')
+    crashes = model_text.ends_of(scenario, rows, 'crash')
     times = {name: [None if crash[place] is None else max(0, crash[place] - crash[1]) for crash in crashes]
              for place, name in enumerate(['suspect', 'confirm', 'last'], 2)}
     suspect, confirm, last = ([time for time in times[name] if time is not None] for name in times)
@@ -139,7 +139,7 @@ def figures_of(scenario, rows, version):
     sent = [row.lost for row in rows if row.what in MESSAGES]
     return {
         'times': times, 'members': len(scenario['members']), 'end': scenario['end'], 'version': version,
-        **(run_deaths(scenario, rows) if version >= FIRST_TOLD['deaths'] else {}), 'revived': model_text.revived(rows),
+        **(run_deaths(scenario, rows) if version >= FIRST_TOLD['deaths'] else {}), 'revived': model_text.revived(scenario, rows),
         'rows': len(rows), 'crashes': len(crashes), 'detected': len(confirm),
         'suspect_least': min(suspect, default=''), 'confirm_least': min(confirm, default=''),
         'confirm_greatest': max(confirm, default=''), 'last_greatest': max(last, default=''),

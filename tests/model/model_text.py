@@ -54,14 +54,14 @@ def until_restart(rows, member):
     return rows[:past]
 
 
-def ends_of(rows, what):
+def ends_of(scenario, rows, what):
     """Of each row of this kind, a crash or a leave: its member, moment, A, B, C and D, up to its next restart."""
     found = []
     for place, row in enumerate(rows):
         if row.what == what:
             later = [other for other in until_restart(rows[place + 1:], row.member) if other.about == row.member]
             suspects = [other.moment for other in later if other.what == SUSPECT]
-            confirms = [other.moment for other in later if is_death(other)]
+            confirms = [other.moment for other in later if is_death(scenario, other)]
             suspect = suspects[0] if suspects else None
             first, last = (confirms[0], confirms[-1]) if confirms else (None, None)
             found.append((row.member, row.moment, suspect, first, last, len(confirms)))
@@ -77,18 +77,19 @@ def false_rows(scenario, rows, what):
             down.add(row.member)
         if row.what == 'restart':
             down.discard(row.member)
-        is_such = is_death(row) if what == CONFIRM else row.what == what
+        is_such = is_death(scenario, row) if what == CONFIRM else row.what == what
         if is_such and row.about not in down:
             found.append(row)
     return found, [row for row in found if slow_by(scenario, row.member, row.moment) == 0]
 
 
-def revived(rows):
-    """How many rows of a member tell that somebody is alive of whom its last such row told a death."""
+def revived(scenario, rows):
+    """How many rows of a member say that somebody is alive of whom its last such row said a death."""
+    deaths = (CONFIRM, LEFT) if scenario['version'] >= 4 else (CONFIRM,)
     last, count = {}, 0
     for row in rows:
-        if row.what in (ALIVE, SUSPECT, CONFIRM, LEFT):
-            count += row.what == ALIVE and last.get((row.member, row.about)) in (CONFIRM, LEFT)
+        if row.what in (ALIVE, SUSPECT, *deaths):
+            count += row.what == ALIVE and last.get((row.member, row.about)) in deaths
             last[row.member, row.about] = row.what
     return count
 
@@ -111,12 +112,12 @@ def report_of(scenario, rows):
     names = [member['name'] for member in scenario['members']]
     lines = [f'members {len(names)}', f'end {scenario["end"]}', f'rows {len(rows)}']
     latencies = []
-    for member, at, suspect, first, last, count in ends_of(rows, 'crash'):
+    for member, at, suspect, first, last, count in ends_of(scenario, rows, 'crash'):
         latency = None if first is None else first - at
         latencies += [] if first is None else [latency]
         lines.append(f'crash {names[member]} {at} suspect {told(suspect)} confirm {told(first)} '
                      f'last {told(last)} confirmers {count} latency {told(latency)}')
-    for member, at, _, first, last, count in ends_of(rows, 'leave') if scenario['version'] > 1 else []:
+    for member, at, _, first, last, count in ends_of(scenario, rows, 'leave') if scenario['version'] > 1 else []:
         lines.append(f'leave {names[member]} {at} confirm {told(first)} last {told(last)} confirmers {count}')
     if scenario['version'] >= 4:
         lines += restart_lines(names, rows)
@@ -125,7 +126,7 @@ def report_of(scenario, rows):
     for what in (SUSPECT, CONFIRM):
         found, healthy = false_rows(scenario, rows, what)
         lines.append(f'false {what} {len(found)} healthy {len(healthy)}')
-    lines += [f'revived {revived(rows)}'] * (scenario['version'] >= 3)
+    lines += [f'revived {revived(scenario, rows)}'] * (scenario['version'] >= 3)
     if scenario['version'] >= 4:
         lines += incident_lines(scenario, rows)
     lines += [f'{what} {sum(row.what == what for row in rows)}' for what in ('accuse', 'refute', 'fail')]

@@ -5,9 +5,9 @@
 
 It builds the harness of examples/drive/memberlist. Over seeds 1 to 20 failed probes, suspicions and refutations of both may
 differ by 10 %. By chance alone each sum differs by 5 % (one standard error), but the same seeds make nearly the same sums.
-Then it changes the text, and looks whether memberlist takes each setting; and it makes the page that shows both. Where Go or Debian's package of memberlist is
-missing all is skipped, and the script says so. It takes a minute of four processors at most. The last line is `N passed, M
-failed`, with `, K skipped` where some were, and the status is 1 where M is over 0.
+Then it changes the text, and looks whether memberlist takes each setting; and it makes the page that shows both. Where Go
+or Debian's package of memberlist is missing all is skipped, and the script says so. It takes a minute of four processors at
+most. The last line is `N passed, M failed`, with `, K skipped` where some were, and the status is 1 where M is over 0.
 """
 
 import os
@@ -122,7 +122,7 @@ def shown_together(both):
     out = both.room / 'together'
     ran = call([BUILD.parent / 'compare', out, both.room / 'crash.toml'], env={**os.environ, 'SWIMSIM': str(both.program)})
     page = (out / 'compare.html').read_text() if ran.status == 0 else ''
-    lines = dict(re.findall(r'<tr><td>([^<]*)<td>([^<]*<td>[^<]*)', page))
+    lines = dict(re.findall(r'<tr><td>([^<\n]*)<td>([^<\n]*<td>[^<\n]*)', page))
     asked = {
         'status': ran.status == 0,
         'pages': all(f'src="{name}.html"' in page and (out / f'{name}.html').exists() for name in 'mr'),
