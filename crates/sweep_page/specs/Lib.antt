@@ -1,6 +1,7 @@
 pub mod Points
 pub mod Table
 pub mod Items
+pub mod Goals
 pub mod Question
 pub mod Summary
 pub mod Front

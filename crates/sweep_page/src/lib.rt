@@ -3,6 +3,7 @@
 
 mod front;
 mod front_points;
+mod goal_words;
 mod items;
 mod layout;
 mod marks;
