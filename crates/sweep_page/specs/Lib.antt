@@ -2,6 +2,8 @@ pub mod Points
 pub mod Table
 pub mod Items
 pub mod Goals
+pub mod Others
+pub mod Best
 pub mod Question
 pub mod Summary
 pub mod Front

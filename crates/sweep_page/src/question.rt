@@ -6,6 +6,8 @@ ghost use Rattle.goals.specs.Wants.{HasFewRuns, IsBounded};
 ghost use Rattle.sweep_page.specs.Goals.{goal_item};
 ghost use Rattle.sweep_page.specs.Question.{answer, best_answer, goals_words, is_open, more_needed, needed_words, no_answer, open_answer, open_item, open_item_at, open_item_of, question, question_figure, runs_needed, unmet_answer};
 
+use crate::best::push_best_more_at;
+use crate::front_points::FrontPoint;
 use crate::goal_words::push_goal;
 use crate::items::{push_caution_at, push_item_at};
 use base::Memory;
@@ -36,17 +38,21 @@ pub(crate) fn push_question(
     plan: &Plan,
     asked: &Question<'_>,
     settings: &[SettingSummary],
+    front: &[bool],
+    points: &[FrontPoint],
     crashed: bool,
 ) -> Result<(), Memory>
     requires bounded { All IsBounded asked.now.wants.now }
     requires few { All HasFewRuns settings.now }
     ensures { OnOk result (string_bytes text.new ≡ string_bytes text.old
-        ++ question time crashed plan.now.swept_keys asked.now.wants.now settings.now asked.now.best) }
+        ++ question time crashed plan.now.swept_keys asked.now.wants.now settings.now front.now points.now asked.now.best) }
 {
     if asked.wants.is_empty() {
         return Ok(());
     }
-    push_question_figure(alloc, text, time, plan, asked, settings, crashed)
+    push_question_figure(
+        alloc, text, time, plan, asked, settings, front, points, crashed,
+    )
 }
 
 /// Appends the section.
@@ -58,16 +64,20 @@ fn push_question_figure(
     plan: &Plan,
     asked: &Question<'_>,
     settings: &[SettingSummary],
+    front: &[bool],
+    points: &[FrontPoint],
     crashed: bool,
 ) -> Result<(), Memory>
     requires bounded { All IsBounded asked.now.wants.now }
     requires few { All HasFewRuns settings.now }
     ensures { OnOk result (string_bytes text.new ≡ string_bytes text.old
-        ++ question_figure time crashed plan.now.swept_keys asked.now.wants.now settings.now asked.now.best) }
+        ++ question_figure time crashed plan.now.swept_keys asked.now.wants.now settings.now front.now points.now asked.now.best) }
 {
     open_figure(text, "answer", "The question and its answer")?;
     push_goals(text, asked.wants)?;
-    push_answer(alloc, text, time, plan, asked, settings, crashed)?;
+    push_answer(
+        alloc, text, time, plan, asked, settings, front, points, crashed,
+    )?;
     close_figure(text)?;
     Ok(())
 }
@@ -105,31 +115,50 @@ fn push_answer(
     plan: &Plan,
     asked: &Question<'_>,
     settings: &[SettingSummary],
+    front: &[bool],
+    points: &[FrontPoint],
     crashed: bool,
 ) -> Result<(), Memory>
     requires bounded { All IsBounded asked.now.wants.now }
     requires few { All HasFewRuns settings.now }
     ensures { OnOk result (string_bytes text.new ≡ string_bytes text.old
-        ++ answer time crashed plan.now.swept_keys asked.now.wants.now settings.now asked.now.best) }
+        ++ answer time crashed plan.now.swept_keys asked.now.wants.now settings.now front.now points.now asked.now.best) }
 {
     match asked.best {
-        Some(place) => push_best(alloc, text, time, plan, settings, crashed, place),
+        Some(place) => push_best(
+            alloc,
+            text,
+            time,
+            plan,
+            asked.wants,
+            settings,
+            front,
+            points,
+            crashed,
+            place,
+        ),
         None => push_unmet(alloc, text, plan, asked.wants, settings),
     }
 }
 
-/// Appends the best setting.
+/// Appends the best setting, and what is said of it.
 #[tactic(auto, unfolding(crate::specs::Question::best_answer))]
 fn push_best(
     alloc: Global,
     text: &mut String,
     time: Option<Tick>,
     plan: &Plan,
+    wants: &[Want<'_>],
     settings: &[SettingSummary],
+    front: &[bool],
+    points: &[FrontPoint],
     crashed: bool,
     place: usize,
 ) -> Result<(), Memory>
-    ensures { OnOk result (string_bytes text.new ≡ string_bytes text.old ++ best_answer time crashed plan.now.swept_keys settings.now place) }
+    requires bounded { All IsBounded wants.now }
+    requires few { All HasFewRuns settings.now }
+    ensures { OnOk result (string_bytes text.new ≡ string_bytes text.old
+        ++ best_answer time crashed plan.now.swept_keys wants.now settings.now front.now points.now place) }
 {
     push_markup(
         text,
@@ -139,6 +168,9 @@ fn push_best(
     push_item_at(alloc, text, time, plan, settings, crashed, place)?;
     push_markup(text, "</ol>\n")?;
     push_caution_at(text, settings, place)?;
+    push_best_more_at(
+        alloc, text, plan, wants, settings, front, points, crashed, place,
+    )?;
     Ok(())
 }
 

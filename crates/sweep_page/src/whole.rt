@@ -80,7 +80,9 @@ fn push_page(
         ++ page_over shown.now.tick shown.now.name.now shown.now.release.now plan.now question.now.wants.now question.now.best settings.now front.now crashed points.now) }
 {
     push_head(text, shown.name)?;
-    push_question(alloc, text, shown.tick, plan, question, settings, crashed)?;
+    push_question(
+        alloc, text, shown.tick, plan, question, settings, front, points, crashed,
+    )?;
     push_summary(alloc, text, shown.tick, plan, settings, crashed, points)?;
     push_front_where(
         alloc, text, shown.tick, plan, settings, front, points, crashed,
