@@ -5,6 +5,8 @@ Written from docs/PAGES.md ("The page of a sweep"); how it looks is the style's,
 """
 
 from collections import namedtuple
+from decimal import Decimal
+from fractions import Fraction
 
 from model_drawing import (FIGURE_END, axis_across, axis_up, cells, escaped, figure, grouped, heads, lasting, page_opening, place,
                            plot, time_alone)
@@ -13,21 +15,22 @@ from model_sweep_times import times_figure
 
 # what the figures of keys show of a case, and how its 5th percentile, median and 95th percentile are called in its JSON object
 STATISTICS = (('First suspected', 'suspect'), ('First confirmed', 'confirm'), ('Last confirmed', 'last'))
-# so many cases are told in words, and so many lines drawn in a plot, at the most
-MOST_TOLD, MOST_LINES = 12, 8
+# so many cases are told in words, so many lines drawn in a plot, and so many other cases named, at the most
+MOST_TOLD, MOST_LINES, MOST_NAMED = 12, 8, 3
 
-# the statistics of which something may be wanted, in words
+# the statistics of which something may be wanted, in words up to the bound
+CRASHES = 'over all crashes of all its runs is at most'
 WANTED = {
-    'out': 'share of runs with a false death',
-    'suspect_p50': 'ticks until a crash is first suspected, median',
-    'confirm_p50': 'ticks until a crash is first confirmed, median',
-    'confirm_p99': 'ticks until a crash is first confirmed, 99th percentile',
-    'confirm_greatest': 'ticks until a crash is first confirmed, greatest',
-    'last_p50': 'ticks until a crash is last confirmed, median',
-    'last_greatest': 'ticks until a crash is last confirmed, greatest',
-    'false_suspect': 'false suspicions per run',
-    'thrown_out': 'members with a false death in all runs',
-    'messages': 'messages per member per 1,000 ticks',
+    'out': 'Share of its runs with a false death: its whole 95&nbsp;% interval is at most',
+    'suspect_p50': f'Ticks until a crash is first suspected: the median {CRASHES}',
+    'confirm_p50': f'Ticks until a crash is first confirmed: the median {CRASHES}',
+    'confirm_p99': f'Ticks until a crash is first confirmed: the 99th percentile {CRASHES}',
+    'confirm_greatest': f'Ticks until a crash is first confirmed: the greatest number {CRASHES}',
+    'last_p50': f'Ticks until a crash is last confirmed: the median {CRASHES}',
+    'last_greatest': f'Ticks until a crash is last confirmed: the greatest number {CRASHES}',
+    'false_suspect': 'False suspicions per run: the average over all its runs is at most',
+    'thrown_out': 'Members with a false death: the sum over all its runs is at most',
+    'messages': 'Messages per member per 1,000 ticks: the average over all its runs is at most',
 }
 # how far a safe setting's interval reaches at most, in thousandths
 SAFE = 50
@@ -54,6 +57,11 @@ class Shown:
         self.is_best = told['front']
         self.told = told
 
+    def figures(self, crashed):
+        """What its item shows, but for its name."""
+        speed = (self.confirmed,) if crashed else (self.deaths, self.few_deaths, self.many_deaths)
+        return (*speed, self.runs_with, self.runs, self.messages)
+
     def safety(self):
         return 'safe' if self.high <= SAFE else 'unsafe' if self.low > SAFE else 'unknown'
 
@@ -78,6 +86,15 @@ def interval(case):
 
 def interval_of_deaths(case):
     return f'{rate(case.few_deaths)} to {rate(case.many_deaths)}'
+
+
+def bound_of(want):
+    """The bound of a goal, of a share in percent."""
+    name, _, word = want.partition('<=')
+    bound = Decimal(word) * (100 if name == 'out' else 1)
+    front, _, back = f'{bound:f}'.partition('.')
+    back = back.rstrip('0')
+    return grouped(min(int(front), 2 ** 64 - 1)) + (f'.{back}' if back else '') + ('&nbsp;%' if name == 'out' else '')
 
 
 def of_runs(case):
@@ -143,9 +160,9 @@ class Page:
         if not self.wants:
             return ''
         text = figure('answer', 'The question and its answer')
-        text += '<p class="lead">Is there a setting with</p><ul class="goals">'
+        text += '<p class="lead">Is there a setting that meets all of these goals?</p><ul class="goals">'
         for want in self.wants:
-            text += f'<li>{WANTED[want.partition("<=")[0]]}: <code>{escaped(want)}</code></li>'
+            text += f'<li>{WANTED[want.partition("<=")[0]]} <b>{bound_of(want)}</b> <code>{escaped(want)}</code></li>'
         return text + '</ul>\n' + self.answer() + FIGURE_END
 
     def answer(self):
@@ -153,7 +170,7 @@ class Page:
         may = [at for at, case in enumerate(self.cases) if case.told['meets'] == 'may']
         if best:
             return ('<p class="lead">Yes. Of the settings that are shown to meet all of this, the best is</p><ol class="answers">'
-                    f'{self.item(best[0])}</ol>\n{self.caution(best[0])}')
+                    f'{self.item(best[0])}</ol>\n{self.caution(best[0])}{self.ties(best[0])}{self.absence(best[0])}')
         if not may:
             return '<p class="lead">No. Each setting that was tried is shown to miss one of these goals.</p>\n'
         text = ('<p class="lead">No setting is shown to meet all of this yet. These may; so many more runs of each would decide, if '
@@ -167,6 +184,48 @@ class Page:
         told = (f'But it is unsafe: the whole {interval_of_share} is above 5&nbsp;%.' if safety == 'unsafe' else
                 f'Whether it is safe is unknown: the {interval_of_share} reaches above 5&nbsp;%.')
         return f'<p class="lead">{told} The goals allow that.</p>\n'
+
+    def ties(self, best):
+        """Which others have the figures of the best one, and meet all that is wanted."""
+        mine = self.cases[best].figures(self.crashed)
+        equal = [at for at, case in enumerate(self.cases)
+                 if at > best and case.told['meets'] == 'yes' and case.figures(self.crashed) == mine]
+        if not equal:
+            return ''
+        return f'<p class="ties">Equally good by these figures: {counted(len(equal), "more setting:", "more settings:")}{self.others(equal)}.</p>\n'
+
+    def absence(self, best):
+        """Why the best one isn't among those that the trade-off lists."""
+        if best in [at for _, at in self.front[:MOST_TOLD]]:
+            return ''
+        begin, case = '<p class="ties">The trade-off doesn\'t list it, since', self.cases[best]
+        if self.across(case) is None:
+            return f'{begin} {"it confirms fewer than half of its crashes" if self.crashed else "its runs end at moment 0"}.</p>\n'
+        if case.is_best:
+            order = 'fastest' if self.crashed else 'fewest messages'
+            return f'<p class="ties">It is on the front, but the trade-off lists the first {MOST_TOLD} settings there, {order} first.</p>\n'
+        beating = [at for at, other in enumerate(self.cases) if self.beats(other, case)]
+        if self.crashed:
+            one = ('is at least as fast and at least as safe, and better in one of the two. It isn\'t shown to meet all of this, '
+                   'or it is as fast and sends no fewer messages:')
+            several = ('are at least as fast and at least as safe, and better in one of the two. Each isn\'t shown to meet all of this, '
+                       'or it is as fast and sends no fewer messages:')
+        else:
+            one = ('sends at most as many messages and is at least as safe, and is better in one of the two. It isn\'t shown to meet '
+                   'all of this:')
+            several = ('send at most as many messages and are at least as safe, and are better in one of the two. None of them is shown '
+                       'to meet all of this:')
+        return f'{begin} {counted(len(beating), f"other setting {one}", f"other settings {several}")}{self.others(beating)}.</p>\n'
+
+    def beats(self, case, other):
+        """One case beats another: it costs no more, its share is no greater, and one of the two is less."""
+        mine, yours = [(float('inf') if self.across(it) is None else self.across(it), Fraction(it.runs_with, it.runs)) for it in (case, other)]
+        return mine != yours and mine[0] <= yours[0] and mine[1] <= yours[1]
+
+    def others(self, places):
+        """The first of these cases by their numbers and names, and how many more there are."""
+        text = ''.join(f' <span class="number">{grouped(at + 1)}</span> <code>{self.name(at)}</code>' for at in places[:MOST_NAMED])
+        return text + (f' and {grouped(len(places) - MOST_NAMED)} more' if len(places) > MOST_NAMED else '')
 
     def open_item(self, at):
         # a setting that may meet all is open in the share alone
@@ -185,22 +244,24 @@ class Page:
 
     def trade_off(self):
         if not self.front:
-            none = 'No setting confirms half of its crashes.' if self.crashed else 'Each run ends at moment 0, so there is nothing to compare.'
+            none = ('No setting confirms half of its crashes, so none is listed or plotted by its speed.' if self.crashed else
+                    'Each run ends at moment 0, so there is nothing to compare or to plot.')
             return f'<p class="lead">{none}</p>\n'
         text = ('<p class="lead">These settings confirm half of their crashes, and no other setting beats them: none is at least as '
-                'fast and at least as safe, and better in one of the two. The further down, the slower and the safer.</p>'
+                'fast and at least as safe, and better in one of the two. The further down, the slower and the safer; some may be equal in both.</p>'
                 if self.crashed else
                 '<p class="lead">No run has a crash, so settings are compared by their false deaths and their messages. No other '
                 'setting beats these: none sends at most as many messages and is at least as safe, and is better in one of the '
-                'two. The further down, the more messages and the safer.</p>')
+                'two. The further down, the more messages and the safer; some may be equal in both.</p>')
         text += ('<p class="soft">A false death: a member that has neither crashed nor left is declared dead. Safe: the whole '
                  '95&nbsp;% interval of the share of runs with a false death is at most 5&nbsp;%. Unsafe: the whole interval is '
                  'above 5&nbsp;%. Unknown: only a part of it is, so more runs would decide. A range in parentheses: the 95&nbsp;% interval.</p>'
                  '<ol class="answers">')
         text += ''.join(self.item(at) for _, at in self.front[:MOST_TOLD]) + '</ol>\n'
         if len(self.front) > MOST_TOLD:
-            more = counted(len(self.front) - MOST_TOLD, 'more setting is', 'more settings are')
-            text += f'<p class="soft">{more} on the front; the table of all settings has a star there.</p>\n'
+            order = 'fastest' if self.crashed else 'fewest messages'
+            more = counted(len(self.front) - MOST_TOLD, 'more is', 'more are')
+            text += f'<p class="soft">These are the first {MOST_TOLD} settings on the front, {order} first. {more} on it: all have a star in the table of all settings.</p>\n'
         return text
 
     def item(self, at):
@@ -215,6 +276,8 @@ class Page:
     # every case by its speed, or its messages, and its safety
 
     def front_figure(self):
+        if not self.front:
+            return ''
         across = max([1] + [self.across(case) or 0 for case in self.cases])
         across += across // 16
         up = max([10] + [case.high for case in self.cases])
@@ -256,13 +319,17 @@ class Page:
 
     def front_table(self):
         text = folded('The front in numbers', 'The settings on the front',
-                      ('number', 'setting', 'confirmed, median', 'runs with a false death', 'their share', '95&nbsp;% interval',
+                      ('number', 'setting', *self.times(('confirmed, median',)), 'runs with a false death', 'their share', '95&nbsp;% interval',
                        'members with a false death per run', 'their 95&nbsp;% interval', 'messages per member per 1,000 ticks'))
         for _, at in self.front:
             case = self.cases[at]
-            values = (self.name(at), self.time(case.confirmed), *self.shares(case), rate(case.messages))
+            values = (self.name(at), *self.times((self.time(case.confirmed),)), *self.shares(case), rate(case.messages))
             text += f'<tr>{row_head(grouped(at + 1))}{cells("td", values)}</tr>'
         return text + FOLDED_END
+
+    def times(self, columns):
+        """Columns of times: none where no run has a crash."""
+        return columns if self.crashed else ()
 
     def shares(self, case):
         return of_runs(case), percent(case.share), interval(case), rate(case.deaths), interval_of_deaths(case)
@@ -290,14 +357,15 @@ class Page:
     # all cases
 
     def table(self):
-        columns = ['number', *(key.replace('.', '.<wbr>') for key, _ in self.settings), 'confirmed, median', 'runs with a false death',
-                   'their share', '95&nbsp;% interval', 'members with a false death per run', 'their 95&nbsp;% interval', 'suspected, median',
-                   'confirmed, 99th percentile', 'confirmed, greatest', 'last confirmed, median', 'last confirmed, greatest',
-                   'false suspicions per run', 'messages per member per 1,000 ticks']
+        late = ('suspected, median', 'confirmed, 99th percentile', 'confirmed, greatest', 'last confirmed, median', 'last confirmed, greatest')
+        columns = ['number', *(key.replace('.', '.<wbr>') for key, _ in self.settings), *self.times(('confirmed, median',)),
+                   'runs with a false death', 'their share', '95&nbsp;% interval', 'members with a false death per run',
+                   'their 95&nbsp;% interval', *self.times(late), 'false suspicions per run', 'messages per member per 1,000 ticks']
         text = figure('cases', 'All settings')
         since = 'counted from the crash on' if self.tick else 'in ticks since the crash'
-        text += (f'<p class="soft">Times are {since}, over all crashes of all runs; a dash stands where too few '
-                 'crashes were detected. Starred settings are on the front.</p>')
+        told = (f'Times are {since}, over all crashes of all runs; a dash stands where too few crashes were detected.' if self.crashed else
+                'No run has a crash, so the columns and the plots of times since a crash are left out.')
+        text += f'<p class="soft">{told} Starred settings are on the front.</p>'
         text += f'<div class="wide"><table><caption>All settings</caption><thead><tr>{heads(columns)}</tr></thead><tbody>\n'
         text += ''.join(self.row(at, case) for at, case in enumerate(self.cases))
         return text + '</tbody></table></div></section>\n'
@@ -305,8 +373,8 @@ class Page:
     def row(self, at, case):
         begin, star = ('<tr class="best">', '&#9733;&nbsp;') if case.is_best else ('<tr>', '')
         times = (case.suspected, case.late, case.latest, case.last, case.last_latest)
-        values = (*map(word, self.choices[at]), self.time(case.confirmed), *self.shares(case), *map(self.time, times), rate(case.false),
-                  rate(case.messages))
+        values = (*map(word, self.choices[at]), *self.times((self.time(case.confirmed),)), *self.shares(case),
+                  *self.times(tuple(map(self.time, times))), rate(case.false), rate(case.messages))
         return f'{begin}{row_head(star + grouped(at + 1))}{cells("td", values)}</tr>\n'
 
 

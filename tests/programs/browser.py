@@ -25,6 +25,7 @@ RUNS = (('crash', []), ('slow-member-without-lifeguard', []), ('cut-between-site
         ('three-sites-wan', []), ('quiet', []), ('three-sites', UNITS), ('three-sites-lan', UNITS))
 SWEEPS = (('slow-member', ['--seeds', '1..5', '--set', 'suspicion.alpha=2,4,6', '--set', 'swim.helpers=0,3']),
           ('crash', ['--seeds', '1..3', '--want', 'out<=0.1', '--want', 'messages<=5']),
+          ('quiet', ['--seeds', '1..3', '--set', 'swim.period=1000,2000', '--set', 'swim.helpers=0,3', '--want', 'out<=1', '--want', 'messages<=2.5']),
           ('three-sites-stops', ['--seeds', '1..3', '--set', 'swim.period=1000,2000', '--set', 'pause.eu-3.until=16000,19000',
                                  '--set', 'suspicion.alpha+lifeguard.confirmations=3+1,4+2', *UNITS]))
 WIDTHS, SCHEMES = (1280, 400), ('light', 'dark')

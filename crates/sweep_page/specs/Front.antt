@@ -129,23 +129,34 @@ plane reach settings front points =
     markup (codes "<div class=\"plane\">") ++ plane_opening reach ++ all_marks reach settings front false ++ joined reach points ++ all_marks reach settings front true ++ plot_end
     ++ flat_map (number_mark reach) points ++ markup (codes "</div>")
 
+-- the cell of a time, where runs have crashes
+unfoldable pub confirm_cell : Option Tick → Bool → SettingSummary → List ℕ
+confirm_cell time crashed setting = if crashed then time_cell time setting.confirm_p50 else []
+
 -- the row of a setting on the front
-unfoldable pub front_row : Option Tick → List KeyValues → ℕ → SettingSummary → List ℕ
-front_row time swept_keys place setting =
-    markup (codes "<tr><th scope=\"row\">") ++ number_words place ++ markup (codes "</th><td>") ++ swept_keys_at swept_keys place ++ markup (codes "</td>") ++ time_cell time setting.confirm_p50
+unfoldable pub front_row : Option Tick → Bool → List KeyValues → ℕ → SettingSummary → List ℕ
+front_row time crashed swept_keys place setting =
+    markup (codes "<tr><th scope=\"row\">") ++ number_words place ++ markup (codes "</th><td>") ++ swept_keys_at swept_keys place ++ markup (codes "</td>") ++ confirm_cell time crashed setting
     ++ share_cells setting ++ markup (codes "<td>") ++ rate_words setting.messages ++ markup (codes "</td></tr>")
 
 -- that of a setting by its place
-unfoldable pub front_row_of : Option Tick → List KeyValues → List SettingSummary → FrontPoint → List ℕ
-front_row_of time swept_keys settings p = option_map_or (front_row time swept_keys p.place) (slice_get settings p.place) []
+unfoldable pub front_row_of : Option Tick → Bool → List KeyValues → List SettingSummary → FrontPoint → List ℕ
+front_row_of time crashed swept_keys settings p = option_map_or (front_row time crashed swept_keys p.place) (slice_get settings p.place) []
 
 -- what its columns are
-unfoldable pub front_heads : List ℕ
-front_heads = codes "<details><summary>The front in numbers</summary><div class=\"wide\"><table><caption>The settings on the front</caption><thead><tr><th scope=\"col\">number</th><th scope=\"col\">setting</th><th scope=\"col\">confirmed, median</th><th scope=\"col\">runs with a false death</th><th scope=\"col\">their share</th><th scope=\"col\">95&nbsp;% interval</th><th scope=\"col\">members with a false death per run</th><th scope=\"col\">their 95&nbsp;% interval</th><th scope=\"col\">messages per member per 1,000 ticks</th></tr></thead><tbody>"
+unfoldable pub heads_opening : List ℕ
+heads_opening = codes "<details><summary>The front in numbers</summary><div class=\"wide\"><table><caption>The settings on the front</caption><thead><tr><th scope=\"col\">number</th><th scope=\"col\">setting</th>"
+
+unfoldable pub confirm_head : Bool → List ℕ
+confirm_head crashed = if crashed then codes "<th scope=\"col\">confirmed, median</th>" else []
+
+unfoldable pub heads_end : List ℕ
+heads_end = codes "<th scope=\"col\">runs with a false death</th><th scope=\"col\">their share</th><th scope=\"col\">95&nbsp;% interval</th><th scope=\"col\">members with a false death per run</th><th scope=\"col\">their 95&nbsp;% interval</th><th scope=\"col\">messages per member per 1,000 ticks</th></tr></thead><tbody>"
 
 -- the figures of the front, folded
-unfoldable pub front_table : Option Tick → List KeyValues → List SettingSummary → List FrontPoint → List ℕ
-front_table time swept_keys settings points = front_heads ++ flat_map (front_row_of time swept_keys settings) points ++ markup (codes "</tbody></table></div></details>")
+unfoldable pub front_table : Option Tick → Bool → List KeyValues → List SettingSummary → List FrontPoint → List ℕ
+front_table time crashed swept_keys settings points =
+    heads_opening ++ confirm_head crashed ++ heads_end ++ flat_map (front_row_of time crashed swept_keys settings) points ++ markup (codes "</tbody></table></div></details>")
 
 -- what the plot shows, where runs have crashes, and where none has
 unfoldable pub speed_words : List ℕ
@@ -177,4 +188,8 @@ front_heading crashed = if crashed then codes "Fast or safe: every setting" else
 -- the whole figure
 unfoldable pub front_figure : Option Tick → Bool → List KeyValues → List SettingSummary → List Bool → List FrontPoint → List ℕ
 front_figure time crashed swept_keys settings front points =
-    figure_opening (codes "front") (front_heading crashed) ++ front_words crashed ++ front_chart time (reach_of crashed settings) settings front points ++ front_table time swept_keys settings points ++ figure_end
+    figure_opening (codes "front") (front_heading crashed) ++ front_words crashed ++ front_chart time (reach_of crashed settings) settings front points ++ front_table time crashed swept_keys settings points ++ figure_end
+
+-- nothing where no setting is on the front, since none has a place in the plot then
+unfoldable pub front_where : Option Tick → Bool → List KeyValues → List SettingSummary → List Bool → List FrontPoint → List ℕ
+front_where time crashed swept_keys settings front points = if length points == 0 then [] else front_figure time crashed swept_keys settings front points

@@ -1,6 +1,9 @@
 pub mod Points
 pub mod Table
 pub mod Items
+pub mod Goals
+pub mod Others
+pub mod Best
 pub mod Question
 pub mod Summary
 pub mod Front

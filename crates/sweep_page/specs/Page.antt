@@ -7,7 +7,7 @@ use Rattle.drawing.specs.Escaped.{escaped, markup}
 use Rattle.drawing.specs.Pages.{page_opening}
 use Rattle.figures.specs.declared.summary.SettingSummary.{SettingSummary}
 use Rattle.sweep_keys.specs.Keys.{key_figures}
-use Rattle.sweep_page.specs.Front.{front_figure}
+use Rattle.sweep_page.specs.Front.{front_where}
 use Rattle.sweep_page.specs.Points.{front_points, places_of}
 use Rattle.sweep_page.specs.Question.{question}
 use Rattle.sweep_page.specs.Style.{page_style}
@@ -35,8 +35,8 @@ times_where time crashed sweep settings points = if crashed then time_figures ti
 -- the page from its head to its end, with these settings on the front, in this order, and whether a run has a crash
 unfoldable pub page_over : Option Tick → List ℕ → List ℕ → Sweep → List Want → Option ℕ → List SettingSummary → List Bool → Bool → List FrontPoint → List ℕ
 page_over time name release sweep wants best settings front crashed points =
-    page_head name ++ question time crashed sweep.swept_keys wants settings best ++ summary time crashed sweep settings points ++ front_figure time crashed sweep.swept_keys settings front points
-    ++ times_where time crashed sweep settings points ++ table time sweep.swept_keys settings front ++ page_end release
+    page_head name ++ question time crashed sweep.swept_keys wants settings front points best ++ summary time crashed sweep settings points ++ front_where time crashed sweep.swept_keys settings front points
+    ++ times_where time crashed sweep settings points ++ table time crashed sweep.swept_keys settings front ++ page_end release
 
 -- the page of a sweep of the scenario with this name, of the summaries of its settings, of which are on the front, and of what is wanted of them: of those that
 -- meet all, the best stands at this place

@@ -3,37 +3,21 @@ use Rattle.std.specs.Prelude.{ℕ, Bool, ◌==◌, if◌then◌else◌, List, []
 use Rattle.std.specs.List.{flat_map, list_any, range_with_len}
 use Rattle.std.specs.Option.{option_map_or}
 use Rattle.goals.specs.Wants.{may_meet, more_runs}
-use Rattle.goals.specs.declared.statistic.Statistic.{Statistic}
-use Rattle.goals.specs.declared.statistic.Statistic.TheVariants.{Out, SuspectP50, ConfirmP50, ConfirmP99, ConfirmGreatest, LastP50, LastGreatest, FalseSuspect, ThrownOut, Messages}
 use Rattle.goals.specs.declared.want.Want.{Want}
 use Rattle.sweep_plan.specs.Sweep.{KeyValues}
-use Rattle.drawing.specs.Escaped.{escaped, markup}
+use Rattle.drawing.specs.Escaped.{markup}
 use Rattle.drawing.specs.Shapes.{figure_opening, figure_end}
 use Rattle.figures.specs.declared.summary.SettingSummary.{SettingSummary}
 use Rattle.sweep_cells.specs.Words.{number_words, swept_keys_at}
+use Rattle.sweep_page.specs.Best.{best_more_at}
+use Rattle.sweep_page.specs.Goals.{goal_item}
 use Rattle.sweep_page.specs.Items.{caution_at, item_at}
+use Rattle.sweep_page.specs.declared.front_points.FrontPoint.{FrontPoint}
 use Rattle.ticks.specs.declared.tick.Tick.{Tick}
 
--- what a statistic is, in words
-unfoldable pub statistic_words : Statistic → List ℕ
-statistic_words Out = codes "share of runs with a false death"
-statistic_words SuspectP50 = codes "ticks until a crash is first suspected, median"
-statistic_words ConfirmP50 = codes "ticks until a crash is first confirmed, median"
-statistic_words ConfirmP99 = codes "ticks until a crash is first confirmed, 99th percentile"
-statistic_words ConfirmGreatest = codes "ticks until a crash is first confirmed, greatest"
-statistic_words LastP50 = codes "ticks until a crash is last confirmed, median"
-statistic_words LastGreatest = codes "ticks until a crash is last confirmed, greatest"
-statistic_words FalseSuspect = codes "false suspicions per run"
-statistic_words ThrownOut = codes "members with a false death in all runs"
-statistic_words Messages = codes "messages per member per 1,000 ticks"
-
--- one that is wanted
-unfoldable pub goal_item : Want → List ℕ
-goal_item want = markup (codes "<li>") ++ markup (statistic_words want.statistic) ++ markup (codes ": <code>") ++ escaped want.word.now ++ markup (codes "</code></li>")
-
--- all of them
+-- all that is wanted, in words
 unfoldable pub goals_words : List Want → List ℕ
-goals_words wants = markup (codes "<p class=\"lead\">Is there a setting with</p><ul class=\"goals\">") ++ flat_map goal_item wants ++ markup (codes "</ul>\n")
+goals_words wants = markup (codes "<p class=\"lead\">Is there a setting that meets all of these goals?</p><ul class=\"goals\">") ++ flat_map goal_item wants ++ markup (codes "</ul>\n")
 
 -- how many more runs would decide whether a setting meets them
 unfoldable pub needed_words : ℕ → List ℕ
@@ -76,22 +60,22 @@ no_answer = codes "<p class=\"lead\">No. Each setting that was tried is shown to
 unfoldable pub unmet_answer : List KeyValues → List Want → List SettingSummary → List ℕ
 unmet_answer swept_keys wants settings = if is_open wants settings then open_answer swept_keys wants settings else no_answer
 
--- the best of those that meet them, and whether it is safe
-unfoldable pub best_answer : Option Tick → Bool → List KeyValues → List SettingSummary → ℕ → List ℕ
-best_answer time crashed swept_keys settings place =
+-- the best of those that meet them, whether it is safe, which are as good, and why the trade-off doesn't list it
+unfoldable pub best_answer : Option Tick → Bool → List KeyValues → List Want → List SettingSummary → List Bool → List FrontPoint → ℕ → List ℕ
+best_answer time crashed swept_keys wants settings front points place =
     markup (codes "<p class=\"lead\">Yes. Of the settings that are shown to meet all of this, the best is</p><ol class=\"answers\">") ++ item_at time crashed swept_keys settings place ++ markup (codes "</ol>\n")
-    ++ caution_at settings place
+    ++ caution_at settings place ++ best_more_at crashed swept_keys wants settings front points place
 
 -- the answer, where the best setting, if there is one, stands at this place
-abbrev pub answer : Option Tick → Bool → List KeyValues → List Want → List SettingSummary → Option ℕ → List ℕ
-answer time crashed swept_keys wants settings (Some place) = best_answer time crashed swept_keys settings place
-answer time crashed swept_keys wants settings None = unmet_answer swept_keys wants settings
+abbrev pub answer : Option Tick → Bool → List KeyValues → List Want → List SettingSummary → List Bool → List FrontPoint → Option ℕ → List ℕ
+answer time crashed swept_keys wants settings front points (Some place) = best_answer time crashed swept_keys wants settings front points place
+answer time crashed swept_keys wants settings front points None = unmet_answer swept_keys wants settings
 
 -- the section
-unfoldable pub question_figure : Option Tick → Bool → List KeyValues → List Want → List SettingSummary → Option ℕ → List ℕ
-question_figure time crashed swept_keys wants settings best =
-    figure_opening (codes "answer") (codes "The question and its answer") ++ goals_words wants ++ answer time crashed swept_keys wants settings best ++ figure_end
+unfoldable pub question_figure : Option Tick → Bool → List KeyValues → List Want → List SettingSummary → List Bool → List FrontPoint → Option ℕ → List ℕ
+question_figure time crashed swept_keys wants settings front points best =
+    figure_opening (codes "answer") (codes "The question and its answer") ++ goals_words wants ++ answer time crashed swept_keys wants settings front points best ++ figure_end
 
 -- nothing where nothing is wanted
-unfoldable pub question : Option Tick → Bool → List KeyValues → List Want → List SettingSummary → Option ℕ → List ℕ
-question time crashed swept_keys wants settings best = if length wants == 0 then [] else question_figure time crashed swept_keys wants settings best
+unfoldable pub question : Option Tick → Bool → List KeyValues → List Want → List SettingSummary → List Bool → List FrontPoint → Option ℕ → List ℕ
+question time crashed swept_keys wants settings front points best = if length wants == 0 then [] else question_figure time crashed swept_keys wants settings front points best

@@ -27,10 +27,10 @@ told_at time crashed swept_keys settings points place = option_map_or (λ (p : F
 
 -- what the list of them is, where runs have crashes, and where none has
 unfoldable pub speed_opening : List ℕ
-speed_opening = codes "<p class=\"lead\">These settings confirm half of their crashes, and no other setting beats them: none is at least as fast and at least as safe, and better in one of the two. The further down, the slower and the safer.</p>"
+speed_opening = codes "<p class=\"lead\">These settings confirm half of their crashes, and no other setting beats them: none is at least as fast and at least as safe, and better in one of the two. The further down, the slower and the safer; some may be equal in both.</p>"
 
 unfoldable pub messages_opening : List ℕ
-messages_opening = codes "<p class=\"lead\">No run has a crash, so settings are compared by their false deaths and their messages. No other setting beats these: none sends at most as many messages and is at least as safe, and is better in one of the two. The further down, the more messages and the safer.</p>"
+messages_opening = codes "<p class=\"lead\">No run has a crash, so settings are compared by their false deaths and their messages. No other setting beats these: none sends at most as many messages and is at least as safe, and is better in one of the two. The further down, the more messages and the safer; some may be equal in both.</p>"
 
 unfoldable pub front_opening : Bool → List ℕ
 front_opening crashed = if crashed then speed_opening else messages_opening
@@ -39,26 +39,29 @@ front_opening crashed = if crashed then speed_opening else messages_opening
 unfoldable pub safety_words : List ℕ
 safety_words = codes "<p class=\"soft\">A false death: a member that has neither crashed nor left is declared dead. Safe: the whole 95&nbsp;% interval of the share of runs with a false death is at most 5&nbsp;%. Unsafe: the whole interval is above 5&nbsp;%. Unknown: only a part of it is, so more runs would decide. A range in parentheses: the 95&nbsp;% interval.</p><ol class=\"answers\">"
 
--- how many more there are
-unfoldable pub more_words : ℕ → List ℕ
-more_words more =
-    markup (codes "<p class=\"soft\">") ++ count_words more (codes " more setting is") (codes " more settings are") ++ markup (codes " on the front; the table of all settings has a star there.</p>\n")
+-- which are listed, and how many more there are
+unfoldable pub listed_words : Bool → List ℕ
+listed_words crashed = if crashed then codes "<p class=\"soft\">These are the first 12 settings on the front, fastest first. " else codes "<p class=\"soft\">These are the first 12 settings on the front, fewest messages first. "
+
+unfoldable pub more_words : Bool → ℕ → List ℕ
+more_words crashed more =
+    markup (listed_words crashed) ++ count_words more (codes " more is") (codes " more are") ++ markup (codes " on it: all have a star in the table of all settings.</p>\n")
 
 -- nothing where there are none
-unfoldable pub untold_words : ℕ → List ℕ
-untold_words more = if more == 0 then [] else more_words more
+unfoldable pub untold_words : Bool → ℕ → List ℕ
+untold_words crashed more = if more == 0 then [] else more_words crashed more
 
 -- the first twelve of them, and how many more there are
 unfoldable pub told_words : Option Tick → Bool → List KeyValues → List SettingSummary → List FrontPoint → List ℕ
 told_words time crashed swept_keys settings points =
-    front_opening crashed ++ safety_words ++ flat_map (told_at time crashed swept_keys settings points) (range_with_len 0 (min (length points) 12)) ++ markup (codes "</ol>\n") ++ untold_words (length points - 12)
+    front_opening crashed ++ safety_words ++ flat_map (told_at time crashed swept_keys settings points) (range_with_len 0 (min (length points) 12)) ++ markup (codes "</ol>\n") ++ untold_words crashed (length points - 12)
 
 -- where there are none: no setting confirms half of its crashes, or none has moments in which messages could be sent
 unfoldable pub unconfirmed_words : List ℕ
-unconfirmed_words = codes "<p class=\"lead\">No setting confirms half of its crashes.</p>\n"
+unconfirmed_words = codes "<p class=\"lead\">No setting confirms half of its crashes, so none is listed or plotted by its speed.</p>\n"
 
 unfoldable pub momentless_words : List ℕ
-momentless_words = codes "<p class=\"lead\">Each run ends at moment 0, so there is nothing to compare.</p>\n"
+momentless_words = codes "<p class=\"lead\">Each run ends at moment 0, so there is nothing to compare or to plot.</p>\n"
 
 unfoldable pub none_words : Bool → List ℕ
 none_words crashed = if crashed then unconfirmed_words else momentless_words

@@ -32,10 +32,18 @@ unfoldable pub cost_cells : SettingSummary → List ℕ
 cost_cells setting = markup (codes "<td>") ++ hundredths_words setting.false_suspect ++ markup (codes "</td><td>") ++ rate_words setting.messages ++ markup (codes "</td>")
 
 -- the cells of a setting's figures
-unfoldable pub figure_cells : Option Tick → SettingSummary → List ℕ
-figure_cells time setting =
+unfoldable pub timed_cells : Option Tick → SettingSummary → List ℕ
+timed_cells time setting =
     time_cell time setting.confirm_p50 ++ share_cells setting ++ time_cell time setting.suspect_p50 ++ time_cell time setting.confirm_p99 ++ time_cell time setting.confirm_greatest ++ time_cell time setting.last_p50
     ++ time_cell time setting.last_greatest ++ cost_cells setting
+
+-- those of them that are no times
+unfoldable pub timeless_cells : SettingSummary → List ℕ
+timeless_cells setting = share_cells setting ++ cost_cells setting
+
+-- times are left out where no run has a crash
+unfoldable pub figure_cells : Option Tick → Bool → SettingSummary → List ℕ
+figure_cells time crashed setting = if crashed then timed_cells time setting else timeless_cells setting
 
 -- the cell of a value that a setting gives a key
 unfoldable pub value_cell : Choice → List ℕ
@@ -50,13 +58,13 @@ unfoldable pub row_opening : Bool → List ℕ
 row_opening marked = if marked then codes "<tr class=\"best\"><th scope=\"row\">&#9733;&nbsp;" else codes "<tr><th scope=\"row\">"
 
 -- the row of a setting
-unfoldable pub row : Option Tick → List KeyValues → ℕ → SettingSummary → Bool → List ℕ
-row time swept_keys place setting marked =
-    row_opening marked ++ number_words place ++ markup (codes "</th>") ++ value_cells swept_keys place ++ figure_cells time setting ++ markup (codes "</tr>\n")
+unfoldable pub row : Option Tick → Bool → List KeyValues → ℕ → SettingSummary → Bool → List ℕ
+row time crashed swept_keys place setting marked =
+    row_opening marked ++ number_words place ++ markup (codes "</th>") ++ value_cells swept_keys place ++ figure_cells time crashed setting ++ markup (codes "</tr>\n")
 
 -- the row of the setting at a place
-unfoldable pub row_at : Option Tick → List KeyValues → List SettingSummary → List Bool → ℕ → List ℕ
-row_at time swept_keys settings front place = option_map_or (λ setting. row time swept_keys place setting (is_marked front place)) (slice_get settings place) []
+unfoldable pub row_at : Option Tick → Bool → List KeyValues → List SettingSummary → List Bool → ℕ → List ℕ
+row_at time crashed swept_keys settings front place = option_map_or (λ setting. row time crashed swept_keys place setting (is_marked front place)) (slice_get settings place) []
 
 -- A character of a key's name; behind a dot the line may break. There is nothing to escape: names have small letters, digits, `_`, `-` and dots alone.
 abbrev pub name_char : ℕ → List ℕ
@@ -71,16 +79,32 @@ abbrev pub since_words : Option Tick → List ℕ
 since_words None = codes "in ticks since the crash"
 since_words (Some tick) = codes "counted from the crash on"
 
--- what the table is
-unfoldable pub table_words : Option Tick → List ℕ
-table_words time = markup (codes "<p class=\"soft\">Times are ") ++ markup (since_words time) ++ markup (codes ", over all crashes of all runs; a dash stands where too few crashes were detected. Starred settings are on the front.</p><div class=\"wide\"><table><caption>All settings</caption><thead><tr><th scope=\"col\">number</th>")
+-- what its figures are
+unfoldable pub timed_words : Option Tick → List ℕ
+timed_words time = markup (codes "<p class=\"soft\">Times are ") ++ markup (since_words time) ++ markup (codes ", over all crashes of all runs; a dash stands where too few crashes were detected. Starred settings are on the front.</p>")
+
+unfoldable pub timeless_words : List ℕ
+timeless_words = codes "<p class=\"soft\">No run has a crash, so the columns and the plots of times since a crash are left out. Starred settings are on the front.</p>"
+
+unfoldable pub table_words : Option Tick → Bool → List ℕ
+table_words time crashed = if crashed then timed_words time else timeless_words
+
+-- the table begins
+unfoldable pub table_opening : List ℕ
+table_opening = codes "<div class=\"wide\"><table><caption>All settings</caption><thead><tr><th scope=\"col\">number</th>"
 
 -- the words over the figures
-unfoldable pub figure_heads : List ℕ
-figure_heads = codes "<th scope=\"col\">confirmed, median</th><th scope=\"col\">runs with a false death</th><th scope=\"col\">their share</th><th scope=\"col\">95&nbsp;% interval</th><th scope=\"col\">members with a false death per run</th><th scope=\"col\">their 95&nbsp;% interval</th><th scope=\"col\">suspected, median</th><th scope=\"col\">confirmed, 99th percentile</th><th scope=\"col\">confirmed, greatest</th><th scope=\"col\">last confirmed, median</th><th scope=\"col\">last confirmed, greatest</th><th scope=\"col\">false suspicions per run</th><th scope=\"col\">messages per member per 1,000 ticks</th>"
+unfoldable pub timed_heads : List ℕ
+timed_heads = codes "<th scope=\"col\">confirmed, median</th><th scope=\"col\">runs with a false death</th><th scope=\"col\">their share</th><th scope=\"col\">95&nbsp;% interval</th><th scope=\"col\">members with a false death per run</th><th scope=\"col\">their 95&nbsp;% interval</th><th scope=\"col\">suspected, median</th><th scope=\"col\">confirmed, 99th percentile</th><th scope=\"col\">confirmed, greatest</th><th scope=\"col\">last confirmed, median</th><th scope=\"col\">last confirmed, greatest</th><th scope=\"col\">false suspicions per run</th><th scope=\"col\">messages per member per 1,000 ticks</th>"
+
+unfoldable pub timeless_heads : List ℕ
+timeless_heads = codes "<th scope=\"col\">runs with a false death</th><th scope=\"col\">their share</th><th scope=\"col\">95&nbsp;% interval</th><th scope=\"col\">members with a false death per run</th><th scope=\"col\">their 95&nbsp;% interval</th><th scope=\"col\">false suspicions per run</th><th scope=\"col\">messages per member per 1,000 ticks</th>"
+
+unfoldable pub figure_heads : Bool → List ℕ
+figure_heads crashed = if crashed then timed_heads else timeless_heads
 
 -- the table: a column for each key and each figure, a row for each setting
-unfoldable pub table : Option Tick → List KeyValues → List SettingSummary → List Bool → List ℕ
-table time swept_keys settings front =
-    figure_opening (codes "cases") (codes "All settings") ++ table_words time ++ flat_map key_head swept_keys ++ figure_heads ++ markup (codes "</tr></thead><tbody>\n")
-    ++ flat_map (row_at time swept_keys settings front) (range_with_len 0 (length settings)) ++ markup (codes "</tbody></table></div>") ++ figure_end
+unfoldable pub table : Option Tick → Bool → List KeyValues → List SettingSummary → List Bool → List ℕ
+table time crashed swept_keys settings front =
+    figure_opening (codes "cases") (codes "All settings") ++ table_words time crashed ++ table_opening ++ flat_map key_head swept_keys ++ figure_heads crashed ++ markup (codes "</tr></thead><tbody>\n")
+    ++ flat_map (row_at time crashed swept_keys settings front) (range_with_len 0 (length settings)) ++ markup (codes "</tbody></table></div>") ++ figure_end

@@ -4,7 +4,7 @@ ghost use Rattle.std.specs.List.{flat_map, range_with_len};
 ghost use Rattle.std.specs.String.{string_bytes};
 ghost use Rattle.drawing.specs.Axes.{at_ticks};
 ghost use Rattle.drawing.specs.Rounds.{round_step};
-ghost use Rattle.sweep_page.specs.Front.{axis_of, time_where, farthest, front_heading, highest, messages_words, most_messages, plane_title, plane_words, reach_of, speed_words, unit_words, share_tick, shares_up, plane, plane_opening, front_row, front_row_of, front_heads, front_table, front_words, front_chart, front_figure};
+ghost use Rattle.sweep_page.specs.Front.{axis_of, time_where, farthest, front_heading, highest, messages_words, most_messages, plane_title, plane_words, reach_of, speed_words, unit_words, share_tick, shares_up, plane, plane_opening, confirm_cell, confirm_head, front_row, front_row_of, heads_end, heads_opening, front_table, front_words, front_chart, front_figure, front_where};
 
 use crate::front_points::{FrontPoint, across_of};
 use crate::marks::{push_joined, push_marks, push_numbers};
@@ -92,10 +92,31 @@ fn most_messages(settings: &[SettingSummary]) -> u128
     most
 }
 
+/// Appends the figure of all settings; nothing where no setting is on the front, since none has a place
+/// in the plot then.
+#[tactic(auto, unfolding(crate::specs::Front::front_where))]
+pub(crate) fn push_front_where(
+    alloc: Global,
+    text: &mut String,
+    time: Option<Tick>,
+    plan: &Plan,
+    settings: &[SettingSummary],
+    front: &[bool],
+    points: &[FrontPoint],
+    crashed: bool,
+) -> Result<(), Memory>
+    ensures { OnOk result (string_bytes text.new ≡ string_bytes text.old ++ front_where time crashed plan.now.swept_keys settings.now front.now points.now) }
+{
+    if points.is_empty() {
+        return Ok(());
+    }
+    push_front(alloc, text, time, plan, settings, front, points, crashed)
+}
+
 /// Appends the plot of all settings, those on the front joined and named, and their figures in a
 /// table.
 #[tactic(auto, unfolding(crate::specs::Front::front_figure))]
-pub(crate) fn push_front(
+fn push_front(
     alloc: Global,
     text: &mut String,
     time: Option<Tick>,
@@ -111,7 +132,7 @@ pub(crate) fn push_front(
     open_figure(text, "front", front_heading(crashed))?;
     push_words(text, crashed)?;
     push_chart(text, time, settings, front, points, &reach)?;
-    push_rows(alloc, text, time, plan, settings, points)?;
+    push_rows(alloc, text, time, plan, settings, points, crashed)?;
     close_figure(text)?;
     Ok(())
 }
@@ -322,25 +343,48 @@ fn push_rows(
     plan: &Plan,
     settings: &[SettingSummary],
     points: &[FrontPoint],
+    crashed: bool,
 ) -> Result<(), Memory>
-    ensures { OnOk result (string_bytes text.new ≡ string_bytes text.old ++ front_table time plan.now.swept_keys settings.now points.now) }
+    ensures { OnOk result (string_bytes text.new ≡ string_bytes text.old ++ front_table time crashed plan.now.swept_keys settings.now points.now) }
 {
-    push_heads(text)?;
-    push_rows_of(alloc, text, time, plan, settings, points)?;
+    push_heads_opening(text)?;
+    push_confirm_head(text, crashed)?;
+    push_heads_end(text)?;
+    push_rows_of(alloc, text, time, plan, settings, points, crashed)?;
     push_markup(text, "</tbody></table></div></details>")?;
     Ok(())
 }
 
-/// Appends what their columns are.
-#[tactic(auto, unfolding(crate::specs::Front::front_heads))]
-fn push_heads(text: &mut String) -> Result<(), AllocError>
-    ensures { OnOk result (string_bytes text.new ≡ string_bytes text.old ++ front_heads) }
+/// Appends what their columns are, up to their times.
+#[tactic(auto, unfolding(crate::specs::Front::heads_opening))]
+fn push_heads_opening(text: &mut String) -> Result<(), AllocError>
+    ensures { OnOk result (string_bytes text.new ≡ string_bytes text.old ++ heads_opening) }
 {
     text.push_str(
         "<details><summary>The front in numbers</summary><div class=\"wide\"><table>\
          <caption>The settings on the front</caption><thead><tr><th scope=\"col\">number</th>\
-         <th scope=\"col\">setting</th><th scope=\"col\">confirmed, median</th>\
-         <th scope=\"col\">runs with a false death</th><th scope=\"col\">their share</th>\
+         <th scope=\"col\">setting</th>",
+    )
+}
+
+/// Appends the head of their times, where runs have crashes.
+#[tactic(auto, unfolding(crate::specs::Front::confirm_head))]
+fn push_confirm_head(text: &mut String, crashed: bool) -> Result<(), AllocError>
+    ensures { OnOk result (string_bytes text.new ≡ string_bytes text.old ++ confirm_head crashed) }
+{
+    if !crashed {
+        return Ok(());
+    }
+    text.push_str("<th scope=\"col\">confirmed, median</th>")
+}
+
+/// Appends what the other columns are.
+#[tactic(auto, unfolding(crate::specs::Front::heads_end))]
+fn push_heads_end(text: &mut String) -> Result<(), AllocError>
+    ensures { OnOk result (string_bytes text.new ≡ string_bytes text.old ++ heads_end) }
+{
+    text.push_str(
+        "<th scope=\"col\">runs with a false death</th><th scope=\"col\">their share</th>\
          <th scope=\"col\">95&nbsp;% interval</th><th scope=\"col\">members with a false death per run</th>\
          <th scope=\"col\">their 95&nbsp;% interval</th>\
          <th scope=\"col\">messages per member per 1,000 ticks</th></tr></thead><tbody>",
@@ -355,11 +399,12 @@ fn push_rows_of(
     plan: &Plan,
     settings: &[SettingSummary],
     points: &[FrontPoint],
+    crashed: bool,
 ) -> Result<(), Memory>
-    ensures { OnOk result (string_bytes text.new ≡ string_bytes text.old ++ flat_map (front_row_of time plan.now.swept_keys settings.now) points.now) }
+    ensures { OnOk result (string_bytes text.new ≡ string_bytes text.old ++ flat_map (front_row_of time crashed plan.now.swept_keys settings.now) points.now) }
 {
     for point in points {
-        push_row_of(alloc, text, time, plan, settings, point)?;
+        push_row_of(alloc, text, time, plan, settings, point, crashed)?;
     }
     Ok(())
 }
@@ -373,11 +418,12 @@ fn push_row_of(
     plan: &Plan,
     settings: &[SettingSummary],
     point: &FrontPoint,
+    crashed: bool,
 ) -> Result<(), Memory>
-    ensures { OnOk result (string_bytes text.new ≡ string_bytes text.old ++ front_row_of time plan.now.swept_keys settings.now point.now) }
+    ensures { OnOk result (string_bytes text.new ≡ string_bytes text.old ++ front_row_of time crashed plan.now.swept_keys settings.now point.now) }
 {
     match setting_at(settings, point.place) {
-        Some(setting) => push_row(alloc, text, time, plan, point.place, &setting),
+        Some(setting) => push_row(alloc, text, time, plan, crashed, point.place, &setting),
         None => Ok(()),
     }
 }
@@ -389,20 +435,37 @@ fn push_row(
     text: &mut String,
     time: Option<Tick>,
     plan: &Plan,
+    crashed: bool,
     place: usize,
     setting: &SettingSummary,
 ) -> Result<(), Memory>
-    ensures { OnOk result (string_bytes text.new ≡ string_bytes text.old ++ front_row time plan.now.swept_keys place setting.now) }
+    ensures { OnOk result (string_bytes text.new ≡ string_bytes text.old ++ front_row time crashed plan.now.swept_keys place setting.now) }
 {
     push_markup(text, "<tr><th scope=\"row\">")?;
     push_number(text, place)?;
     push_markup(text, "</th><td>")?;
     push_swept_keys_at(alloc, text, plan, place)?;
     push_markup(text, "</td>")?;
-    push_time_cell(text, time, setting.confirm_p50)?;
+    push_confirm_cell(text, time, crashed, setting)?;
     push_shares(text, setting)?;
     push_markup(text, "<td>")?;
     push_rate(text, setting.messages)?;
     push_markup(text, "</td></tr>")?;
     Ok(())
+}
+
+/// Appends the median time until a crash was confirmed, where runs have crashes.
+#[tactic(auto, unfolding(crate::specs::Front::confirm_cell))]
+fn push_confirm_cell(
+    text: &mut String,
+    time: Option<Tick>,
+    crashed: bool,
+    setting: &SettingSummary,
+) -> Result<(), AllocError>
+    ensures { OnOk result (string_bytes text.new ≡ string_bytes text.old ++ confirm_cell time crashed setting.now) }
+{
+    if !crashed {
+        return Ok(());
+    }
+    push_time_cell(text, time, setting.confirm_p50)
 }

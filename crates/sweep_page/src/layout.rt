@@ -11,7 +11,7 @@ h2{font-size:1.15rem;margin:2em 0 .2em;overflow-wrap:anywhere}h3{font-size:1rem;
 .answers{list-style:none;padding:0;margin:.8em 0}\
 .answers li{display:flex;flex-wrap:wrap;align-items:center;gap:.1rem 1.2rem;background:var(--field);border-left:5px solid var(--one);padding:.35rem .8rem;margin:.3rem 0}\
 .answers code{font-size:1.05rem;font-weight:600;flex:1 1 18rem;overflow-wrap:anywhere}.answers b{font-size:1.05rem}\
-.answers .unknown{border-color:var(--five)}.answers .unsafe{border-color:var(--lost)}.goals{margin:.3em 0 .8em;padding-left:1.4em}\
+.answers .unknown{border-color:var(--five)}.answers .unsafe{border-color:var(--lost)}.goals{margin:.3em 0 .8em;padding-left:1.4em}.ties{overflow-wrap:anywhere}\
 .number{min-width:1.7em;height:1.7em;padding:0 .35em;border-radius:1em;background:var(--one);color:#fff;font-size:.85rem;font-weight:600;display:inline-flex;align-items:center;justify-content:center}\
 .chart{display:grid;grid-template-columns:4.5rem 1fr;align-items:stretch;margin-top:3.1rem}.chart .plot{height:20rem}.plane{position:relative}\
 .chart .across,.chart .unit{grid-column:2}.plane .number{position:absolute;transform:translate(-50%,-60%);font-size:.72rem;pointer-events:none}\

@@ -3,13 +3,17 @@ ghost use Rattle.std.specs.Prelude.{◌≡◌, ◌++◌, All, OnOk, decimal, len
 ghost use Rattle.std.specs.List.{flat_map, range_with_len};
 ghost use Rattle.std.specs.String.{string_bytes};
 ghost use Rattle.goals.specs.Wants.{HasFewRuns, IsBounded};
-ghost use Rattle.sweep_page.specs.Question.{answer, best_answer, goal_item, goals_words, is_open, more_needed, needed_words, no_answer, open_answer, open_item, open_item_at, open_item_of, question, question_figure, runs_needed, statistic_words, unmet_answer};
+ghost use Rattle.sweep_page.specs.Goals.{goal_item};
+ghost use Rattle.sweep_page.specs.Question.{answer, best_answer, goals_words, is_open, more_needed, needed_words, no_answer, open_answer, open_item, open_item_at, open_item_of, question, question_figure, runs_needed, unmet_answer};
 
+use crate::best::push_best_more_at;
+use crate::front_points::FrontPoint;
+use crate::goal_words::push_goal;
 use crate::items::{push_caution_at, push_item_at};
 use base::Memory;
-use drawing::{close_figure, open_figure, push_escaped, push_markup};
+use drawing::{close_figure, open_figure, push_markup};
 use figures::SettingSummary;
-use goals::{Statistic, Want, may_meet, more_runs};
+use goals::{Want, may_meet, more_runs};
 use std::alloc::{AllocError, Global};
 use sweep_cells::{push_number, push_swept_keys_at};
 use sweep_plan::Plan;
@@ -34,17 +38,21 @@ pub(crate) fn push_question(
     plan: &Plan,
     asked: &Question<'_>,
     settings: &[SettingSummary],
+    front: &[bool],
+    points: &[FrontPoint],
     crashed: bool,
 ) -> Result<(), Memory>
     requires bounded { All IsBounded asked.now.wants.now }
     requires few { All HasFewRuns settings.now }
     ensures { OnOk result (string_bytes text.new ≡ string_bytes text.old
-        ++ question time crashed plan.now.swept_keys asked.now.wants.now settings.now asked.now.best) }
+        ++ question time crashed plan.now.swept_keys asked.now.wants.now settings.now front.now points.now asked.now.best) }
 {
     if asked.wants.is_empty() {
         return Ok(());
     }
-    push_question_figure(alloc, text, time, plan, asked, settings, crashed)
+    push_question_figure(
+        alloc, text, time, plan, asked, settings, front, points, crashed,
+    )
 }
 
 /// Appends the section.
@@ -56,16 +64,20 @@ fn push_question_figure(
     plan: &Plan,
     asked: &Question<'_>,
     settings: &[SettingSummary],
+    front: &[bool],
+    points: &[FrontPoint],
     crashed: bool,
 ) -> Result<(), Memory>
     requires bounded { All IsBounded asked.now.wants.now }
     requires few { All HasFewRuns settings.now }
     ensures { OnOk result (string_bytes text.new ≡ string_bytes text.old
-        ++ question_figure time crashed plan.now.swept_keys asked.now.wants.now settings.now asked.now.best) }
+        ++ question_figure time crashed plan.now.swept_keys asked.now.wants.now settings.now front.now points.now asked.now.best) }
 {
     open_figure(text, "answer", "The question and its answer")?;
     push_goals(text, asked.wants)?;
-    push_answer(alloc, text, time, plan, asked, settings, crashed)?;
+    push_answer(
+        alloc, text, time, plan, asked, settings, front, points, crashed,
+    )?;
     close_figure(text)?;
     Ok(())
 }
@@ -73,11 +85,12 @@ fn push_question_figure(
 /// Appends what is wanted, in words.
 #[tactic(auto, unfolding(crate::specs::Question::goals_words))]
 fn push_goals(text: &mut String, wants: &[Want<'_>]) -> Result<(), AllocError>
+    requires { All IsBounded wants.now }
     ensures { OnOk result (string_bytes text.new ≡ string_bytes text.old ++ goals_words wants.now) }
 {
     push_markup(
         text,
-        "<p class=\"lead\">Is there a setting with</p><ul class=\"goals\">",
+        "<p class=\"lead\">Is there a setting that meets all of these goals?</p><ul class=\"goals\">",
     )?;
     push_each_goal(text, wants)?;
     push_markup(text, "</ul>\n")
@@ -85,44 +98,13 @@ fn push_goals(text: &mut String, wants: &[Want<'_>]) -> Result<(), AllocError>
 
 /// Appends each that is wanted.
 fn push_each_goal(text: &mut String, wants: &[Want<'_>]) -> Result<(), AllocError>
+    requires { All IsBounded wants.now }
     ensures { OnOk result (string_bytes text.new ≡ string_bytes text.old ++ flat_map goal_item wants.now) }
 {
     for want in wants {
         push_goal(text, want)?;
     }
     Ok(())
-}
-
-/// Appends one that is wanted.
-#[tactic(auto, unfolding(crate::specs::Question::goal_item))]
-fn push_goal(text: &mut String, want: &Want<'_>) -> Result<(), AllocError>
-    ensures { OnOk result (string_bytes text.new ≡ string_bytes text.old ++ goal_item want.now) }
-{
-    let words = statistic_words(want.statistic);
-    push_markup(text, "<li>")?;
-    push_markup(text, words)?;
-    push_markup(text, ": <code>")?;
-    push_escaped(text, want.word)?;
-    push_markup(text, "</code></li>")
-}
-
-/// What a statistic is, in words.
-#[tactic(auto, unfolding(crate::specs::Question::statistic_words))]
-fn statistic_words(statistic: Statistic) -> &'static str
-    ensures { result.now ≡ statistic_words statistic }
-{
-    match statistic {
-        Statistic::Out => "share of runs with a false death",
-        Statistic::SuspectP50 => "ticks until a crash is first suspected, median",
-        Statistic::ConfirmP50 => "ticks until a crash is first confirmed, median",
-        Statistic::ConfirmP99 => "ticks until a crash is first confirmed, 99th percentile",
-        Statistic::ConfirmGreatest => "ticks until a crash is first confirmed, greatest",
-        Statistic::LastP50 => "ticks until a crash is last confirmed, median",
-        Statistic::LastGreatest => "ticks until a crash is last confirmed, greatest",
-        Statistic::FalseSuspect => "false suspicions per run",
-        Statistic::ThrownOut => "members with a false death in all runs",
-        Statistic::Messages => "messages per member per 1,000 ticks",
-    }
 }
 
 /// Appends the answer.
@@ -133,31 +115,50 @@ fn push_answer(
     plan: &Plan,
     asked: &Question<'_>,
     settings: &[SettingSummary],
+    front: &[bool],
+    points: &[FrontPoint],
     crashed: bool,
 ) -> Result<(), Memory>
     requires bounded { All IsBounded asked.now.wants.now }
     requires few { All HasFewRuns settings.now }
     ensures { OnOk result (string_bytes text.new ≡ string_bytes text.old
-        ++ answer time crashed plan.now.swept_keys asked.now.wants.now settings.now asked.now.best) }
+        ++ answer time crashed plan.now.swept_keys asked.now.wants.now settings.now front.now points.now asked.now.best) }
 {
     match asked.best {
-        Some(place) => push_best(alloc, text, time, plan, settings, crashed, place),
+        Some(place) => push_best(
+            alloc,
+            text,
+            time,
+            plan,
+            asked.wants,
+            settings,
+            front,
+            points,
+            crashed,
+            place,
+        ),
         None => push_unmet(alloc, text, plan, asked.wants, settings),
     }
 }
 
-/// Appends the best setting.
+/// Appends the best setting, and what is said of it.
 #[tactic(auto, unfolding(crate::specs::Question::best_answer))]
 fn push_best(
     alloc: Global,
     text: &mut String,
     time: Option<Tick>,
     plan: &Plan,
+    wants: &[Want<'_>],
     settings: &[SettingSummary],
+    front: &[bool],
+    points: &[FrontPoint],
     crashed: bool,
     place: usize,
 ) -> Result<(), Memory>
-    ensures { OnOk result (string_bytes text.new ≡ string_bytes text.old ++ best_answer time crashed plan.now.swept_keys settings.now place) }
+    requires bounded { All IsBounded wants.now }
+    requires few { All HasFewRuns settings.now }
+    ensures { OnOk result (string_bytes text.new ≡ string_bytes text.old
+        ++ best_answer time crashed plan.now.swept_keys wants.now settings.now front.now points.now place) }
 {
     push_markup(
         text,
@@ -167,6 +168,9 @@ fn push_best(
     push_item_at(alloc, text, time, plan, settings, crashed, place)?;
     push_markup(text, "</ol>\n")?;
     push_caution_at(text, settings, place)?;
+    push_best_more_at(
+        alloc, text, plan, wants, settings, front, points, crashed, place,
+    )?;
     Ok(())
 }
 

@@ -2,7 +2,7 @@
 ghost use Rattle.std.specs.Prelude.{◌≡◌, ◌-◌, ◌++◌, OnOk, length, min};
 ghost use Rattle.std.specs.List.{flat_map, range_with_len};
 ghost use Rattle.std.specs.String.{string_bytes};
-ghost use Rattle.sweep_page.specs.Summary.{at_most, front_opening, front_words_of, messages_opening, momentless_words, more_words, none_words, safety_words, size_words, speed_opening, summary, told_at, told_words, unconfirmed_words, untold_words};
+ghost use Rattle.sweep_page.specs.Summary.{at_most, front_opening, front_words_of, listed_words, messages_opening, momentless_words, more_words, none_words, safety_words, size_words, speed_opening, summary, told_at, told_words, unconfirmed_words, untold_words};
 
 use crate::front_points::FrontPoint;
 use crate::items::push_item_at;
@@ -98,7 +98,10 @@ fn push_none(text: &mut String, crashed: bool) -> Result<(), AllocError>
 fn push_unconfirmed(text: &mut String) -> Result<(), AllocError>
     ensures { OnOk result (string_bytes text.new ≡ string_bytes text.old ++ unconfirmed_words) }
 {
-    text.push_str("<p class=\"lead\">No setting confirms half of its crashes.</p>\n")
+    text.push_str(
+        "<p class=\"lead\">No setting confirms half of its crashes, so none is listed or plotted by its \
+         speed.</p>\n",
+    )
 }
 
 /// Appends that runs have no moments.
@@ -107,7 +110,7 @@ fn push_momentless(text: &mut String) -> Result<(), AllocError>
     ensures { OnOk result (string_bytes text.new ≡ string_bytes text.old ++ momentless_words) }
 {
     text.push_str(
-        "<p class=\"lead\">Each run ends at moment 0, so there is nothing to compare.</p>\n",
+        "<p class=\"lead\">Each run ends at moment 0, so there is nothing to compare or to plot.</p>\n",
     )
 }
 
@@ -128,7 +131,7 @@ fn push_told(
     push_safety_words(text)?;
     push_first(alloc, text, time, plan, settings, crashed, points)?;
     push_markup(text, "</ol>\n")?;
-    push_rest(text, points.len())?;
+    push_rest(text, crashed, points.len())?;
     Ok(())
 }
 
@@ -152,7 +155,7 @@ fn push_speed_opening(text: &mut String) -> Result<(), AllocError>
     text.push_str(
         "<p class=\"lead\">These settings confirm half of their crashes, and no other setting beats \
          them: none is at least as fast and at least as safe, and better in one of the two. The \
-         further down, the slower and the safer.</p>",
+         further down, the slower and the safer; some may be equal in both.</p>",
     )
 }
 
@@ -165,7 +168,7 @@ fn push_messages_opening(text: &mut String) -> Result<(), AllocError>
         "<p class=\"lead\">No run has a crash, so settings are compared by their false deaths and \
          their messages. No other setting beats these: none sends at most as many messages and is \
          at least as safe, and is better in one of the two. The further down, the more messages \
-         and the safer.</p>",
+         and the safer; some may be equal in both.</p>",
     )
 }
 
@@ -221,33 +224,46 @@ fn push_told_at(
     }
 }
 
-/// Appends how many of so many settings on the front aren't told of.
-fn push_rest(text: &mut String, count: usize) -> Result<(), AllocError>
-    ensures { OnOk result (string_bytes text.new ≡ string_bytes text.old ++ untold_words (count - 12)) }
+/// Appends how many of so many settings on the front aren't listed.
+fn push_rest(text: &mut String, crashed: bool, count: usize) -> Result<(), AllocError>
+    ensures { OnOk result (string_bytes text.new ≡ string_bytes text.old ++ untold_words crashed (count - 12)) }
 {
-    push_untold(text, count.saturating_sub(MOST_TOLD))
+    push_untold(text, crashed, count.saturating_sub(MOST_TOLD))
 }
 
-/// Appends that so many aren't told of.
+/// Appends that so many aren't listed.
 #[tactic(auto, unfolding(crate::specs::Summary::untold_words))]
-fn push_untold(text: &mut String, more: usize) -> Result<(), AllocError>
-    ensures { OnOk result (string_bytes text.new ≡ string_bytes text.old ++ untold_words more) }
+fn push_untold(text: &mut String, crashed: bool, more: usize) -> Result<(), AllocError>
+    ensures { OnOk result (string_bytes text.new ≡ string_bytes text.old ++ untold_words crashed more) }
 {
     if more == 0 {
         return Ok(());
     }
-    push_more(text, more)
+    push_more(text, crashed, more)
 }
 
-/// Appends that there are so many more.
+/// Appends which are listed, and that there are so many more.
 #[tactic(auto, unfolding(crate::specs::Summary::more_words))]
-fn push_more(text: &mut String, more: usize) -> Result<(), AllocError>
-    ensures { OnOk result (string_bytes text.new ≡ string_bytes text.old ++ more_words more) }
+fn push_more(text: &mut String, crashed: bool, more: usize) -> Result<(), AllocError>
+    ensures { OnOk result (string_bytes text.new ≡ string_bytes text.old ++ more_words crashed more) }
 {
-    push_markup(text, "<p class=\"soft\">")?;
-    push_count(text, more as u64, " more setting is", " more settings are")?;
+    let listed = listed_words(crashed);
+    push_markup(text, listed)?;
+    push_count(text, more as u64, " more is", " more are")?;
     push_markup(
         text,
-        " on the front; the table of all settings has a star there.</p>\n",
+        " on it: all have a star in the table of all settings.</p>\n",
     )
+}
+
+/// Which settings of more on the front are listed.
+#[tactic(auto, unfolding(crate::specs::Summary::listed_words))]
+fn listed_words(crashed: bool) -> &'static str
+    ensures { result.now ≡ listed_words crashed }
+{
+    if crashed {
+        "<p class=\"soft\">These are the first 12 settings on the front, fastest first. "
+    } else {
+        "<p class=\"soft\">These are the first 12 settings on the front, fewest messages first. "
+    }
 }

@@ -4,7 +4,7 @@ ghost use Rattle.std.specs.List.{flat_map, range_with_len};
 ghost use Rattle.std.specs.Str.{chars};
 ghost use Rattle.std.specs.String.{string_bytes};
 ghost use Rattle.sweep_plan.specs.Sweep.{setting_count};
-ghost use Rattle.sweep_page.specs.Table.{share_cells, death_cells, cost_cells, figure_cells, value_cell, value_cells, row_opening, row, row_at, name_char, key_head, since_words, table_words, figure_heads, table};
+ghost use Rattle.sweep_page.specs.Table.{share_cells, death_cells, cost_cells, timed_cells, timeless_cells, figure_cells, value_cell, value_cells, row_opening, row, row_at, name_char, key_head, since_words, timed_words, timeless_words, table_words, table_opening, timed_heads, timeless_heads, figure_heads, table};
 
 use crate::front_points::is_marked;
 use base::Memory;
@@ -18,7 +18,8 @@ use sweep_cells::{
 use sweep_plan::{Choice, Plan, Swept};
 use ticks::Tick;
 
-/// Appends the table of all settings, those on the front marked.
+/// Appends the table of all settings, those on the front marked. `crashed` is whether a run of the sweep
+/// has a crash.
 #[tactic(auto, unfolding(crate::specs::Table::table))]
 pub(crate) fn push_table(
     alloc: Global,
@@ -27,26 +28,40 @@ pub(crate) fn push_table(
     plan: &Plan,
     settings: &[SettingSummary],
     front: &[bool],
+    crashed: bool,
 ) -> Result<(), Memory>
     requires { length settings.now ≡ setting_count plan.now.swept_keys }
-    ensures { OnOk result (string_bytes text.new ≡ string_bytes text.old ++ table time plan.now.swept_keys settings.now front.now) }
+    ensures { OnOk result (string_bytes text.new ≡ string_bytes text.old ++ table time crashed plan.now.swept_keys settings.now front.now) }
 {
     open_figure(text, "cases", "All settings")?;
-    push_table_words(text, time)?;
+    push_table_words(text, time, crashed)?;
+    push_table_opening(text)?;
     let swept_keys = plan.swept_keys();
     push_names(alloc, text, swept_keys)?;
-    push_figure_words(text)?;
+    push_figure_words(text, crashed)?;
     push_markup(text, "</tr></thead><tbody>\n")?;
-    push_rows(alloc, text, time, plan, settings, front)?;
+    push_rows(alloc, text, time, plan, settings, front, crashed)?;
     push_markup(text, "</tbody></table></div>")?;
     close_figure(text)?;
     Ok(())
 }
 
-/// Appends what the table is, and begins it.
+/// Appends what its figures are.
 #[tactic(auto, unfolding(crate::specs::Table::table_words))]
-fn push_table_words(text: &mut String, time: Option<Tick>) -> Result<(), AllocError>
-    ensures { OnOk result (string_bytes text.new ≡ string_bytes text.old ++ table_words time) }
+fn push_table_words(text: &mut String, time: Option<Tick>, crashed: bool) -> Result<(), AllocError>
+    ensures { OnOk result (string_bytes text.new ≡ string_bytes text.old ++ table_words time crashed) }
+{
+    if crashed {
+        push_timed_words(text, time)
+    } else {
+        push_timeless_words(text)
+    }
+}
+
+/// Appends what they are, where runs have crashes.
+#[tactic(auto, unfolding(crate::specs::Table::timed_words))]
+fn push_timed_words(text: &mut String, time: Option<Tick>) -> Result<(), AllocError>
+    ensures { OnOk result (string_bytes text.new ≡ string_bytes text.old ++ timed_words time) }
 {
     let since = since_words(time);
     push_markup(text, "<p class=\"soft\">Times are ")?;
@@ -54,8 +69,29 @@ fn push_table_words(text: &mut String, time: Option<Tick>) -> Result<(), AllocEr
     push_markup(
         text,
         ", over all crashes of all runs; a dash stands where too few crashes were detected. Starred \
-         settings are on the front.</p><div class=\"wide\"><table><caption>All settings</caption>\
-         <thead><tr><th scope=\"col\">number</th>",
+         settings are on the front.</p>",
+    )
+}
+
+/// Appends that times are left out, where no run has a crash.
+#[tactic(auto, unfolding(crate::specs::Table::timeless_words))]
+fn push_timeless_words(text: &mut String) -> Result<(), AllocError>
+    ensures { OnOk result (string_bytes text.new ≡ string_bytes text.old ++ timeless_words) }
+{
+    text.push_str(
+        "<p class=\"soft\">No run has a crash, so the columns and the plots of times since a crash \
+         are left out. Starred settings are on the front.</p>",
+    )
+}
+
+/// Begins the table.
+#[tactic(auto, unfolding(crate::specs::Table::table_opening))]
+fn push_table_opening(text: &mut String) -> Result<(), AllocError>
+    ensures { OnOk result (string_bytes text.new ≡ string_bytes text.old ++ table_opening) }
+{
+    text.push_str(
+        "<div class=\"wide\"><table><caption>All settings</caption><thead><tr>\
+         <th scope=\"col\">number</th>",
     )
 }
 
@@ -114,8 +150,20 @@ fn push_name_char(text: &mut String, c: char) -> Result<(), AllocError>
 
 /// Appends the words over the figures.
 #[tactic(auto, unfolding(crate::specs::Table::figure_heads))]
-fn push_figure_words(text: &mut String) -> Result<(), AllocError>
-    ensures { OnOk result (string_bytes text.new ≡ string_bytes text.old ++ figure_heads) }
+fn push_figure_words(text: &mut String, crashed: bool) -> Result<(), AllocError>
+    ensures { OnOk result (string_bytes text.new ≡ string_bytes text.old ++ figure_heads crashed) }
+{
+    if crashed {
+        push_timed_heads(text)
+    } else {
+        push_timeless_heads(text)
+    }
+}
+
+/// Appends them where runs have crashes.
+#[tactic(auto, unfolding(crate::specs::Table::timed_heads))]
+fn push_timed_heads(text: &mut String) -> Result<(), AllocError>
+    ensures { OnOk result (string_bytes text.new ≡ string_bytes text.old ++ timed_heads) }
 {
     text.push_str(
         "<th scope=\"col\">confirmed, median</th>\
@@ -134,6 +182,22 @@ fn push_figure_words(text: &mut String) -> Result<(), AllocError>
     )
 }
 
+/// Appends them where no run has a crash: none of times.
+#[tactic(auto, unfolding(crate::specs::Table::timeless_heads))]
+fn push_timeless_heads(text: &mut String) -> Result<(), AllocError>
+    ensures { OnOk result (string_bytes text.new ≡ string_bytes text.old ++ timeless_heads) }
+{
+    text.push_str(
+        "<th scope=\"col\">runs with a false death</th>\
+         <th scope=\"col\">their share</th>\
+         <th scope=\"col\">95&nbsp;% interval</th>\
+         <th scope=\"col\">members with a false death per run</th>\
+         <th scope=\"col\">their 95&nbsp;% interval</th>\
+         <th scope=\"col\">false suspicions per run</th>\
+         <th scope=\"col\">messages per member per 1,000 ticks</th>",
+    )
+}
+
 /// Appends the rows of all settings.
 fn push_rows(
     alloc: Global,
@@ -142,13 +206,14 @@ fn push_rows(
     plan: &Plan,
     settings: &[SettingSummary],
     front: &[bool],
+    crashed: bool,
 ) -> Result<(), Memory>
     requires { length settings.now ≡ setting_count plan.now.swept_keys }
     ensures { OnOk result (string_bytes text.new
-        ≡ string_bytes text.old ++ flat_map (row_at time plan.now.swept_keys settings.now front.now) (range_with_len 0 (length settings.now))) }
+        ≡ string_bytes text.old ++ flat_map (row_at time crashed plan.now.swept_keys settings.now front.now) (range_with_len 0 (length settings.now))) }
 {
     for place in 0..settings.len() {
-        push_row_at(alloc, text, time, plan, settings, front, place)?;
+        push_row_at(alloc, text, time, plan, settings, front, crashed, place)?;
     }
     Ok(())
 }
@@ -162,10 +227,11 @@ fn push_row_at(
     plan: &Plan,
     settings: &[SettingSummary],
     front: &[bool],
+    crashed: bool,
     place: usize,
 ) -> Result<(), Memory>
     requires { length settings.now ≡ setting_count plan.now.swept_keys }
-    ensures { OnOk result (string_bytes text.new ≡ string_bytes text.old ++ row_at time plan.now.swept_keys settings.now front.now place) }
+    ensures { OnOk result (string_bytes text.new ≡ string_bytes text.old ++ row_at time crashed plan.now.swept_keys settings.now front.now place) }
 {
     match setting_at(settings, place) {
         Some(setting) => push_row(
@@ -173,6 +239,7 @@ fn push_row_at(
             text,
             time,
             plan,
+            crashed,
             place,
             &setting,
             is_marked(front, place),
@@ -188,18 +255,19 @@ fn push_row(
     text: &mut String,
     time: Option<Tick>,
     plan: &Plan,
+    crashed: bool,
     place: usize,
     setting: &SettingSummary,
     marked: bool,
 ) -> Result<(), Memory>
     requires { place < setting_count plan.now.swept_keys }
-    ensures { OnOk result (string_bytes text.new ≡ string_bytes text.old ++ row time plan.now.swept_keys place setting.now marked) }
+    ensures { OnOk result (string_bytes text.new ≡ string_bytes text.old ++ row time crashed plan.now.swept_keys place setting.now marked) }
 {
     push_row_opening(text, marked)?;
     push_number(text, place)?;
     push_markup(text, "</th>")?;
     push_values(alloc, text, plan, place)?;
-    push_figures(text, time, setting)?;
+    push_figures(text, time, crashed, setting)?;
     push_markup(text, "</tr>\n")?;
     Ok(())
 }
@@ -247,14 +315,40 @@ fn push_value(alloc: Global, text: &mut String, choice: &Choice) -> Result<(), M
     Ok(())
 }
 
-/// Appends the figures of a setting.
+/// Appends the figures of a setting: no times where no run has a crash.
 #[tactic(auto, unfolding(crate::specs::Table::figure_cells))]
 fn push_figures(
     text: &mut String,
     time: Option<Tick>,
+    crashed: bool,
     setting: &SettingSummary,
 ) -> Result<(), AllocError>
-    ensures { OnOk result (string_bytes text.new ≡ string_bytes text.old ++ figure_cells time setting.now) }
+    ensures { OnOk result (string_bytes text.new ≡ string_bytes text.old ++ figure_cells time crashed setting.now) }
+{
+    if crashed {
+        push_timed(text, time, setting)
+    } else {
+        push_timeless(text, setting)
+    }
+}
+
+/// Appends those that are no times.
+#[tactic(auto, unfolding(crate::specs::Table::timeless_cells))]
+fn push_timeless(text: &mut String, setting: &SettingSummary) -> Result<(), AllocError>
+    ensures { OnOk result (string_bytes text.new ≡ string_bytes text.old ++ timeless_cells setting.now) }
+{
+    push_shares(text, setting)?;
+    push_costs(text, setting)
+}
+
+/// Appends all of them.
+#[tactic(auto, unfolding(crate::specs::Table::timed_cells))]
+fn push_timed(
+    text: &mut String,
+    time: Option<Tick>,
+    setting: &SettingSummary,
+) -> Result<(), AllocError>
+    ensures { OnOk result (string_bytes text.new ≡ string_bytes text.old ++ timed_cells time setting.now) }
 {
     push_time_cell(text, time, setting.confirm_p50)?;
     push_shares(text, setting)?;

@@ -7,7 +7,7 @@ ghost use Rattle.sweep_page.specs.Page.{page_head, page_end, page_over, page_tex
 ghost use Rattle.sweep_page.specs.Points.{places_of};
 ghost use Rattle.sweep_times.specs.Times.{times_figure};
 
-use crate::front::push_front;
+use crate::front::push_front_where;
 use crate::front_points::{FrontPoint, front_points, places_of};
 use crate::layout::page_style;
 use crate::question::{Question, push_question};
@@ -80,13 +80,15 @@ fn push_page(
         ++ page_over shown.now.tick shown.now.name.now shown.now.release.now plan.now question.now.wants.now question.now.best settings.now front.now crashed points.now) }
 {
     push_head(text, shown.name)?;
-    push_question(alloc, text, shown.tick, plan, question, settings, crashed)?;
+    push_question(
+        alloc, text, shown.tick, plan, question, settings, front, points, crashed,
+    )?;
     push_summary(alloc, text, shown.tick, plan, settings, crashed, points)?;
-    push_front(
+    push_front_where(
         alloc, text, shown.tick, plan, settings, front, points, crashed,
     )?;
     push_times_where(alloc, text, shown.tick, plan, settings, crashed, points)?;
-    push_table(alloc, text, shown.tick, plan, settings, front)?;
+    push_table(alloc, text, shown.tick, plan, settings, front, crashed)?;
     push_end(text, shown.release)?;
     Ok(())
 }
