@@ -7,8 +7,8 @@ import functools
 import tomllib
 from pathlib import Path
 
-from model_drawing import (FIGURE_END, PLOT_END, area, axis_across, axis_up, band, dot, escaped, figure, grouped, lasting, lasting_between,
-                           legend, legend_entry, line, moment_alone, page_opening, plot, rule, time_alone, time_text)
+from model_drawing import (FIGURE_END, PLOT_END, area, axis_across, axis_up, band, dot, escaped, figure, grouped, heads, lasting,
+                           lasting_between, legend, legend_entry, line, moment_alone, page_opening, plot, rule, time_alone, time_text)
 from model_rows import CONFIRM, SUSPECT
 from model_run_series import MOST_HEALTH, MOST_SPANS, Series, deaths_of
 from scenarios import keys_of
@@ -43,8 +43,18 @@ def differs(value, usual):
     return usual is not None and value != usual
 
 
-def folded(summary, heads):
-    return f'<details><summary>{summary}</summary><div class="wide"><table><tr>{heads}</tr>\n'
+def folded(summary, columns):
+    return f'<details><summary>{summary}</summary><div class="wide"><table><tr>{columns}</tr>\n'
+
+
+def captioned(summary, caption, columns):
+    """A folded table that says what it shows, and of what its heads are."""
+    return (f'<details><summary>{summary}</summary><div class="wide"><table><caption>{caption}</caption>'
+            f'<thead><tr>{heads(columns)}</tr></thead><tbody>\n')
+
+
+def row_head(words):
+    return f'<tr><th scope="row">{words}</th>'
 
 
 class Page:
@@ -68,7 +78,14 @@ class Page:
         return f'<td>{time_alone(self.tick, ticks)}'
 
     def from_cell(self, span):
-        return f'<td>{moment_alone(self.tick, span * self.series.width)}'
+        return f'<td>{self.begin(span)}'
+
+    def begin(self, span):
+        return moment_alone(self.tick, span * self.series.width)
+
+    def width(self):
+        """How long a span is."""
+        return f'{counted(self.series.width, "tick", "ticks")}{self.lasting(self.series.width)}'
 
     def lasting(self, ticks):
         return lasting(self.tick, ticks)
@@ -134,9 +151,7 @@ class Page:
         text += legend([('suspect', 'suspect it'), ('dead', 'have declared it dead'), *(it for it in bands if self.scenario[it[0]])])
         text += ('<p class="soft">Solid vertical line: the member crashes; dashed: it leaves or starts; dotted: others declare it alive '
                  'again; dot: it refutes a claim.</p>')
-        width = self.series.width
-        text += (f'<p class="soft">Each column is {counted(width, "tick", "ticks")}{self.lasting(width)} wide: a shorter suspicion is drawn '
-                 'as wide.</p>')
+        text += f'<p class="soft">Each column is {self.width()} wide: a shorter suspicion is drawn as wide.</p>'
         text += ''.join(self.lane(member) for member in self.lanes[:MOST_LANES])
         text += f'<div class="lane">{self.time_axis()}</div>'
         if len(self.lanes) > MOST_LANES:
@@ -362,7 +377,7 @@ class Page:
         all_sent, all_lost = (sum(map(sum, counts)) for counts in (sent, lost))
         rate = all_sent * 100000 // max(1, max(1, series.end) * len(series.names))
         text = figure('traffic', 'Messages')
-        text += (f'<p class="soft">Messages sent: {grouped(all_sent)}; lost: {grouped(all_lost)}; sent per member and 1,000 ticks: '
+        text += (f'<p class="soft">Messages sent: {grouped(all_sent)}; lost: {grouped(all_lost)}; sent per member per 1,000 ticks: '
                  f'{rate // 100}.{rate % 100:02}.</p>')
         text += '<ul class="legend">'
         text += ''.join(legend_entry(MESSAGE_CLASSES[kind], f'{kind} {grouped(told[kind])}') for kind in series.kinds if told[kind])
@@ -370,18 +385,23 @@ class Page:
         if all_sent:
             layers = [(MESSAGE_CLASSES[kind], heights) for kind, heights in zip(series.kinds, sent)]
             text += self.chart('', 'Messages sent', 'How many messages of each kind were sent in each span of time.', layers)
-            text += f'<p class="soft">Sent in each span of {series.width} ticks{self.lasting(series.width)}.</p>' + self.losses(lost)
-            text += folded('The messages as a table', '<th>from moment' + ''.join(f'<th>{kind}<th>lost' for kind in series.kinds))
-            for span in series.spans:
-                text += f'<tr>{self.from_cell(span)}'
-                text += ''.join(f'<td>{ours[span]}<td>{theirs[span]}' for ours, theirs in zip(sent, lost))
-            text += TABLE_END
+            text += f'<p class="soft">Sent in each span of {self.width()}.</p>' + self.losses(lost)
+            text += self.messages_table([(kind, *both) for kind, *both in zip(series.kinds, sent, lost) if told[kind]])
         return text + FIGURE_END
+
+    def messages_table(self, columns):
+        """Of each kind that was sent its name, and how many were sent and lost in each span."""
+        text = captioned('The messages as a table',
+                         'How many messages of each kind were sent in each span of time, and how many of them were lost',
+                         ['from moment', *(head for kind, _, _ in columns for head in (kind, f'{kind} lost'))])
+        for span in self.series.spans:
+            text += row_head(self.begin(span)) + ''.join(f'<td>{ours[span]}<td>{theirs[span]}' for _, ours, theirs in columns)
+        return text + TABLE_END
 
     def losses(self, lost):
         layer = [sum(counts) for counts in zip(*lost)]
         text = self.chart('low', 'Messages lost', 'How many messages were lost in each span of time.', [('lost', layer)])
-        return text + (f'<p class="soft">Lost in each span of {self.series.width} ticks{self.lasting(self.series.width)}.</p>' if text else '')
+        return text + (f'<p class="soft">Lost in each span of {self.width()}.</p>' if text else '')
 
     def health(self):
         series = self.series
@@ -390,16 +410,17 @@ class Page:
         values = range(1, MOST_HEALTH + 1)
         heights = [series.ends(series.worse[value], series.better[value]) for value in values]
         text = figure('health', 'Members in bad health')
-        text += ('<p class="soft">A member\'s health counter (Lifeguard) rises as its own probes fail. Of each span the value at its end '
-                 'counts. Members at 0 aren\'t drawn.</p>')
+        text += ('<p class="soft">A member\'s health score (Lifeguard) rises as its own probes fail and as it refutes; answered probes '
+                 'lower it. The score at the end of each span counts. Members at 0 aren\'t drawn.</p>')
         text += legend(zip(HEALTH_CLASSES, ('at 1', 'at 2', 'at 3', 'at 4 and more')))
         layers = [(HEALTH_CLASSES[min(value, 4) - 1], counts) for value, counts in zip(values, heights)]
-        text += self.chart('low', 'Health', 'How many members stand at each value of the health counter.', layers, 1)
-        text += folded('Health as a table', '<th>value<th>from moment<th>members')
+        text += self.chart('low', 'Health scores', 'How many members have each health score.', layers, 1)
+        text += captioned('Health scores as a table', 'How many members have each health score, from each moment at which that changes',
+                          ['health score', 'from moment', 'members'])
         for value, counts in zip(values, heights):
             for span, count in enumerate(counts):
                 if count != (counts[span - 1] if span else 0):
-                    text += f'<tr><td>{value}{self.from_cell(span)}<td>{count}'
+                    text += f'{row_head(value)}{self.from_cell(span)}<td>{count}'
         return text + TABLE_END + FIGURE_END
 
 

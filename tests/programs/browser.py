@@ -5,7 +5,7 @@
 
 Each page is loaded by headless Chromium (Debian's package `chromium`), 1,280 and 400 pixels wide, in light and in dark, with its
 tables folded and unfolded: no text may stand outside the page, or over another, or be of its ground's colour; at 1,280 pixels no table may
-be cut off; a page may ask for nothing from elsewhere. With --keep a picture of each is left in FOLDER. The last line is `N passed, M failed, K skipped`; where
+be cut off; in a table with a caption each head says of what it is; a page may ask for nothing from elsewhere. With --keep a picture of each is left in FOLDER. The last line is `N passed, M failed, K skipped`; where
 there is no Chromium all are skipped.
 """
 
@@ -38,6 +38,7 @@ BROKEN = (
     ('<p style="background: #777; color: #888">grey</p>', 'unreadable', 400),
     ('<p style="background: url(a.png)">fetched</p>', 'asks for something', 400),
     ('<div class="wide"><table><tr><td style="white-space: nowrap">' + 'wide ' * 400 + '</table></div>', 'cut off', 1280),
+    ('<table><caption>numbers</caption><tr><th>head<tr><td>1</table>', 'of nothing: head', 400),
 )
 
 # what would fetch something, or run
@@ -97,6 +98,7 @@ function wrong(page, width) {
     if (width >= 1280)
         for (const box of page.querySelectorAll('.wide:not(details:not([open]) *)'))
             if (box.scrollWidth > box.clientWidth) told.push(`cut off: ${box.textContent.trim().slice(0, 60)}`);
+    for (const head of page.querySelectorAll('table:has(caption) th:not([scope])')) told.push(`of nothing: ${head.textContent}`);
     return found.length ? told : ['no text is shown'];
 }
 

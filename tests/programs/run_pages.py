@@ -3,27 +3,21 @@
 from harness import TOP
 from model_run_page import page_of
 from model_text import rows_in
-from program import Case, expect, expect_ran
+from program import DATA, Case, expect, expect_ran
 from worked import FOLDER as WORKED, scenario_of, text_of
 
-EXAMPLES = TOP / 'examples'
+EXAMPLES, PAGES = TOP / 'examples', DATA / 'pages'
 # a crash, false claims with Lifeguard and without, a cut, joins, leaves, stops, three sites, and a cluster in which nothing happens
 SHOWN = ('crash', 'slow-member', 'slow-member-without-lifeguard', 'cut-between-sites', 'rolling-join', 'rolling-restart', 'pauses',
          'three-sites-wan', 'quiet')
 WAYS = ([], ['--workers', '2'], ['--workers', '3', '--parts', '3'])
 # words that say how long a tick lasts, and how many microseconds that is
 TICKS = (('1ms', 1000), ('1us', 1), ('250us', 250), ('7ms', 7000), ('1s', 10**6))
-# n-4 is held dead by all when it crashes; n-5 is suspected by all, and declared dead later
-HELD = """version = 3
-seed = 1
-end = 30000
-swim = { period = 1000, timeout = 300, spread = 1000, lambda = 2 }
-link = { delay = 20 }
-group = [{ name = "n", count = 6 }]
-pause = [{ member = "n-4", from = 3000, until = 25000 }, { member = "n-5", from = 10000, until = 20000 }]
-crash = [{ member = "n-4", at = 24000 }, { member = "n-5", at = 13700 }]
-"""
-# when they were suspected and declared dead: by the trace, whose rows of this are 61 to 69, 186 to 194, 222 to 246, 320 to 327 and 405
+# how the comment of a text begins that is a sentence of its page
+SAYS = '# The page says: '
+# of HELD when n-4 and n-5 were suspected and declared dead: by the trace, whose rows of this are 61 to 69, 186 to 194, 222 to 246,
+# 320 to 327 and 405
+HELD = 'declared-dead-before-and-detected'
 HEARD = {'n-4': ('<td>-' * 5, '<td>0' * 5), 'n-5': ('<td>0' * 5, '<td>3,184<td>3,204<td>9,553<td>9,553<td>9,553')}
 # a name that is no markup in the page, and of which all is seen
 NAME = '<script>&"it\'s"\u202e.toml'
@@ -63,9 +57,19 @@ def expect_page(program, told, name, text, trace, tick=None):
     expect(told, page, page_of(name, release, style, scenario, rows_in(scenario, trace.decode()), tick).encode())
 
 
+def check_said(program, path):
+    """The page has each sentence that a comment of the text has."""
+    check(program, text_of(path))
+    page = program.held('p.html').decode()
+    for line in path.read_text().splitlines():
+        if line.startswith(SAYS):
+            sentence = line.removeprefix(SAYS)
+            expect('a sentence', sentence if sentence in page else page.partition('<p class="lead">')[2].partition('</p>')[0], sentence)
+
+
 def check_held(program):
-    """Members that were suspected or held dead when they crashed count as such from the crash on."""
-    check(program, HELD)
+    """Members that were suspected or declared dead when they crashed count as such from the crash on."""
+    check_said(program, PAGES / f'{HELD}.toml')
     page = program.held('p.html').decode()
     for member, (suspected, dead) in HEARD.items():
         table = page.partition(f'<h3>{member}</h3><div class="chart">')[2].partition('</table>')[0]
@@ -73,7 +77,10 @@ def check_held(program):
 
 
 def cases():
-    """Each worked run, examples, and members that are held dead when they crash."""
-    yield Case('page of members that crash when they are held dead', check_held, ())
+    """Each worked run, examples, and texts of which it is known what their pages say."""
+    yield Case('page of members that were declared dead before they crash', check_held, ())
+    for path in sorted(PAGES.glob('*.toml')):
+        if path.stem != HELD:
+            yield Case(f'page of {path.stem}', check_said, (path,))
     for path in [*sorted(WORKED.glob('*.toml')), *(EXAMPLES / f'{name}.toml' for name in SHOWN)]:
         yield Case(f'page of {path.stem}', check, (text_of(path),))

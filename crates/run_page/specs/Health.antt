@@ -1,4 +1,4 @@
--- The members' local health counters, over time.
+-- The members' health scores, over time.
 use Rattle.std.specs.Prelude.{ℕ, ◌+◌, ◌-◌, ◌*◌, ◌^◌, ◌==◌, nat_eq, if◌then◌else◌, List, [], ◌++◌, codes, decimal, map, min, flat_map, slice_index, Option}
 use Rattle.std.specs.List.{range_with_len}
 use Rattle.scenario.specs.Setup.{Setup}
@@ -51,7 +51,8 @@ health_areas s rows most = layers s most (flat (span_count s)) (map (health_laye
 -- what the plot shows
 unfoldable pub health_words : List ℕ
 health_words =
-    codes "<p class=\"soft\">A member's health counter (Lifeguard) rises as its own probes fail. " ++ codes "Of each span the value at its end counts. Members at 0 aren't drawn.</p><ul class=\"legend\">"
+    codes "<p class=\"soft\">A member's health score (Lifeguard) rises as its own probes fail and as it refutes; answered probes lower it. "
+    ++ codes "The score at the end of each span counts. Members at 0 aren't drawn.</p><ul class=\"legend\">"
     ++ entry (codes "two") (codes "at 1") ++ entry (codes "one") (codes "at 2") ++ entry (codes "six") (codes "at 3") ++ entry (codes "dead") (codes "at 4 and more")
     ++ codes "</ul>"
 
@@ -59,12 +60,12 @@ health_words =
 unfoldable pub health_plot : Option Tick → Setup → List Row → ℕ → List ℕ
 health_plot time s rows most =
     codes "<div class=\"chart low\">" ++ axis_up most
-    ++ plot_opening (codes "") (moments s) most (codes "Health") (codes "How many members stand at each value of the health counter.")
+    ++ plot_opening (codes "") (moments s) most (codes "Health scores") (codes "How many members have each health score.")
     ++ health_areas s rows most ++ plot_end ++ time_axis time s ++ codes "</div>"
 
 -- a row of the table: how many members stand at a value from a moment on
 abbrev pub health_row : Option Tick → ℕ → ℕ → ℕ → List ℕ
-health_row time value from count = codes "<tr><td>" ++ decimal value ++ codes "<td>" ++ moment_alone time from ++ codes "<td>" ++ decimal count
+health_row time value from count = codes "<tr><th scope=\"row\">" ++ decimal value ++ codes "</th><td>" ++ moment_alone time from ++ codes "<td>" ++ decimal count
 
 -- the row of a span, where the number changes in it
 abbrev pub health_span : Option Tick → ℕ → ℕ → List ℕ → ℕ → List ℕ
@@ -81,7 +82,8 @@ value_rows time s rows value = health_rows time value (span_width s) (span_count
 -- the health as a table
 unfoldable pub health_table : Option Tick → Setup → List Row → List ℕ
 health_table time s rows =
-    codes "<details><summary>Health as a table</summary><div class=\"wide\"><table><tr><th>value" ++ codes "<th>from moment<th>members</tr>\n"
+    codes "<details><summary>Health scores as a table</summary><div class=\"wide\"><table><caption>How many members have each health score, from each moment at which that changes</caption>"
+    ++ codes "<thead><tr><th scope=\"col\">health score</th><th scope=\"col\">from moment</th><th scope=\"col\">members</th></tr></thead><tbody>\n"
     ++ flat_map (value_rows time s rows) values ++ codes "</table></div></details>"
 
 -- the figure, its plot as high as so many members

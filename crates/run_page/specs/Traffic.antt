@@ -18,6 +18,7 @@ use Rattle.drawing.specs.Shapes.{figure_opening, figure_end, plot_opening, plot_
 use Rattle.member_timelines.specs.Heights.{flat, axis_height}
 use Rattle.member_timelines.specs.Lanes.{moments}
 use Rattle.member_timelines.specs.LaneTable.{time_axis}
+use Rattle.member_timelines.specs.Numbers.{by_number}
 use Rattle.run_page.specs.Stacks.{Layer, layers, tops, greatest}
 use Rattle.drawing.specs.Lengths.{lasting, moment_alone}
 use Rattle.ticks.specs.declared.tick.Tick.{Tick}
@@ -73,12 +74,16 @@ two_places n = decimal (n / 100) ++ codes "." ++ decimal (n / 10 % 10) ++ decima
 -- how many messages there were
 unfoldable pub rate_words : Setup → ℕ → ℕ → List ℕ
 rate_words s sent lost =
-    codes "<p class=\"soft\">Messages sent: " ++ grouped sent ++ codes "; lost: " ++ grouped lost ++ codes "; sent per member and 1,000 ticks: "
+    codes "<p class=\"soft\">Messages sent: " ++ grouped sent ++ codes "; lost: " ++ grouped lost ++ codes "; sent per member per 1,000 ticks: "
     ++ two_places (hundredths s sent) ++ codes ".</p>"
+
+-- some messages of the kind were sent
+abbrev pub is_sent : List Row → What → Bool
+is_sent rows kind = nat_lt 0 (count_of kind rows)
 
 -- a kind's entry of the legend, where there are some of it
 abbrev pub kind_entry : List Row → What → List ℕ
-kind_entry rows kind = if nat_lt 0 (count_of kind rows) then counted_entry (class_of kind) (word_of kind) (count_of kind rows) else []
+kind_entry rows kind = if is_sent rows kind then counted_entry (class_of kind) (word_of kind) (count_of kind rows) else []
 
 -- the entry of what was lost, where some was
 abbrev pub lost_entry : ℕ → List ℕ
@@ -99,7 +104,7 @@ lost_tops s rows = tops (2 ^ 64 - 1) (flat (span_count s)) (map (lost_layer s ro
 
 -- how long a span is, behind some words
 unfoldable pub width_words : Option Tick → List ℕ → ℕ → List ℕ
-width_words time words width = words ++ decimal width ++ codes " ticks" ++ lasting time width ++ codes ".</p>"
+width_words time words width = words ++ grouped width ++ by_number width (codes " tick") (codes " ticks") ++ lasting time width ++ codes ".</p>"
 
 -- the end of a plot, with the axis of time below it, and how long its spans are, behind some words
 unfoldable pub below_plot : Option Tick → Setup → List ℕ → List ℕ
@@ -131,21 +136,35 @@ lost_plot time s counts most =
 abbrev pub lost_part : Option Tick → Setup → List ℕ → List ℕ
 lost_part time s counts = if nat_eq (greatest counts) 0 then [] else lost_plot time s counts (axis_height (greatest counts))
 
--- the heads of a kind's columns
-abbrev pub column : What → List ℕ
-column kind = codes "<th>" ++ word_of kind ++ codes "<th>lost"
+-- the heads of a kind's columns: how many were sent, and how many of them were lost
+unfoldable pub heads : List ℕ → List ℕ
+heads word = codes "<th scope=\"col\">" ++ word ++ codes "</th><th scope=\"col\">" ++ word ++ codes " lost</th>"
 
--- the heads of all columns
-unfoldable pub columns : List What → List ℕ
-columns kinds = codes "<table><tr><th>from moment" ++ flat_map column kinds ++ codes "</tr>\n"
+-- the same, where there are some of it
+abbrev pub column : List Row → What → List ℕ
+column rows kind = if is_sent rows kind then heads (word_of kind) else []
 
--- the first cell of the row of a span
+-- the heads of all columns, below what the table shows
+unfoldable pub columns : List Row → List What → List ℕ
+columns rows kinds =
+    codes "<table><caption>How many messages of each kind were sent in each span of time, and how many of them were lost</caption><thead><tr><th scope=\"col\">from moment</th>"
+    ++ flat_map (column rows) kinds ++ codes "</tr></thead><tbody>\n"
+
+-- a row begins with the moment from which it counts
+unfoldable pub row_head : Option Tick → ℕ → List ℕ
+row_head time from = codes "<tr><th scope=\"row\">" ++ moment_alone time from ++ codes "</th>"
+
+-- the head of the row of a span
 abbrev pub from_cell : Option Tick → Setup → ℕ → List ℕ
-from_cell time s span = codes "<tr><td>" ++ moment_alone time (span * span_width s)
+from_cell time s span = row_head time (span * span_width s)
 
--- the cells of a kind in a span
+-- how many messages of a kind were sent in a span, and how many of them were lost
+abbrev pub counts : Setup → List Row → ℕ → What → List ℕ
+counts s rows span kind = codes "<td>" ++ decimal (count_by (sends_in s kind span) rows) ++ codes "<td>" ++ decimal (count_by (loses_in s kind span) rows)
+
+-- the same, where there are some of the kind in the run
 abbrev pub cells : Setup → List Row → ℕ → What → List ℕ
-cells s rows span kind = codes "<td>" ++ decimal (count_by (sends_in s kind span) rows) ++ codes "<td>" ++ decimal (count_by (loses_in s kind span) rows)
+cells s rows span kind = if is_sent rows kind then counts s rows span kind else []
 
 -- the row of a span
 unfoldable pub span_cells : Option Tick → Setup → List Row → ℕ → List ℕ
@@ -154,7 +173,7 @@ span_cells time s rows span = from_cell time s span ++ flat_map (cells s rows sp
 -- the messages as a table
 unfoldable pub traffic_table : Option Tick → Setup → List Row → List ℕ
 traffic_table time s rows =
-    codes "<details><summary>The messages as a table</summary><div class=\"wide\">" ++ columns (message_kinds s.version)
+    codes "<details><summary>The messages as a table</summary><div class=\"wide\">" ++ columns rows (message_kinds s.version)
     ++ flat_map (span_cells time s rows) (range_with_len 0 (span_count s)) ++ codes "</table></div></details>"
 
 -- plots and table, where something was sent

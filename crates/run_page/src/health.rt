@@ -1,4 +1,4 @@
-//! The members' local health, over time.
+//! The members' health scores, over time.
 ghost use Rattle.std.specs.Prelude.{◌≡◌, ◌<◌, ◌≤◌, ◌^◌, ◌++◌, OnOk, IfOk, true, nat_le, flat_map, length};
 ghost use Rattle.std.specs.String.{string_bytes};
 ghost use Rattle.std.specs.List.{list_all};
@@ -18,7 +18,7 @@ use ticks::Tick;
 /// The values from 1 on: a counter never passes 16.
 const VALUES: [usize; 16] = [1, 2, 3, 4, 5, 6, 7, 8, 9, 10, 11, 12, 13, 14, 15, 16];
 
-/// Appends how many members stand at each health value, where somebody was in bad health.
+/// Appends how many members have each health score, where somebody was in bad health.
 pub(crate) fn push_health(alloc: Global, text: &mut String, run: &Run) -> Result<(), Memory>
     requires { IsTold run.now }
     ensures { OnOk result (string_bytes text.new ≡ string_bytes text.old ++ health_text run.now.tick run.now.scenario.now run.now.tallies.now) }
@@ -58,8 +58,8 @@ fn push_plot(alloc: Global, text: &mut String, run: &Run, most: u64) -> Result<(
         text,
         run,
         most,
-        "Health",
-        "How many members stand at each value of the health counter.",
+        "Health scores",
+        "How many members have each health score.",
     )?;
     push_areas(alloc, text, run, most)?;
     close_plot(text)?;
@@ -121,10 +121,12 @@ fn push_words(text: &mut String) -> Result<(), AllocError>
     ensures { OnOk result (string_bytes text.new ≡ string_bytes text.old ++ health_words) }
 {
     text.push_str(
-        "<p class=\"soft\">A member's health counter (Lifeguard) rises as its own probes fail. ",
+        "<p class=\"soft\">A member's health score (Lifeguard) rises as its own probes fail and as it \
+         refutes; answered probes lower it. ",
     )?;
     text.push_str(
-        "Of each span the value at its end counts. Members at 0 aren't drawn.</p><ul class=\"legend\">",
+        "The score at the end of each span counts. Members at 0 aren't drawn.</p>\
+         <ul class=\"legend\">",
     )?;
     push_entry(text, "two", "at 1")?;
     push_entry(text, "one", "at 2")?;
@@ -165,9 +167,13 @@ fn push_table(alloc: Global, text: &mut String, run: &Run) -> Result<(), Memory>
     ensures { OnOk result (string_bytes text.new ≡ string_bytes text.old ++ health_table run.now.tick run.now.scenario.now run.now.tallies.now) }
 {
     text.push_str(
-        "<details><summary>Health as a table</summary><div class=\"wide\"><table><tr><th>value",
+        "<details><summary>Health scores as a table</summary><div class=\"wide\"><table><caption>\
+         How many members have each health score, from each moment at which that changes</caption>",
     )?;
-    text.push_str("<th>from moment<th>members</tr>\n")?;
+    text.push_str(
+        "<thead><tr><th scope=\"col\">health score</th><th scope=\"col\">from moment</th>\
+         <th scope=\"col\">members</th></tr></thead><tbody>\n",
+    )?;
     push_values(alloc, text, run)?;
     text.push_str("</table></div></details>")?;
     Ok(())
@@ -253,7 +259,7 @@ fn push_row(
 ) -> Result<(), AllocError>
     ensures { OnOk result (string_bytes text.new ≡ string_bytes text.old ++ health_row time value from count) }
 {
-    write!(text, "<tr><td>{value}<td>")?;
+    write!(text, "<tr><th scope=\"row\">{value}</th><td>")?;
     push_moment_alone(text, time, from)?;
     write!(text, "<td>{count}")?;
     Ok(())

@@ -24,9 +24,9 @@ h2{font-size:1.15rem;margin:2em 0 .2em}p{margin:.3em 0;max-width:48rem}.lead{fon
 .many h3{font-size:1rem;margin:0}.many .plot{height:8rem}\
 .cause h3{font-size:1rem;margin:1em 0 0}.cause ul{margin:.2em 0;padding-left:1.2em;font-size:.9rem}\
 details{margin:.5em 0}summary{cursor:pointer;color:var(--soft);font-size:.9rem}\
-.wide{overflow-x:auto}table{border-collapse:collapse;font-size:.85rem;margin:.4em 0}\
-th,td{text-align:right;padding:.15em .7em .15em 0;border-bottom:1px solid var(--line);font-variant-numeric:tabular-nums}td{white-space:nowrap}\
-th:first-child,td:first-child{text-align:left}.many td,.many th{padding-right:.6em;white-space:normal}th{color:var(--soft);font-weight:600;vertical-align:bottom;line-height:1.2}\
+.wide{overflow-x:auto}table{border-collapse:collapse;font-size:.85rem;margin:.4em 0}caption{text-align:left;color:var(--soft)}\
+th,td{text-align:right;padding:.15em .7em .15em 0;border-bottom:1px solid var(--line);font-variant-numeric:tabular-nums}td,th[scope=row]{white-space:nowrap}\
+th:first-child,td:first-child{text-align:left}.many td,.many th{padding-right:.6em;white-space:normal}th[scope=row]{font-weight:400}th:not([scope=row]){color:var(--soft);font-weight:600;vertical-align:bottom;line-height:1.2}\
 table:has(th:nth-child(13)){font-size:.7rem}table:has(th:nth-child(13)) :is(th,td){padding-right:.4em;white-space:normal}\
 .keys{display:flex;flex-wrap:wrap;gap:.3rem .5rem;padding:0;margin:.4em 0;list-style:none;font-size:.9rem}\
 .keys li{border:1px solid var(--line);border-radius:.3rem;padding:.05rem .5rem}.keys .changed{border-color:var(--ink);font-weight:600}\

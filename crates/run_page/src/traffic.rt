@@ -4,8 +4,9 @@ ghost use Rattle.std.specs.String.{string_bytes};
 ghost use Rattle.std.specs.List.{list_all, range_with_len};
 ghost use Rattle.reports.specs.Text.{message_kinds};
 ghost use Rattle.series.specs.Spans.{span_width, span_count};
+ghost use Rattle.member_timelines.specs.Numbers.{by_number};
 ghost use Rattle.member_timelines.specs.Run.{IsTold};
-ghost use Rattle.run_page.specs.Traffic.{is_counted, sent, lost, hundredths, two_places, rate_words, kind_entry, lost_entry, kinds_legend, width_words, below_plot, sent_plot, lost_area, lost_plot, lost_tops, lost_part, column, columns, from_cell, cells, span_cells, traffic_table, traffic_body, traffic_text};
+ghost use Rattle.run_page.specs.Traffic.{is_counted, sent, lost, hundredths, two_places, rate_words, is_sent, kind_entry, lost_entry, kinds_legend, width_words, below_plot, sent_plot, lost_area, lost_plot, lost_tops, lost_part, column, columns, heads, row_head, from_cell, counts, cells, span_cells, traffic_table, traffic_body, traffic_text};
 
 use crate::kinds::{
     all_lost_by_span, class_of, kinds, lost_in, most_in_a_span, open_time_plot, push_areas,
@@ -16,7 +17,7 @@ use drawing::{
     close_figure, close_plot, open_figure, push_counted, push_entry, push_grouped, push_lasting,
     push_moment_alone, push_up,
 };
-use member_timelines::{Run, axis_height, flat, greatest, push_time_axis};
+use member_timelines::{Run, axis_height, by_number, flat, greatest, push_time_axis};
 use std::alloc::{AllocError, Global};
 use ticks::Tick;
 use trace::What;
@@ -84,13 +85,13 @@ fn push_rate(text: &mut String, run: &Run, sent: u64, lost: u64) -> Result<(), A
     push_grouped(text, sent)?;
     text.push_str("; lost: ")?;
     push_grouped(text, lost)?;
-    text.push_str("; sent per member and 1,000 ticks: ")?;
+    text.push_str("; sent per member per 1,000 ticks: ")?;
     push_hundredths(text, run, sent)?;
     text.push_str(".</p>")?;
     Ok(())
 }
 
-/// Appends how many messages per member and 1,000 ticks that is.
+/// Appends how many messages per member per 1,000 ticks that is.
 fn push_hundredths(text: &mut String, run: &Run, sent: u64) -> Result<(), AllocError>
     requires { IsTold run.now }
     ensures { OnOk result (string_bytes text.new ≡ string_bytes text.old ++ two_places (hundredths run.now.scenario.now sent)) }
@@ -98,7 +99,7 @@ fn push_hundredths(text: &mut String, run: &Run, sent: u64) -> Result<(), AllocE
     push_two_places(text, hundredths(run, sent))
 }
 
-/// Messages per member and 1,000 ticks, in hundredths.
+/// Messages per member per 1,000 ticks, in hundredths.
 fn hundredths(run: &Run, sent: u64) -> u128
     requires { IsTold run.now }
     ensures { result ≡ hundredths run.now.scenario.now sent }
@@ -220,7 +221,8 @@ fn push_words(
     ensures { OnOk result (string_bytes text.new ≡ string_bytes text.old ++ width_words time words.now width) }
 {
     text.push_str(words)?;
-    write!(text, "{width} ticks")?;
+    push_grouped(text, width)?;
+    text.push_str(by_number(width, " tick", " ticks"))?;
     push_lasting(text, time, width)?;
     text.push_str(".</p>")?;
     Ok(())
@@ -304,34 +306,59 @@ fn push_table(text: &mut String, run: &Run) -> Result<(), AllocError>
     Ok(())
 }
 
-/// Appends the heads of all columns.
+/// Appends the heads of all columns, below what the table shows.
 #[tactic(auto, unfolding(crate::specs::Traffic::columns))]
 fn push_all_columns(text: &mut String, run: &Run) -> Result<(), AllocError>
-    ensures { OnOk result (string_bytes text.new ≡ string_bytes text.old ++ columns (message_kinds run.now.scenario.now.version)) }
+    ensures { OnOk result (string_bytes text.new ≡ string_bytes text.old
+        ++ columns run.now.tallies.now (message_kinds run.now.scenario.now.version)) }
 {
-    text.push_str("<table><tr><th>from moment")?;
-    push_columns(text, kinds(run))?;
-    text.push_str("</tr>\n")?;
+    text.push_str(
+        "<table><caption>How many messages of each kind were sent in each span of time, \
+         and how many of them were lost</caption><thead><tr><th scope=\"col\">from moment</th>",
+    )?;
+    push_columns(text, run, kinds(run))?;
+    text.push_str("</tr></thead><tbody>\n")?;
     Ok(())
 }
 
 /// Appends the heads of these kinds' columns.
-fn push_columns(text: &mut String, kinds: &[What]) -> Result<(), AllocError>
-    ensures { OnOk result (string_bytes text.new ≡ string_bytes text.old ++ flat_map column kinds.now) }
+fn push_columns(text: &mut String, run: &Run, kinds: &[What]) -> Result<(), AllocError>
+    ensures { OnOk result (string_bytes text.new ≡ string_bytes text.old ++ flat_map (column run.now.tallies.now) kinds.now) }
 {
     for kind in kinds {
-        push_column(text, *kind)?;
+        push_column(text, run, *kind)?;
     }
     Ok(())
 }
 
-/// Appends the heads of a kind's columns.
-fn push_column(text: &mut String, kind: What) -> Result<(), AllocError>
-    ensures { OnOk result (string_bytes text.new ≡ string_bytes text.old ++ column kind) }
+/// Appends the heads of a kind's columns, where some messages of it were sent.
+fn push_column(text: &mut String, run: &Run, kind: What) -> Result<(), AllocError>
+    ensures { OnOk result (string_bytes text.new ≡ string_bytes text.old ++ column run.now.tallies.now kind) }
 {
-    text.push_str("<th>")?;
-    text.push_str(kind.word())?;
-    text.push_str("<th>lost")
+    if !is_sent(run, kind) {
+        return Ok(());
+    }
+    push_heads(text, kind.word())
+}
+
+/// Whether some messages of a kind were sent.
+fn is_sent(run: &Run, kind: What) -> bool
+    ensures { result ≡ is_sent run.now.tallies.now kind }
+{
+    run.tallies.rows_of(kind) > 0
+}
+
+/// Appends the heads of a kind's columns.
+#[tactic(auto, unfolding(crate::specs::Traffic::heads))]
+fn push_heads(text: &mut String, word: &str) -> Result<(), AllocError>
+    ensures { OnOk result (string_bytes text.new ≡ string_bytes text.old ++ heads word.now) }
+{
+    text.push_str("<th scope=\"col\">")?;
+    text.push_str(word)?;
+    text.push_str("</th><th scope=\"col\">")?;
+    text.push_str(word)?;
+    text.push_str(" lost</th>")?;
+    Ok(())
 }
 
 /// Appends the rows of all spans.
@@ -358,15 +385,25 @@ fn push_span(text: &mut String, run: &Run, span: usize) -> Result<(), AllocError
     Ok(())
 }
 
-/// Appends the first cell of the row of a span.
+/// Appends the head of the row of a span.
 fn push_from(text: &mut String, run: &Run, span: usize) -> Result<(), AllocError>
     requires told { IsTold run.now }
     requires few { span < 120 }
     ensures { OnOk result (string_bytes text.new ≡ string_bytes text.old ++ from_cell run.now.tick run.now.scenario.now span) }
 {
     let from = span as u64 * run.width();
-    text.push_str("<tr><td>")?;
-    push_moment_alone(text, run.tick, from)
+    push_row_head(text, run.tick, from)
+}
+
+/// Begins a row with the moment from which it counts.
+#[tactic(auto, unfolding(crate::specs::Traffic::row_head))]
+fn push_row_head(text: &mut String, time: Option<Tick>, from: u64) -> Result<(), AllocError>
+    ensures { OnOk result (string_bytes text.new ≡ string_bytes text.old ++ row_head time from) }
+{
+    text.push_str("<tr><th scope=\"row\">")?;
+    push_moment_alone(text, time, from)?;
+    text.push_str("</th>")?;
+    Ok(())
 }
 
 /// Appends the cells of all kinds in a span.
@@ -401,12 +438,25 @@ fn push_cells(text: &mut String, run: &Run, span: usize, kinds: &[What]) -> Resu
     Ok(())
 }
 
-/// Appends how many messages of a kind were sent in a span, and how many of them were lost.
+/// Appends the cells of a kind in a span, where some messages of it were sent in the run.
 fn push_cell(text: &mut String, run: &Run, span: usize, kind: What) -> Result<(), AllocError>
     requires told { IsTold run.now }
     requires few { span < 120 }
     requires counted { is_counted kind ≡ true }
     ensures { OnOk result (string_bytes text.new ≡ string_bytes text.old ++ cells run.now.scenario.now run.now.tallies.now span kind) }
+{
+    if !is_sent(run, kind) {
+        return Ok(());
+    }
+    push_counts(text, run, span, kind)
+}
+
+/// Appends how many messages of a kind were sent in a span, and how many of them were lost.
+fn push_counts(text: &mut String, run: &Run, span: usize, kind: What) -> Result<(), AllocError>
+    requires told { IsTold run.now }
+    requires few { span < 120 }
+    requires counted { is_counted kind ≡ true }
+    ensures { OnOk result (string_bytes text.new ≡ string_bytes text.old ++ counts run.now.scenario.now run.now.tallies.now span kind) }
 {
     push_number(text, "<td>", sent_in(run, kind, span))?;
     push_number(text, "<td>", lost_in(run, kind, span))
