@@ -6,7 +6,7 @@ use std::alloc::Global;
 use std::str::from_utf8;
 use sweep_plan::Seeds;
 
-/// What the first line of the table in the file of a name tells.
+/// What the first line of the table in the file of a name says.
 #[derive(Drop)]
 pub(crate) struct Told<'a> {
     pub(crate) name: &'a str,
@@ -18,7 +18,7 @@ pub(crate) struct Told<'a> {
     pub(crate) settings: String,
 }
 
-/// What the first line of a text tells, where it is that of a table.
+/// What the first line of a text says, where it is that of a table.
 pub(crate) fn told_of<'a>(
     alloc: Global,
     name: &'a str,
@@ -33,7 +33,7 @@ pub(crate) fn told_of<'a>(
     }
 }
 
-/// What the first line of a text tells, whichever table it is.
+/// What the first line of a text says, whichever table it is.
 fn head_in<'a>(alloc: Global, words: &'a str) -> Result<Option<Head<'a>>, Memory> {
     if let Some(head) = known(head_of(alloc, words, false))? {
         return Ok(Some(head));
@@ -49,7 +49,7 @@ fn known<'a>(found: Result<Option<Head<'a>>, JoinFault>) -> Result<Option<Head<'
     }
 }
 
-/// What a first line tells of a file.
+/// What a first line says of a file.
 fn told_by<'a>(alloc: Global, name: &'a str, head: &Head<'_>) -> Result<Told<'a>, Memory> {
     let mark = String::from_str(alloc, head.mark)?;
     let words = plan_text(alloc, &head.plan)?;
