@@ -11,17 +11,17 @@ of_table name what = shown_name name ++ what
 
 -- no file is the shard of this number
 abbrev pub absent_shard : ℕ → List ℕ
-absent_shard number = codes "no file is the shard " ++ decimal number
+absent_shard number = codes "no file is shard " ++ decimal number
 
 -- and how it is made
 abbrev pub missing_shard : ℕ → List ℕ
-missing_shard number = absent_shard number ++ codes "; make it with the same sweep and its --shard, and name it too"
+missing_shard number = absent_shard number ++ codes "; run the same sweep with its --shard, and name that table too"
 
 -- what is wrong with the file, and what to do
 abbrev pub shard_reason_text : ShardReason → List ℕ
-shard_reason_text (NoTable name) = of_table name.now (codes " isn't a table of a sweep; name files that sweep --table or join --table made")
+shard_reason_text (NoTable name) = of_table name.now (codes " isn't a table of a sweep; name files that sweep --table or join --table wrote")
 shard_reason_text (Other name) = of_table name.now (codes " doesn't belong to the first table; take tables of one scenario text with the same options")
 shard_reason_text (Twice name) = of_table name.now (codes " has the same runs as another file; leave one of them out")
-shard_reason_text (Torn name) = of_table name.now (codes " has a line that is changed, or lacks one; make the rest with the same sweep, --shard and --resume")
+shard_reason_text (Torn name) = of_table name.now (codes " lacks a line, or one has changed; run the same sweep with --shard and --resume, which makes the rest")
 shard_reason_text (Missing number) = missing_shard number
 shard_reason_text (Resumed name) = of_table name.now (codes " begins with other runs; resume with the scenario and the options that it was made with, or name another table")

@@ -32,7 +32,7 @@ impl Display for ShardReason<'_> {
             ShardReason::NoTable(name) => write_of(
                 f,
                 name,
-                " isn't a table of a sweep; name files that sweep --table or join --table made",
+                " isn't a table of a sweep; name files that sweep --table or join --table wrote",
             ),
             ShardReason::Other(name) => write_of(
                 f,
@@ -47,7 +47,7 @@ impl Display for ShardReason<'_> {
             ShardReason::Torn(name) => write_of(
                 f,
                 name,
-                " has a line that is changed, or lacks one; make the rest with the same sweep, --shard and --resume",
+                " lacks a line, or one has changed; run the same sweep with --shard and --resume, which makes the rest",
             ),
             ShardReason::Missing(number) => write_missing(f, *number),
             ShardReason::Resumed(name) => write_of(
@@ -72,12 +72,12 @@ fn write_missing<W: Write>(f: &mut Formatter<W>, number: u64) -> fmt::Result
     ensures { WritesOnOk W.write_str_gives f.old result (missing_shard number) f.new }
 {
     write_absent(f, number)?;
-    f.write_str("; make it with the same sweep and its --shard, and name it too")
+    f.write_str("; run the same sweep with its --shard, and name that table too")
 }
 
 /// Writes which shard is missing.
 fn write_absent<W: Write>(f: &mut Formatter<W>, number: u64) -> fmt::Result
     ensures { WritesOnOk W.write_str_gives f.old result (absent_shard number) f.new }
 {
-    write!(f, "no file is the shard {number}")
+    write!(f, "no file is shard {number}")
 }
