@@ -2,7 +2,7 @@
 use Rattle.std.specs.Prelude.{ℕ, List, ◌++◌, codes}
 use Rattle.shown_names.specs.Shown.{shown_name}
 use Rattle.reasons.specs.declared.runs.RunReason.{RunReason}
-use Rattle.reasons.specs.declared.runs.RunReason.TheVariants.{Rule, Setting, Memory, Counter, Write, Thread}
+use Rattle.reasons.specs.declared.runs.RunReason.TheVariants.{Rule, Setting, Unread, Values, Memory, Counter, Write, Thread}
 
 -- what prints all errors of a file
 abbrev pub explain_text : List ℕ → List ℕ
@@ -21,6 +21,8 @@ full_text names = codes "a file took only a part of its text, as when the disk i
 abbrev pub run_reason_text : RunReason → List ℕ
 run_reason_text (Rule name) = explain_text name.now
 run_reason_text (Setting name) = set_text name.now
+run_reason_text Unread = codes "write the scenario to a file, and swimsim explain prints all errors and how to fix them"
+run_reason_text Values = codes "write these values into a copy of the scenario, and swimsim explain prints what is wrong"
 run_reason_text Memory = codes "the system refused memory; give the program more, or take a shorter run, fewer members or fewer workers"
 run_reason_text Counter = codes "a counter would pass 2^63; take a shorter run or smaller numbers"
 run_reason_text (Write names) = full_text names.now

@@ -14,6 +14,10 @@ pub enum RunReason<'a> {
     Rule(&'a str),
     /// It is accepted, but not with the values of a setting.
     Setting(&'a str),
+    /// A scenario that can't be read again breaks a rule.
+    Unread,
+    /// One with the values of a setting.
+    Values,
     /// Memory was refused.
     Memory,
     /// A counter is full.
@@ -31,6 +35,12 @@ impl Display for RunReason<'_> {
         match self {
             RunReason::Rule(name) => write_explain(f, name),
             RunReason::Setting(name) => write_set(f, name),
+            RunReason::Unread => f.write_str(
+                "write the scenario to a file, and swimsim explain prints all errors and how to fix them",
+            ),
+            RunReason::Values => f.write_str(
+                "write these values into a copy of the scenario, and swimsim explain prints what is wrong",
+            ),
             RunReason::Memory => f.write_str(
                 "the system refused memory; give the program more, or take a shorter run, fewer members or fewer workers",
             ),
