@@ -24,6 +24,7 @@ MISSING = 'make a table of what is missing, and join it too'
 WIDTH = "was made with --until, so it can't get more seeds; make one table with all seeds"
 NO_SEEDS = 'was made without --seeds; make it with a range of seeds'
 SAME = 'has the same runs as another file; leave one of them out'
+TORN_AT = 'is wrong or missing; run that sweep with --shard and --resume'
 TORN = 'lacks a line, or one has changed; run the same sweep with --shard and --resume, which makes the rest'
 NO_TABLE = "isn't a table of a sweep; name files that sweep --table or join --table wrote"
 STRANGE = "doesn't belong to the first table; take tables of one scenario text with the same options"
@@ -157,6 +158,7 @@ def check_refused(program, sweep):
     header, *lines = program.held('2.csv').splitlines(keepends=True)
     program.keep('short.csv', b''.join([header, *lines[:-1]]))
     program.keep('older.csv', without_checksums(program.held('2.csv')))
+    last = len(lines) + 1
     # lines that each are right, but not at their places
     program.keep('swapped.csv', b''.join([header, *lines[1::-1], *lines[2:]]))
     program.keep('doubled.csv', b''.join([header, *lines[:1], *lines[:1], *lines[2:]]))
@@ -164,7 +166,7 @@ def check_refused(program, sweep):
     expect_refused(program, [
         (['1.csv'], 'piece 2 missing', ABSENT),
         (['2.csv', '2.csv'], 'piece 2.csv twice', f'2.csv {SAME}'),
-        *beside_the_first('torn', 'torn', 'short', 'swapped', 'doubled', 'mixed', why=TORN),
+        *(torn_at(name, line) for name, line in (('torn', last), ('short', last), ('swapped', 2), ('doubled', 3), ('mixed', last))),
         *beside_the_first(OLDER, 'older'),
         (['1.csv', 'other.csv'], 'piece other.csv of another sweep', f'1.csv and other.csv {UNLIKE}'),
         (['1.csv', 's.toml'], 'no piece s.toml', f's.toml {NO_TABLE}'),
@@ -173,6 +175,11 @@ def check_refused(program, sweep):
         (['1.csv', '2.csv', 'all.csv'], 'piece all.csv of another sweep', f'1.csv {SHARD}'),
         (['plain.csv'], 'no piece plain.csv', f'plain.csv {NO_TABLE}'),
     ])
+
+
+def torn_at(name, line):
+    """The first piece joined with this table, of which this line is wrong."""
+    return ['1.csv', f'{name}.csv'], f'piece {name}.csv torn', f'{name}.csv: line {line} {TORN_AT}'
 
 
 def named_seeds(word):
@@ -198,7 +205,8 @@ def check_widths_refused(program, sweep):
         (['1.csv'], 'piece 2 missing', ABSENT),
         (['2.csv', '1.csv', '2.csv'], 'piece 2.csv twice', f'2.csv {SAME}'),
         (['short.csv', '1.csv'], 'piece short.csv torn', f'short.csv {TORN}'),
-        *beside_the_first('torn', 'torn', 'long', 'more', 'none', why=TORN),
+        torn_at('torn', len(second)),
+        *beside_the_first('torn', 'long', 'more', 'none', why=TORN),
         (['1.csv', 'wider.csv'], 'piece wider.csv of another sweep', f'1.csv and wider.csv {UNLIKE}'),
         (['1.csv', 'whole.csv'], 'piece whole.csv of another sweep', f'1.csv and whole.csv {UNLIKE}'),
         *beside_the_first('of another sweep', 'widest', why=STRANGE),
@@ -324,8 +332,8 @@ def check_seeds_refused(program):
         (['a.csv', 'half.csv'], 'piece half.csv of another sweep', f'half.csv {SHARD}'),
         (['half.csv', 'a.csv'], 'piece a.csv of another sweep', f'half.csv {SHARD}'),
         (['a.csv', 's.toml'], 'no piece s.toml', f's.toml {NO_TABLE}'),
-        (['a.csv', 'torn.csv'], 'piece torn.csv torn', f'torn.csv {TORN}'),
-        (['a.csv', 'swapped.csv'], 'piece swapped.csv torn', f'swapped.csv {TORN}'),
+        (['a.csv', 'torn.csv'], 'piece torn.csv torn', f'torn.csv: line {len(lines) + 1} {TORN_AT}'),
+        (['a.csv', 'swapped.csv'], 'piece swapped.csv torn', f'swapped.csv: line 2 {TORN_AT}'),
         (['a.csv', 'older.csv'], f'piece older.csv {OLDER}'),
     ])
 
