@@ -1,7 +1,9 @@
 //! Which line of a table isn't what its sweep wrote.
+ghost use Rattle.std.specs.Prelude.{IfOk, IfSome};
 ghost use Rattle.shards.specs.Shards.{IsShard};
 ghost use Rattle.sweep.specs.Runs.{IsAskedFor};
 ghost use Rattle.shard_merge.specs.Reasons.{BeginsAs};
+ghost use Rattle.table_reasons.specs.Torn.{IsWrongLine};
 
 use crate::told::head_in;
 use base::Memory;
@@ -63,6 +65,7 @@ fn unplaced_line(
 ) -> Result<Option<usize>, Memory>
     requires asked { IsAskedFor plan.now }
     requires shard { IsShard shard }
+    ensures { IfOk result (λ found. IfSome found (IsWrongLine key.now plan.now shard lines.now)) }
 {
     let runs = plan.runs();
     let first = shard.first(runs);
@@ -71,7 +74,7 @@ fn unplaced_line(
     if stood.count == most && stood.left.is_empty() {
         return Ok(None);
     }
-    Ok(Some(stood.count.saturating_add(2)))
+    Ok(Some(stood.count + 2))
 }
 
 /// The number of the first line that has no checksum, or a wrong one; none where all have theirs.
