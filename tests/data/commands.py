@@ -19,7 +19,7 @@ ON_TERMINAL = [
     ('run two.toml --trace t --workers 65', 4, ['swimsim: workers\n', '--workers 65: write a whole number from 1 to 64\n']),
     ('run two.toml --trace t --parts 1 --division 0,0', 2, ['--parts and --division exclude each other\n']),
     ('run two.toml --trace t --division 0,64', 4, ['--division 0,64: write whole numbers from 0 to 63 with commas between them\n']),
-    ('run two.toml --trace t --division 0', 4, ['--division 0: write one part for each member of the scenario\n']),
+    ('run two.toml --trace t --division 0', 4, ['--division 0: write the number of a part for each member of the scenario\n']),
     ('run two.toml --trace t --tick 2s', 2, ['--tick 2s: write a whole number and us, ms or s, from 1us to 1s, as 1ms\n']),
     ('run two.toml --trace -', 2, ["--trace -: - isn't standard output here; write the name of a file, or ./- for one with the name -\n"]),
     ('check -', 1, ['-: there is no such file; /dev/stdin is standard input\n']),

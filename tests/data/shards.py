@@ -17,19 +17,20 @@ COUNTS = (1, 2, 3, 7, 61)
 OLDER = 'of an earlier version: make it again, or read it with that version'
 
 # what to do with tables that aren't joined
-UNLIKE = 'have other words of --set or --until; make both with the same'
+UNLIKE = 'were made with different --set or --until; make both with the same'
 SHARD = 'is a shard; join the shards of each range of seeds first, and then the tables'
-SHARED = 'leave one of them out, or make it with other seeds'
-MISSING = 'make a table with these, and join it too'
+SHARED = 'leave one table out, or make it with other seeds'
+MISSING = 'make a table of what is missing, and join it too'
 WIDTH = "was made with --until, so it can't get more seeds; make one table with all seeds"
 NO_SEEDS = 'was made without --seeds; make it with a range of seeds'
 SAME = 'has the same runs as another file; leave one of them out'
-TORN = 'has a line that is changed, or lacks one; make the rest with the same sweep, --shard and --resume'
-NO_TABLE = "isn't a table of a sweep; name files that sweep --table or join --table made"
+TORN_AT = 'is wrong or missing; run that sweep with --shard and --resume'
+TORN = 'lacks a line, or one has changed; run the same sweep with --shard and --resume, which makes the rest'
+NO_TABLE = "isn't a table of a sweep; name files that sweep --table or join --table wrote"
 STRANGE = "doesn't belong to the first table; take tables of one scenario text with the same options"
 RESUMED = 'begins with other runs; resume with the scenario and the options that it was made with, or name another table'
-ABSENT = 'no file is the shard 2; make it with the same sweep and its --shard, and name it too'
-TEXTS = 'are of two scenario texts; make both of one text, byte for byte'
+ABSENT = 'no file is shard 2; run the same sweep with its --shard, and name that table too'
+TEXTS = 'were made from two scenario texts; make both from one text, byte for byte'
 
 
 def check(program, sweep, count):
@@ -157,6 +158,7 @@ def check_refused(program, sweep):
     header, *lines = program.held('2.csv').splitlines(keepends=True)
     program.keep('short.csv', b''.join([header, *lines[:-1]]))
     program.keep('older.csv', without_checksums(program.held('2.csv')))
+    last = len(lines) + 1
     # lines that each are right, but not at their places
     program.keep('swapped.csv', b''.join([header, *lines[1::-1], *lines[2:]]))
     program.keep('doubled.csv', b''.join([header, *lines[:1], *lines[:1], *lines[2:]]))
@@ -164,15 +166,26 @@ def check_refused(program, sweep):
     expect_refused(program, [
         (['1.csv'], 'piece 2 missing', ABSENT),
         (['2.csv', '2.csv'], 'piece 2.csv twice', f'2.csv {SAME}'),
-        *beside_the_first('torn', 'torn', 'short', 'swapped', 'doubled', 'mixed', why=TORN),
+        *(torn_at(name, line) for name, line in (('torn', last), ('short', last), ('swapped', 2), ('doubled', 3), ('mixed', last))),
         *beside_the_first(OLDER, 'older'),
         (['1.csv', 'other.csv'], 'piece other.csv of another sweep', f'1.csv and other.csv {UNLIKE}'),
         (['1.csv', 's.toml'], 'no piece s.toml', f's.toml {NO_TABLE}'),
-        (['all.csv', 'all.csv'], 'piece all.csv twice', f'all.csv and all.csv both have the seeds {sweep["seeds"]}; {SHARED}'),
+        (['all.csv', 'all.csv'], 'piece all.csv twice', f'all.csv and all.csv both have the {named_seeds(sweep["seeds"])}; {SHARED}'),
         (['all.csv', '1.csv', '2.csv'], 'piece 1.csv of another sweep', f'1.csv {SHARD}'),
         (['1.csv', '2.csv', 'all.csv'], 'piece all.csv of another sweep', f'1.csv {SHARD}'),
         (['plain.csv'], 'no piece plain.csv', f'plain.csv {NO_TABLE}'),
     ])
+
+
+def torn_at(name, line):
+    """The first piece joined with this table, of which this line is wrong."""
+    return ['1.csv', f'{name}.csv'], f'piece {name}.csv torn', f'{name}.csv: line {line} {TORN_AT}'
+
+
+def named_seeds(word):
+    """What is said of a range of seeds, or of its only seed."""
+    first, last = word.split('..')
+    return f'seed {first}' if first == last else f'seeds {word}'
 
 
 def check_widths_refused(program, sweep):
@@ -192,7 +205,8 @@ def check_widths_refused(program, sweep):
         (['1.csv'], 'piece 2 missing', ABSENT),
         (['2.csv', '1.csv', '2.csv'], 'piece 2.csv twice', f'2.csv {SAME}'),
         (['short.csv', '1.csv'], 'piece short.csv torn', f'short.csv {TORN}'),
-        *beside_the_first('torn', 'torn', 'long', 'more', 'none', why=TORN),
+        torn_at('torn', len(second)),
+        *beside_the_first('torn', 'long', 'more', 'none', why=TORN),
         (['1.csv', 'wider.csv'], 'piece wider.csv of another sweep', f'1.csv and wider.csv {UNLIKE}'),
         (['1.csv', 'whole.csv'], 'piece whole.csv of another sweep', f'1.csv and whole.csv {UNLIKE}'),
         *beside_the_first('of another sweep', 'widest', why=STRANGE),
@@ -303,11 +317,11 @@ def check_seeds_refused(program):
     header, *lines = torn.splitlines(keepends=True)
     program.keep('swapped.csv', b''.join([header, *lines[1::-1], *lines[2:]]))
     expect_refused(program, [
-        (['a.csv', 'c.csv'], 'piece c.csv twice', f'a.csv and c.csv both have the seeds 3..3; {SHARED}'),
+        (['a.csv', 'c.csv'], 'piece c.csv twice', f'a.csv and c.csv both have the seed 3; {SHARED}'),
         (['c.csv', 'b.csv', 'a.csv'], 'piece b.csv twice', f'c.csv and b.csv both have the seeds 4..5; {SHARED}'),
         (['a.csv', 'a.csv'], 'piece a.csv twice', f'a.csv and a.csv both have the seeds 1..3; {SHARED}'),
         (['d.csv', 'a.csv'], 'piece d.csv of another sweep', f'a.csv and d.csv leave out the seeds 4..7; {MISSING}'),
-        (['b.csv', 'd.csv', 'a.csv'], 'piece d.csv of another sweep', f'b.csv and d.csv leave out the seeds 7..7; {MISSING}'),
+        (['b.csv', 'd.csv', 'a.csv'], 'piece d.csv of another sweep', f'b.csv and d.csv leave out the seed 7; {MISSING}'),
         (['a.csv', 'keys.csv'], 'piece keys.csv of another sweep', f'a.csv and keys.csv {UNLIKE}'),
         (['a.csv', 'text.csv'], 'piece text.csv of another sweep', f'a.csv and text.csv {TEXTS}'),
         (['a.csv', 'own.csv'], 'piece own.csv of another sweep', f'own.csv {NO_SEEDS}'),
@@ -318,8 +332,8 @@ def check_seeds_refused(program):
         (['a.csv', 'half.csv'], 'piece half.csv of another sweep', f'half.csv {SHARD}'),
         (['half.csv', 'a.csv'], 'piece a.csv of another sweep', f'half.csv {SHARD}'),
         (['a.csv', 's.toml'], 'no piece s.toml', f's.toml {NO_TABLE}'),
-        (['a.csv', 'torn.csv'], 'piece torn.csv torn', f'torn.csv {TORN}'),
-        (['a.csv', 'swapped.csv'], 'piece swapped.csv torn', f'swapped.csv {TORN}'),
+        (['a.csv', 'torn.csv'], 'piece torn.csv torn', f'torn.csv: line {len(lines) + 1} {TORN_AT}'),
+        (['a.csv', 'swapped.csv'], 'piece swapped.csv torn', f'swapped.csv: line 2 {TORN_AT}'),
         (['a.csv', 'older.csv'], f'piece older.csv {OLDER}'),
     ])
 

@@ -152,6 +152,41 @@ def pipes(uses, room, whole):
     uses.judge('pipes as scenario and trace', left[0] == 0 and taken == [whole], left)
 
 
+def read_once(uses, room, whole):
+    """Scenarios and tables that are refused, from pipes: the program waits for nobody to write them again, and says only what it knows."""
+    folder = folder_of(room, 'read_once')
+    os.mkfifo(folder / 'pipe')
+    bad = TWO_MEMBERS.replace('version = 1', 'version = 9')
+    values = 'write these values into a copy of the scenario, and swimsim explain prints what is wrong'
+    for text, swept, told in ((TWO_MEMBERS, ['--set', 'swim.timeout=2000'], f'9 with swim.timeout=2000\n{values}'),
+                              (bad, ['--set', 'swim.timeout=2000'], f'5 with swim.timeout=2000\n{values}'),
+                              (bad, [], '5\nwrite the scenario to a file, and swimsim explain prints all errors and how to fix them')):
+        for name in ('pipe', '/dev/stdin'):
+            left = call_fed(uses, folder, ['sweep', name, '--table', 't', *swept], {'pipe': text} if name == 'pipe' else {}, text)
+            uses.judge(f'{name}: {told[:30]!r}', left == (3, b'', f'swimsim: scenario rule {told}\n'.encode()), left)
+    left = call_fed(uses, folder, ['sweep', 'pipe', '--table', 't', '--set', 'group.k.count=2'], {'pipe': TWO_MEMBERS})
+    uses.judge('an item that a scenario from a pipe has not', left == (2, b'', b'swimsim: usage: no item of group.k.count\n'), left)
+    uses.call(folder, ['sweep', 's.toml', '--table', 'whole.csv', '--seeds', '1..3'])
+    os.mkfifo(folder / 'other')
+    table = (folder / 'whole.csv').read_text()
+    left = call_fed(uses, folder, ['join', 'pipe', 'other', '--table', 'u'], {'pipe': table, 'other': table})
+    told = b'swimsim: piece other twice\nother has the same runs as another file; leave one of them out\n'
+    uses.judge('one table from two pipes', left == (3, b'', told) and not (folder / 'u').exists(), left)
+
+
+def call_fed(uses, folder, words, pipes, text=''):
+    """Calls the program while others write these texts into pipes once, and this one into its standard input."""
+    threads = [threading.Thread(target=(folder / name).write_text, args=(held,), daemon=True) for name, held in pipes.items()]
+    for thread in threads:
+        thread.start()
+    out, into = os.pipe()
+    os.write(into, text.encode())
+    os.close(into)
+    left = uses.call(folder, words, stdin=out)
+    os.close(out)
+    return left
+
+
 def ends(uses, room, whole):
     """Runs that are killed, short of memory, or two at once."""
     folder = folder_of(room, 'ends')
@@ -471,7 +506,7 @@ def main():
         if status != 0:
             sys.exit(f'misuse: status {status} of a plain run')
         whole = (folder / 't').read_bytes()
-        for group in (names, texts, stacks, outputs, pipes, ends, words, sizes, removals, replaced, error_stream, pieces, going_on, damaged,
+        for group in (names, texts, stacks, outputs, pipes, read_once, ends, words, sizes, removals, replaced, error_stream, pieces, going_on, damaged,
                       disagreeing):
             group(uses, room, whole)
     end(uses.well, uses.wrong)

@@ -5,6 +5,7 @@ mod file_reasons;
 mod help;
 mod lines;
 mod names;
+mod rereading;
 mod runs;
 mod scenarios;
 mod settings;

@@ -3,8 +3,9 @@ ghost use Rattle.std.specs.Prelude.{◌≡◌};
 
 use crate::file_reasons::file_reason;
 use crate::help::SHORT_HELP;
+use crate::rereading::read_again;
 use crate::runs::run_lines;
-use crate::scenarios::{first_diagnostic, first_of_setting};
+use crate::scenarios::{first_lines, is_accepted};
 use crate::shard_reasons::shard_lines;
 use crate::surroundings::Surroundings;
 use base::Memory;
@@ -18,7 +19,7 @@ use std::convert::AsStr;
 use std::fmt::Display;
 use word_reasons::{WordsFault, words_fault};
 
-/// What is told below the line of a failure; nothing where the line says all.
+/// What is printed below the line of a failure; nothing where the line says all.
 pub(crate) fn lines_below<'a, S: AsStr, F: Files, A: Surroundings>(
     alloc: Global,
     surroundings: &A,
@@ -35,12 +36,17 @@ pub(crate) fn lines_below<'a, S: AsStr, F: Files, A: Surroundings>(
             words_lines(alloc, words, failure)
         }
         Failure::File(name) => file_lines(alloc, surroundings, words, name),
-        Failure::Rule(rule) => scenario_lines(alloc, words, *rule, "", files),
-        Failure::Setting { rule, swept_keys } => {
-            scenario_lines(alloc, words, *rule, swept_keys.as_str(), files)
-        }
-        Failure::NoItem { key } => item_lines(alloc, words, key.as_str(), files),
-        Failure::Shards(fault) => shard_lines(alloc, words, *fault, files),
+        Failure::Rule(rule) => scenario_lines(alloc, surroundings, words, *rule, "", files),
+        Failure::Setting { rule, swept_keys } => scenario_lines(
+            alloc,
+            surroundings,
+            words,
+            *rule,
+            swept_keys.as_str(),
+            files,
+        ),
+        Failure::NoItem { key } => item_lines(alloc, surroundings, words, key.as_str(), files),
+        Failure::Shards(fault) => shard_lines(alloc, surroundings, words, *fault, files),
         _ => run_lines(alloc, words, failure),
     }
 }
@@ -74,10 +80,11 @@ fn file_lines<'a, S: AsStr, A: Surroundings>(
     }
 }
 
-/// What is wrong with the scenario whose file stands in the words: its first diagnostic, and what tells all of them. Where it has
-/// none, and values of a setting are given, these break a rule: what is wrong with the text that has them.
-fn scenario_lines<S: AsStr, F: Files>(
+/// What is wrong with the scenario whose file stands in the words, and what prints all of it. Where `swept_keys` says values,
+/// as `KEY=V KEY=V`, the scenario was to have these.
+fn scenario_lines<S: AsStr, F: Files, A: Surroundings>(
     alloc: Global,
+    surroundings: &A,
     words: &[S],
     rule: u8,
     swept_keys: &str,
@@ -93,12 +100,34 @@ fn scenario_lines<S: AsStr, F: Files>(
     let Some(name) = scenario_name(&asked) else {
         return Ok(String::new(alloc));
     };
-    let lines = first_diagnostic(alloc, name, rule, files)?;
-    if lines.is_empty() && !swept_keys.is_empty() {
-        let first = first_of_setting(alloc, name, rule, swept_keys, files)?;
-        return with_reason(alloc, first, RunReason::Setting(name));
+    match read_again(alloc, surroundings, name, files) {
+        Some(bytes) => refused_lines(alloc, name, bytes.as_slice(), rule, swept_keys),
+        None => line_of(alloc, &unread_reason(swept_keys)),
+    }
+}
+
+/// What is wrong with the text of a file, or with the same text with these values.
+fn refused_lines(
+    alloc: Global,
+    name: &str,
+    bytes: &[u8],
+    rule: u8,
+    swept_keys: &str,
+) -> Result<String, Memory> {
+    let lines = first_lines(alloc, name, bytes, rule, swept_keys)?;
+    if !swept_keys.is_empty() && is_accepted(alloc, bytes) {
+        return with_reason(alloc, lines, RunReason::Setting(name));
     }
     with_reason(alloc, lines, RunReason::Rule(name))
+}
+
+/// What to do where the scenario can't be read again.
+fn unread_reason(swept_keys: &str) -> RunReason<'static> {
+    if swept_keys.is_empty() {
+        RunReason::Unread
+    } else {
+        RunReason::Values
+    }
 }
 
 /// Lines with that of a reason behind them.
@@ -118,9 +147,10 @@ fn scenario_name<'a>(asked: &Asked<'a>) -> Option<&'a str> {
     }
 }
 
-/// Why the key of an item means no one item of the scenario whose file stands in the words.
-fn item_lines<S: AsStr, F: Files>(
+/// Why the key of an item means no one item of the scenario whose file stands in the words; nothing where that can't be read again.
+fn item_lines<S: AsStr, F: Files, A: Surroundings>(
     alloc: Global,
+    surroundings: &A,
     words: &[S],
     key: &str,
     files: &mut F,
@@ -135,17 +165,14 @@ fn item_lines<S: AsStr, F: Files>(
     let Some(name) = scenario_name(&asked) else {
         return Ok(String::new(alloc));
     };
-    match files.read(alloc, name) {
-        Ok(bytes) => item_line(alloc, key, bytes.as_slice()),
-        Err(_) => Ok(String::new(alloc)),
+    match read_again(alloc, surroundings, name, files) {
+        Some(bytes) => item_line(alloc, key, bytes.as_slice()),
+        None => Ok(String::new(alloc)),
     }
 }
 
-/// Why it means no one item of a text; nothing where the text can't be read once more, as one from a pipe.
+/// Why it means no one item of a text.
 fn item_line(alloc: Global, key: &str, bytes: &[u8]) -> Result<String, Memory> {
-    if bytes.is_empty() {
-        return Ok(String::new(alloc));
-    }
     match document(alloc, bytes) {
         Ok(document) => line_of(alloc, &item_reason(alloc, key, &document)?),
         Err(_) => Ok(String::new(alloc)),

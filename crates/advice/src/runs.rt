@@ -8,7 +8,7 @@ use shown_names::shown;
 use std::alloc::Global;
 use std::convert::AsStr;
 
-/// What is told where a run failed so, or where memory was refused.
+/// What is printed where a run failed so, or where memory was refused.
 pub(crate) fn run_lines<S: AsStr>(
     alloc: Global,
     words: &[S],
@@ -23,7 +23,7 @@ pub(crate) fn run_lines<S: AsStr>(
     }
 }
 
-/// What is told where a write was refused: which files the command writes.
+/// What is printed where a write was refused: which files the command writes.
 fn write_lines<S: AsStr>(alloc: Global, words: &[S]) -> Result<String, Memory> {
     match parse(alloc, words) {
         Ok(asked) => {

@@ -1,63 +1,37 @@
 //! What is wrong with a scenario: its first diagnostic, as `explain` prints it.
-ghost use Rattle.std.specs.Prelude.{◌≡◌, IfOk, string_bytes};
+ghost use Rattle.std.specs.Prelude.{IfOk, string_bytes};
 ghost use Rattle.advice.specs.Told.{IsBeginning, TellsFirst};
 
 use crate::settings::text_with;
 use base::Memory;
 use diagnostics::of_refused;
-use files::Files;
 use scenario_reader::read;
 use std::alloc::Global;
 
-/// The first diagnostic of the scenario in a file that breaks this rule, as `explain` prints it, with a line feed behind it.
-/// Nothing where the file can't be read once more, as a pipe, or no longer breaks the rule.
-pub(crate) fn first_diagnostic<F: Files>(
+/// The first diagnostic of a text that breaks this rule, as `explain` prints it of a file of this name. Where only the text with
+/// these values of a setting breaks it, as `KEY=V KEY=V`, the first line of that one's: places in it are none of the file.
+/// Nothing where neither breaks it.
+pub(crate) fn first_lines(
     alloc: Global,
     name: &str,
-    rule: u8,
-    files: &mut F,
-) -> Result<String, Memory>
-    ensures told { IfOk result (λ text. TellsFirst rule (string_bytes text)) }
-    ensures same { F.known files.new ≡ F.known files.old }
-    ensures making { F.making files.new ≡ F.making files.old }
-    ensures counted { F.refused files.new ≡ F.refused files.old }
-{
-    match files.read(alloc, name) {
-        Ok(bytes) if breaks(alloc, bytes.as_slice(), rule) => {
-            first_of_text(alloc, name, bytes.as_slice(), rule)
-        }
-        _ => Ok(String::new(alloc)),
-    }
-}
-
-/// The first line of the first diagnostic of the scenario in a file with these values of a setting, as `KEY=V KEY=V`, by which
-/// it breaks this rule, with a line feed behind it. Nothing where the file can't be read once more.
-pub(crate) fn first_of_setting<F: Files>(
-    alloc: Global,
-    name: &str,
+    bytes: &[u8],
     rule: u8,
     swept_keys: &str,
-    files: &mut F,
 ) -> Result<String, Memory>
-    ensures told { IfOk result (λ text. TellsFirst rule (string_bytes text)) }
-    ensures same { F.known files.new ≡ F.known files.old }
-    ensures making { F.making files.new ≡ F.making files.old }
-    ensures counted { F.refused files.new ≡ F.refused files.old }
+    ensures { IfOk result (λ text. TellsFirst rule (string_bytes text)) }
 {
-    match files.read(alloc, name) {
-        Ok(bytes) => {
-            let text = text_with(alloc, bytes.as_slice(), swept_keys)?;
-            first_line_of_text(alloc, name, text.as_bytes(), rule)
-        }
-        _ => Ok(String::new(alloc)),
+    if breaks(alloc, bytes, rule) {
+        return first_of_text(alloc, name, bytes, rule);
     }
+    let text = text_with(alloc, bytes, swept_keys)?;
+    first_line_of_text(alloc, name, text.as_bytes(), rule)
 }
 
-/// The first line of the first diagnostic of a text; nothing where it doesn't break the rule.
+/// The first line of the first diagnostic of a text; nothing where it is empty or doesn't break the rule.
 fn first_line_of_text(alloc: Global, name: &str, bytes: &[u8], rule: u8) -> Result<String, Memory>
     ensures { IfOk result (λ text. TellsFirst rule (string_bytes text)) }
 {
-    if !breaks(alloc, bytes, rule) {
+    if bytes.is_empty() || !breaks(alloc, bytes, rule) {
         return Ok(String::new(alloc));
     }
     let diagnostics = of_refused(alloc, bytes, rule)?;
@@ -75,11 +49,16 @@ fn first_line(lines: &str) -> &str
     }
 }
 
-/// Whether a text isn't empty and breaks this rule.
+/// Whether a text is an accepted scenario.
+pub(crate) fn is_accepted(alloc: Global, bytes: &[u8]) -> bool {
+    read(alloc, bytes).is_ok()
+}
+
+/// Whether a text breaks this rule, and no lower one.
 fn breaks(alloc: Global, bytes: &[u8], rule: u8) -> bool {
     match read(alloc, bytes) {
         Ok(_) => false,
-        Err(refusal) => !bytes.is_empty() && refusal.rule == rule,
+        Err(refusal) => refusal.rule == rule,
     }
 }
 

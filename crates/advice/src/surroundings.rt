@@ -9,4 +9,7 @@ pub trait Surroundings {
 
     /// Whether two names stand for one file, or would where it is made.
     fn are_one(&self, name: &str, other: &str) -> bool;
+
+    /// Whether the file of a name gives the same bytes each time that it is read: no pipe and no device.
+    fn can_read_again(&self, name: &str) -> bool;
 }

@@ -1,6 +1,8 @@
 //! Why tables aren't joined.
 ghost use Rattle.std.specs.Prelude.{◌≡◌};
 
+use crate::rereading::read_again;
+use crate::surroundings::Surroundings;
 use base::Memory;
 use command_line::{Asked, parse};
 use files::Files;
@@ -8,10 +10,11 @@ use std::alloc::Global;
 use std::convert::AsStr;
 use table_reasons::{TableReason, table_reason};
 
-/// What is told of tables that words ask to join, or to make a page of, and that aren't joined: nothing where their first lines tell no
-/// reason, or a file can't be read once more, as a pipe.
-pub(crate) fn table_lines<S: AsStr, F: Files>(
+/// What is printed of tables that words ask to join, or to make a page of, and that aren't joined: nothing where their first
+/// lines give no reason, or a file can't be read again.
+pub(crate) fn table_lines<S: AsStr, F: Files, A: Surroundings>(
     alloc: Global,
+    surroundings: &A,
     words: &[S],
     files: &mut F,
 ) -> Result<String, Memory>
@@ -23,7 +26,7 @@ pub(crate) fn table_lines<S: AsStr, F: Files>(
         return Ok(String::new(alloc));
     };
     let names = tables_of(alloc, &asked)?;
-    let texts = texts_of(alloc, &names, files)?;
+    let texts = texts_of(alloc, surroundings, &names, files)?;
     match table_reason(alloc, &names, &texts)? {
         Some(reason) => line_of(alloc, reason),
         None => Ok(String::new(alloc)),
@@ -41,17 +44,22 @@ fn tables_of<'a>(alloc: Global, asked: &Asked<'a>) -> Result<Vec<&'a str>, Memor
     Ok(names)
 }
 
-/// The texts of files, up to the first that can't be read.
-fn texts_of<F: Files>(alloc: Global, names: &[&str], files: &mut F) -> Result<Vec<Vec<u8>>, Memory>
+/// The texts of files; no text where one of them can't be read again.
+fn texts_of<F: Files, A: Surroundings>(
+    alloc: Global,
+    surroundings: &A,
+    names: &[&str],
+    files: &mut F,
+) -> Result<Vec<Vec<u8>>, Memory>
     ensures same { F.known files.new ≡ F.known files.old }
     ensures making { F.making files.new ≡ F.making files.old }
     ensures counted { F.refused files.new ≡ F.refused files.old }
 {
     let mut texts = Vec::new(alloc);
     for name in names {
-        match files.read(alloc, *name) {
-            Ok(bytes) => texts.push(bytes)?,
-            Err(_) => return Ok(texts),
+        match read_again(alloc, surroundings, *name, files) {
+            Some(bytes) => texts.push(bytes)?,
+            None => return Ok(Vec::new(alloc)),
         }
     }
     Ok(texts)

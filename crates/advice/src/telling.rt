@@ -10,7 +10,7 @@ use std::alloc::Global;
 use std::convert::AsStr;
 use std::io::Write;
 
-/// Tells why a command failed, and what to do, on `err`, as far as it takes that: of `check` and `run` only where `err` is a
+/// Writes why a command failed, and what to do, to `err`, as far as it takes that: of `check` and `run` only where `err` is a
 /// terminal, as of words that begin with no command.
 pub fn print_why<'a, S: AsStr, F: Files, E: Write, A: Surroundings>(
     alloc: Global,
@@ -34,7 +34,7 @@ pub fn print_why<'a, S: AsStr, F: Files, E: Write, A: Surroundings>(
     }
 }
 
-/// Whether more than one line is told of words that failed.
+/// Whether more than one line is printed of words that failed.
 fn tells_more<S: AsStr>(is_terminal: bool, words: &[S]) -> bool
     ensures { result ≡ tells_more is_terminal (map S.text words.now) }
 {
@@ -47,7 +47,7 @@ fn tells_more<S: AsStr>(is_terminal: bool, words: &[S]) -> bool
     }
 }
 
-/// Whether more than one line is always told of a command.
+/// Whether more than one line is always printed of a command that failed.
 fn tells_always(command: &str) -> bool
     ensures { result ≡ tells_always command.now }
 {

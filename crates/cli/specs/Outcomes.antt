@@ -1,4 +1,4 @@
--- What a command has done once it ends: on standard output, and in the files as far as they tell.
+-- What a command has done once it ends: on standard output, and in the files as far as they are known.
 use Rattle.std.specs.Prelude.{◌≡◌, ◌≢◌, ◌⊎◌, ℕ, ◌≤◌, List, Option, Ok}
 use Rattle.std.specs.Io.KnownBytes.{Appends, Keeps}
 use Rattle.base.specs.declared.fault.Fault.{Fault}
@@ -27,7 +27,7 @@ use Rattle.drive_command.specs.Outcomes.{DoesDrive, DriveFails}
 use Rattle.command_line.specs.declared.driving.DriveWords.{DriveWords}
 use Rattle.sweep_command.specs.Outcomes.{AsksForProgress as AsksForSweepProgress, DoesSweep, DoesNotSweep}
 
--- the words ask for a run or a sweep that tells how far it has come
+-- the words ask for a run or a sweep that reports how far it has come
 abbrev pub AsksForProgress : List Text → Type 0
 AsksForProgress words = AsksForRunProgress words ⊎ AsksForSweepProgress words
 
@@ -66,9 +66,9 @@ DoesHelp words before after = AsksForHelp words × (after ≡ before)
 abbrev pub DoesVersion : List Text → Shelf → Shelf → Type 0
 DoesVersion words before after = AsksForVersion words × (after ≡ before)
 
--- What the words ask for was done, where the harness has given these lines and was told this: a run, and the number of its rows printed; a check, and the number of members
+-- What the words ask for was done, where the harness has given these lines and got this: a run, and the number of its rows printed; a check, and the number of members
 -- printed; what a scenario means printed; a sweep, and the lines of its settings printed; a preset's scenario printed; shards joined, and the lines of
--- the settings printed; a page of shards made, and nothing printed; a drive, and nothing else printed; help was printed; the line that tells of this release; or the
+-- the settings printed; a page of shards made, and nothing printed; a drive, and nothing else printed; help was printed; the line of this release; or the
 -- plain text for which a scenario stands
 abbrev pub HasDone : Release → List Text → Shelf → Shelf → Making → Option (List ℕ) → Option (List ℕ) → List (List ℕ) → List ℕ → Type 0
 HasDone release words before after making old new gave told = ((count : ℕ) × DoesRun release.version.now words before after making count × Appends old new (rows_line count))
@@ -83,12 +83,12 @@ HasDone release words before after making old new gave told = ((count : ℕ) × 
     ⊎ ((DoesVersion words before after × Appends old new (release_line release))
     ⊎ ((text : List ℕ) × DoesExpand words before after text × Appends old new text))))))))))
 
--- a text tells of the scenario of the file that the words ask to explain
+-- there is a text on the scenario of the file that the words ask to explain
 abbrev pub Explains : List Text → Shelf → Shelf → Type 0
 Explains words before after =
     (explain : ExplainWords) × AsksForExplain words explain × IsExplained (before explain.file.now) explain × (after ≡ before)
 
--- the same, but that standard output took less than it was given; of a scenario that is refused too it was to get what is told
+-- the same, but that standard output took less than it was given; of a scenario that is refused too it was to get the diagnostics
 abbrev pub DoneUnprinted : List Text → Shelf → Shelf → Making → Type 0
 DoneUnprinted words before after making = ((version : List ℕ) × (count : ℕ) × DoesRun version words before after making count)
     ⊎ (((members : ℕ) × DoesCheck words before after members)
@@ -100,7 +100,7 @@ DoneUnprinted words before after making = ((version : List ℕ) × (count : ℕ)
 
 -- ---- what was not done
 
--- By which faults the run of a scenario by so many workers may end: by a worn counter only where one would pass its limit, by
+-- By which faults the run of a scenario by so many workers may end: by a counter overflow only where a counter would pass its limit, by
 -- what threads lost only where there are several workers.
 abbrev pub EndsRunBy : Setup → ℕ → Fault → Type 0
 EndsRunBy s workers cause = (cause ≡ fault.CounterOverflow → CounterOverflows s ⊎ ReportOverflows s) × (cause ≡ fault.ThreadLost → 2 ≤ workers)

@@ -27,13 +27,13 @@ use std::sync::Wait;
 use std::thread::Threads;
 use sweep_command::sweep_file;
 
-/// Does what the words ask for, and answers the exit status.
+/// Does what the words ask for, and returns the exit status.
 ///
-/// `rt` starts the threads of a run, of which no more than `most` simulate, and lets them wait. `release` is what the program tells of itself. `words` are
-/// those of the command line without the program's name. A failure is told in one line on `err`, below which others tell why: of `check` and
-/// `run` only where `err` is a terminal. `out` then gets nothing, unless it failed itself or gets the diagnostics of a scenario. `surroundings` are
-/// asked what the system says of a file that can't be read or made. A run or a sweep that is to tell how far it has come does so on `progress`, as far as that takes
-/// its lines.
+/// `rt` starts the threads of a run, of which no more than `most` simulate, and lets them wait. `release` is what the program prints of itself.
+/// `words` are those of the command line without the program's name. A failure is reported in one line on `err`, below which others say why:
+/// of `check` and `run` only where `err` is a terminal. `out` then gets nothing, unless it failed itself or gets the diagnostics of a scenario.
+/// `surroundings` are asked what the system says of a file that can't be read or made. A run or a sweep that is to report how far it has come
+/// does so on `progress`, as far as that takes its lines.
 pub fn command<
     S: AsStr,
     F: Files,
@@ -56,16 +56,17 @@ pub fn command<
     most: Workers,
     surroundings: &A,
 ) -> u8
-    // The harness was told nothing yet, and gave nothing.
+    // The harness got nothing yet, and gave nothing.
     requires untold { H.told harness.old ≡ [] }
     requires ungiven { H.gave harness.old ≡ [] }
     ensures range { result ≤ 6 }
 
     // Status 0: what the words ask for was done. A run has left its trace in the file of that name, its
-    // report and its page where they are asked for, and told standard output the number of its rows; a check, the number
-    // of members; an explanation, what the scenario means; a plain text, for what the scenario stands; a sweep has left its table and its page, and told the lines of its settings, unless it
-    // is a shard; a preset's scenario was told; shards that were joined have left the table of the whole and its page, and told those
-    // lines; a page of shards was left, and nothing told; a drive has left what a run leaves, as its harness answered, and told it the end; who asks for the version was told the line of this release.
+    // report and its page where they are asked for, and printed the number of its rows; a check, the number of members; an
+    // explanation, what the scenario means; `expand`, the plain text that the scenario stands for; a sweep has left its table
+    // and its page, and printed the lines of its settings, unless it is a shard; a preset's scenario was printed; shards that
+    // were joined have left the table of the whole and its page, and printed those lines; a page of shards was left, and nothing
+    // printed; a drive has left what a run leaves, as its harness answered, and sent it the end; the version's line was printed.
     ensures done { result ≡ 0 → HasDone release.now (map S.text words.now) (F.known files.old) (F.known files.new) (F.making files.old)
         (O.contents out.old) (O.contents out.new) (H.gave harness.new) (H.told harness.new) }
 
@@ -85,7 +86,7 @@ pub fn command<
     ensures silent { 2 ≤ result → ¬ (AsksToExplain (map S.text words.now)) ⊎ (result ≢ 3) → out.new ≡ out.old }
     ensures quiet { result ≡ 0 → err.new ≡ err.old }
 
-    // No words but those of a run or a sweep that is to tell of it write to `progress`.
+    // No words but those of a run or a sweep that is to report it write to `progress`.
     ensures unasked { ¬ (AsksForProgress (map S.text words.now)) → progress.new ≡ progress.old }
 
     // Nor does the harness hear of anything but a drive.

@@ -31,6 +31,13 @@ impl<R: Files + AllocGlobal> Surroundings for SystemSurroundings<'_, R> {
             Err(_) => own_part(name) == own_part(other) && self.are_folders_one(name, other),
         }
     }
+
+    fn can_read_again(&self, name: &str) -> bool {
+        match fs::metadata(self.runtime, name) {
+            Ok(metadata) => metadata.is_file(),
+            Err(_) => false,
+        }
+    }
 }
 
 impl<R: Files + AllocGlobal> SystemSurroundings<'_, R> {

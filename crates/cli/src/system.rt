@@ -25,8 +25,8 @@ const NOTHING: &str = "/dev/null";
 /// The command that plays a scenario for a harness.
 const DRIVE: &str = "drive";
 
-/// Does what the words of the program's command line ask for, and answers the status that the program ends with.
-/// `release` is what it tells of itself; `out` and `err` are its streams; how far a run or a sweep has come
+/// Does what the words of the program's command line ask for, and returns the status that the program ends with.
+/// `release` is what it prints of itself; `out` and `err` are its streams; how far a run or a sweep has come
 /// goes to `progress`, where that is asked for. A drive's harness is behind `input` and `output`.
 pub fn run_program<
     R: Threads + Wait + Sync + Env + Files + AllocGlobal + Copy + Send + Drop + 'static,

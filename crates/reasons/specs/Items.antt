@@ -7,7 +7,7 @@ use Rattle.reasons.specs.declared.items.ItemReason.TheVariants.{Absent, Many, Pa
 
 -- no item has the name in a key
 abbrev pub absent_text : List ℕ → List ℕ
-absent_text key = codes "the scenario has no item of the name in " ++ shown_name key
+absent_text key = codes "no item of the scenario has the name in " ++ shown_name key
 
 -- what to write
 abbrev pub write_text : List ℕ → List ℕ

@@ -45,14 +45,14 @@ abbrev pub advice_of : WordFault → List ℕ
 advice_of fault.Workers = codes "write a whole number from 1 to 64"
 advice_of fault.Parts = codes "write a whole number from 1 to 64"
 advice_of fault.PartNumber = codes "write whole numbers from 0 to 63 with commas between them"
-advice_of fault.ListLength = codes "write one part for each member of the scenario"
+advice_of fault.ListLength = codes "write the number of a part for each member of the scenario"
 advice_of fault.Until = codes "write a whole number from 1 to 100"
 advice_of fault.Shard = codes "write I/N, where N is at most 10000 and I is from 1 to N"
 advice_of fault.Seeds = codes "write A..B, two whole numbers with two dots between them"
-advice_of fault.SeedsOrder = codes "the first is after the last"
+advice_of fault.SeedsOrder = codes "the first seed is greater than the last"
 advice_of fault.SeedsMany = codes "a sweep has at most 1000000 runs"
-advice_of fault.Swept = codes "write KEY=V1,V2,.. as swim.period=200,300"
-advice_of fault.Joined = codes "keys joined by + take values joined by +; write KEY1+KEY2=V1+W1,V2+W2,.. as 3+1,4+2"
+advice_of fault.Swept = codes "write KEY=V1,V2,.., as swim.period=200,300"
+advice_of fault.Joined = codes "keys joined by + take values joined by +; write KEY1+KEY2=V1+W1,V2+W2,.., as 3+1,4+2"
 advice_of fault.KeyTwice = codes "the key is set twice; write all its values behind one --set"
 advice_of fault.Want = codes "write 'STATISTIC<=N', as 'out<=0.01', with at most six digits behind the point"
 advice_of fault.Tick = codes "write a whole number and us, ms or s, from 1us to 1s, as 1ms"
@@ -88,7 +88,7 @@ parts_text parts = codes "write a whole number per million: " ++ decimal parts
 -- which statistics there are
 abbrev pub no_statistic : List ℕ → List ℕ
 no_statistic name = codes "there is no statistic " ++ shown_name name
-    ++ codes "; there are out, suspect_p50, confirm_p50, confirm_p99, confirm_greatest, last_p50, last_greatest, false_suspect, thrown_out and messages"
+    ++ codes "; the statistics are out, suspect_p50, confirm_p50, confirm_p99, confirm_greatest, last_p50, last_greatest, false_suspect, thrown_out and messages"
 
 -- what is wrong with the words
 abbrev pub word_reason_text : WordReason → List ℕ
@@ -100,4 +100,4 @@ word_reason_text (reason.Value word value) = word_text (codes "--set") word.now 
 word_reason_text (reason.Share word parts) = word_text (codes "--set") word.now ++ parts_text parts
 word_reason_text (reason.Statistic word name) = word_text (codes "--want") word.now ++ no_statistic name.now
 word_reason_text reason.Runs = codes "a sweep has at most 1000000 runs; leave out values or seeds"
-word_reason_text reason.NoText = codes "a word is no text in UTF-8"
+word_reason_text reason.NoText = codes "a word isn't text in UTF-8"

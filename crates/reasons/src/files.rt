@@ -66,15 +66,11 @@ impl Display for FileReason<'_> {
                 ": standard output or standard error goes there",
             ),
             FileReason::TooLong(name) => write_of(f, name, ": the name is too long"),
-            FileReason::Circle(name) => write_of(
-                f,
-                name,
-                ": symbolic links lead round in a circle",
-            ),
+            FileReason::Circle(name) => write_of(f, name, ": its symbolic links lead in a circle"),
             FileReason::Unmade(name) => write_of(
                 f,
                 name,
-                ": it can't be made there; may its directory be written to?",
+                ": it can't be made there; check the permissions of its directory",
             ),
             FileReason::Irregular(name) => write_of(
                 f,

@@ -56,7 +56,7 @@ impl Display for ItemReason {
 fn write_absent<W: Write>(f: &mut Formatter<W>, key: &str) -> fmt::Result
     ensures { WritesOnOk W.write_str_gives f.old result (absent_text key.now) f.new }
 {
-    f.write_str("the scenario has no item of the name in ")?;
+    f.write_str("no item of the scenario has the name in ")?;
     write_name(f, key)
 }
 

@@ -1,4 +1,4 @@
-//! What is wrong with a scenario, a run or a piece, and what to do.
+//! What is wrong with a scenario or a run, and what to do.
 ghost use Rattle.std.specs.Prelude.{Some};
 ghost use Rattle.std.specs.Fmt.{WritesOnOk};
 ghost use Rattle.reasons.specs.Runs.{explain_text, full_text, run_reason_text, set_text};
@@ -7,13 +7,17 @@ use shown_names::write_name;
 use std::fmt;
 use std::fmt::{Display, Formatter, Write};
 
-/// What is wrong with a scenario, a run or a piece.
+/// What is wrong with a scenario or a run.
 #[derive(Clone, Copy, Debug, PartialEq, Eq)]
 pub enum RunReason<'a> {
     /// The scenario in the file of this name breaks a rule.
     Rule(&'a str),
     /// It is accepted, but not with the values of a setting.
     Setting(&'a str),
+    /// A scenario that can't be read again breaks a rule.
+    Unread,
+    /// One with the values of a setting.
+    Values,
     /// Memory was refused.
     Memory,
     /// A counter is full.
@@ -31,8 +35,14 @@ impl Display for RunReason<'_> {
         match self {
             RunReason::Rule(name) => write_explain(f, name),
             RunReason::Setting(name) => write_set(f, name),
+            RunReason::Unread => f.write_str(
+                "write the scenario to a file, and swimsim explain prints all errors and how to fix them",
+            ),
+            RunReason::Values => f.write_str(
+                "write these values into a copy of the scenario, and swimsim explain prints what is wrong",
+            ),
             RunReason::Memory => f.write_str(
-                "memory was refused; give the program more, or take a shorter run, fewer members or fewer workers",
+                "the system refused memory; give the program more, or take a shorter run, fewer members or fewer workers",
             ),
             RunReason::Counter => f.write_str(
                 "a counter would pass 2^63; take a shorter run or smaller numbers",
@@ -47,11 +57,11 @@ impl Display for RunReason<'_> {
 fn write_full<W: Write>(f: &mut Formatter<W>, names: &str) -> fmt::Result
     ensures { WritesOnOk W.write_str_gives f.old result (full_text names.now) f.new }
 {
-    f.write_str("a file took less than it was given, as where the disk is full: ")?;
+    f.write_str("a file took only a part of its text, as when the disk is full: ")?;
     f.write_str(names)
 }
 
-/// Writes what tells all mistakes.
+/// Writes what prints all errors.
 fn write_explain<W: Write>(f: &mut Formatter<W>, name: &str) -> fmt::Result
     ensures { WritesOnOk W.write_str_gives f.old result (explain_text name.now) f.new }
 {

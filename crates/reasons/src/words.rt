@@ -144,15 +144,15 @@ fn advice_of(fault: WordFault) -> &'static str
     match fault {
         WordFault::Workers | WordFault::Parts => "write a whole number from 1 to 64",
         WordFault::PartNumber => "write whole numbers from 0 to 63 with commas between them",
-        WordFault::ListLength => "write one part for each member of the scenario",
+        WordFault::ListLength => "write the number of a part for each member of the scenario",
         WordFault::Until => "write a whole number from 1 to 100",
         WordFault::Shard => "write I/N, where N is at most 10000 and I is from 1 to N",
         WordFault::Seeds => "write A..B, two whole numbers with two dots between them",
-        WordFault::SeedsOrder => "the first is after the last",
+        WordFault::SeedsOrder => "the first seed is greater than the last",
         WordFault::SeedsMany => "a sweep has at most 1000000 runs",
-        WordFault::Swept => "write KEY=V1,V2,.. as swim.period=200,300",
+        WordFault::Swept => "write KEY=V1,V2,.., as swim.period=200,300",
         WordFault::Joined =>
-            "keys joined by + take values joined by +; write KEY1+KEY2=V1+W1,V2+W2,.. as 3+1,4+2",
+            "keys joined by + take values joined by +; write KEY1+KEY2=V1+W1,V2+W2,.., as 3+1,4+2",
         WordFault::KeyTwice => "the key is set twice; write all its values behind one --set",
         WordFault::Want =>
             "write 'STATISTIC<=N', as 'out<=0.01', with at most six digits behind the point",
@@ -200,7 +200,7 @@ impl Display for WordReason<'_> {
             WordReason::Runs => f.write_str(
                 "a sweep has at most 1000000 runs; leave out values or seeds",
             ),
-            WordReason::NoText => f.write_str("a word is no text in UTF-8"),
+            WordReason::NoText => f.write_str("a word isn't text in UTF-8"),
         }
     }
 }
@@ -288,6 +288,6 @@ fn write_statistic<W: Write>(f: &mut Formatter<W>, name: &str) -> fmt::Result
     f.write_str("there is no statistic ")?;
     write_name(f, name)?;
     f.write_str(
-        "; there are out, suspect_p50, confirm_p50, confirm_p99, confirm_greatest, last_p50, last_greatest, false_suspect, thrown_out and messages",
+        "; the statistics are out, suspect_p50, confirm_p50, confirm_p99, confirm_greatest, last_p50, last_greatest, false_suspect, thrown_out and messages",
     )
 }

@@ -4,7 +4,7 @@ use crate::told::{Told, told_of};
 use base::Memory;
 use std::alloc::Global;
 
-/// Why the tables in the files of these names, which have these texts, aren't joined; none where their first lines tell no reason.
+/// Why the tables in the files of these names, which have these texts, aren't joined; none where their first lines give no reason.
 pub fn table_reason<'a>(
     alloc: Global,
     names: &[&'a str],
@@ -20,7 +20,7 @@ pub fn table_reason<'a>(
     }
 }
 
-/// What the first lines of the texts tell that are tables.
+/// What the first lines of the texts say that are tables.
 fn tables_told<'a>(
     alloc: Global,
     names: &[&'a str],

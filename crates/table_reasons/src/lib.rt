@@ -4,6 +4,8 @@
 mod finding;
 mod reason;
 mod told;
+mod torn;
 
 pub use finding::table_reason;
 pub use reason::TableReason;
+pub use torn::torn_line;

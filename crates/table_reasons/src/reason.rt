@@ -1,7 +1,7 @@
 //! A reason for which tables aren't joined.
 ghost use Rattle.std.specs.Prelude.{Some};
 ghost use Rattle.std.specs.Fmt.{WritesOnOk};
-ghost use Rattle.table_reasons.specs.Words.{missing_text, one_text, range_text, reason_text, shared_text, two_text};
+ghost use Rattle.table_reasons.specs.Words.{missing_text, one_text, range_text, reason_text, seeds_text, shared_text, two_text};
 
 use shown_names::write_name;
 use std::fmt;
@@ -40,13 +40,13 @@ impl Display for TableReason<'_> {
                 f,
                 name,
                 other,
-                " are of two scenario texts; make both of one text, byte for byte",
+                " were made from two scenario texts; make both from one text, byte for byte",
             ),
             TableReason::Settings(name, other) => write_two(
                 f,
                 name,
                 other,
-                " have other words of --set or --until; make both with the same",
+                " were made with different --set or --until; make both with the same",
             ),
             TableReason::Width(name) => write_one(
                 f,
@@ -78,12 +78,12 @@ fn write_shared<W: Write>(
 ) -> fmt::Result
     ensures { WritesOnOk W.write_str_gives f.old result (shared_text name.now other.now first last) f.new }
 {
-    write_two(f, name, other, " both have the seeds ")?;
+    write_two(f, name, other, " both have the ")?;
     write_range(
         f,
         first,
         last,
-        "; leave one of them out, or make it with other seeds",
+        "; leave one table out, or make it with other seeds",
     )
 }
 
@@ -97,11 +97,16 @@ fn write_missing<W: Write>(
 ) -> fmt::Result
     ensures { WritesOnOk W.write_str_gives f.old result (missing_text name.now other.now first last) f.new }
 {
-    write_two(f, name, other, " leave out the seeds ")?;
-    write_range(f, first, last, "; make a table with these, and join it too")
+    write_two(f, name, other, " leave out the ")?;
+    write_range(
+        f,
+        first,
+        last,
+        "; make a table of what is missing, and join it too",
+    )
 }
 
-/// Writes what is told of a name.
+/// Writes what is said of a name.
 fn write_one<W: Write>(f: &mut Formatter<W>, name: &str, what: &str) -> fmt::Result
     ensures { WritesOnOk W.write_str_gives f.old result (one_text name.now what.now) f.new }
 {
@@ -109,7 +114,7 @@ fn write_one<W: Write>(f: &mut Formatter<W>, name: &str, what: &str) -> fmt::Res
     f.write_str(what)
 }
 
-/// Writes what is told of two names.
+/// Writes what is said of two names.
 fn write_two<W: Write>(f: &mut Formatter<W>, name: &str, other: &str, what: &str) -> fmt::Result
     ensures { WritesOnOk W.write_str_gives f.old result (two_text name.now other.now what.now) f.new }
 {
@@ -123,6 +128,17 @@ fn write_two<W: Write>(f: &mut Formatter<W>, name: &str, other: &str, what: &str
 fn write_range<W: Write>(f: &mut Formatter<W>, first: u64, last: u64, behind: &str) -> fmt::Result
     ensures { WritesOnOk W.write_str_gives f.old result (range_text first last behind.now) f.new }
 {
-    write!(f, "{first}..{last}")?;
+    write_seeds(f, first, last)?;
     f.write_str(behind)
+}
+
+/// Writes a range of seeds, or its only seed.
+fn write_seeds<W: Write>(f: &mut Formatter<W>, first: u64, last: u64) -> fmt::Result
+    ensures { WritesOnOk W.write_str_gives f.old result (seeds_text first last) f.new }
+{
+    if first == last {
+        write!(f, "seed {first}")
+    } else {
+        write!(f, "seeds {first}..{last}")
+    }
 }

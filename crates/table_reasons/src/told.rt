@@ -1,12 +1,15 @@
 //! What the first line of a table says.
+ghost use Rattle.std.specs.Prelude.{IfOk, IfSome};
+ghost use Rattle.shard_merge.specs.Reasons.{BeginsAs};
+
 use base::Memory;
-use shard_merge::{Head, JoinFault, head_of};
+use shard_merge::{Head, head_of};
 use shards::{Shard, plan_text};
 use std::alloc::Global;
 use std::str::from_utf8;
 use sweep_plan::Seeds;
 
-/// What the first line of the table in the file of a name tells.
+/// What the first line of the table in the file of a name says.
 #[derive(Drop)]
 pub(crate) struct Told<'a> {
     pub(crate) name: &'a str,
@@ -18,7 +21,7 @@ pub(crate) struct Told<'a> {
     pub(crate) settings: String,
 }
 
-/// What the first line of a text tells, where it is that of a table.
+/// What the first line of a text says, where it is that of a table.
 pub(crate) fn told_of<'a>(
     alloc: Global,
     name: &'a str,
@@ -33,23 +36,27 @@ pub(crate) fn told_of<'a>(
     }
 }
 
-/// What the first line of a text tells, whichever table it is.
-fn head_in<'a>(alloc: Global, words: &'a str) -> Result<Option<Head<'a>>, Memory> {
-    if let Some(head) = known(head_of(alloc, words, false))? {
+/// What the first line of a text says, whichever table it is.
+pub(crate) fn head_in<'a>(alloc: Global, words: &'a str) -> Result<Option<Head<'a>>, Memory>
+    ensures { IfOk result (λ found. IfSome found (λ head. BeginsAs words.entry.now head.mark.now head.revived head.plan head.shard)) }
+{
+    if let Some(head) = head_by(alloc, words, false)? {
         return Ok(Some(head));
     }
-    known(head_of(alloc, words, true))
+    head_by(alloc, words, true)
 }
 
-/// What is found, where memory wasn't refused.
-fn known<'a>(found: Result<Option<Head<'a>>, JoinFault>) -> Result<Option<Head<'a>>, Memory> {
-    match found {
+/// What the first line of a text says, where that is a table which counts, or doesn't, members that were taken for alive again.
+fn head_by<'a>(alloc: Global, words: &'a str, revived: bool) -> Result<Option<Head<'a>>, Memory>
+    ensures { IfOk result (λ found. IfSome found (λ head. BeginsAs words.entry.now head.mark.now head.revived head.plan head.shard)) }
+{
+    match head_of(alloc, words, revived) {
         Ok(found) => Ok(found),
         Err(_) => Err(Memory),
     }
 }
 
-/// What a first line tells of a file.
+/// What a first line says of a file.
 fn told_by<'a>(alloc: Global, name: &'a str, head: &Head<'_>) -> Result<Told<'a>, Memory> {
     let mark = String::from_str(alloc, head.mark)?;
     let words = plan_text(alloc, &head.plan)?;

@@ -60,7 +60,7 @@ fn telling_clash<'a>(sweep: &ArgMatches<'a>) -> Option<WordReason<'a>>
     None
 }
 
-/// Whether the settings are to be told by a page or as objects.
+/// Whether the settings are to be printed as objects, or shown by a page.
 fn tells_settings(sweep: &ArgMatches<'_>) -> bool
     ensures { result ≡ tells_settings (rows_of (found_of sweep.now)) }
 {
