@@ -116,12 +116,13 @@ module _ (tick : ℕ) (some : 1 ≤ tick) where
     unfolding list_rule
     same_list of value a b first second =
         let other : a.is_other ≡ b.is_other = first.other ∙ sym second.other in
+        let twice : a.is_twice ≡ b.is_twice = first.twice ∙ sym second.twice in
         let items : map item_of a.items.items ≡ map item_of b.items.items = first.items ∙ sym second.items in
         let list : a.list ≡ b.list = first.list ∙ sym second.list in
         let rest : items_rule a.list groups a.items.items ≡ items_rule b.list groups b.items.items =
         ap (λ (l : ScriptList). items_rule l groups a.items.items) list
         ∙ same_items b.list a.items.items b.items.items items (recursion_from_All (IsRead tick) a.items.items first.read) (recursion_from_All (IsRead tick) b.items.items second.read) in
-        λ i. min (min (kind_rule (other i)) (twice_rule (items i))) (rest i)
+        λ i. min (min (kind_rule (other i)) (twice_rule (twice i))) (rest i)
 
     same_script : (d : Data) (a b : WrittenScript) → IsWritten tick d a → IsWritten tick d b → script_rule groups a ≡ script_rule groups b
     unfolding script_rule

@@ -95,10 +95,6 @@ items_rule list groups items = fold (λ low it. min low (item_rule list groups (
 abbrev pub is_so_called : List ℕ → Data → Bool
 is_so_called name d = option_map_or (λ other. bytes_eq other name) (text_at (codes "name") d) false
 
--- one of the other items has the item's name
-abbrev pub is_called_again : WrittenItem → List WrittenItem → Bool
-is_called_again it others = option_map_or (λ name. list_any (λ other. is_so_called name (item_of other)) others) (text_at (codes "name") (item_of it)) false
-
 -- two entries have one name
 abbrev pub is_name_twice : List Data → Bool
 is_name_twice [] = false

@@ -12,6 +12,7 @@ mod numbers;
 mod rules;
 mod script;
 mod times;
+mod twice;
 mod values;
 mod who;
 
