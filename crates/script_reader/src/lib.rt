@@ -9,10 +9,10 @@ pub mod laws;
 mod lists;
 mod names;
 mod numbers;
+mod repeated;
 mod rules;
 mod script;
 mod times;
-mod twice;
 mod values;
 mod who;
 

@@ -9,8 +9,8 @@ ghost use Rattle.script_reader.specs.Lists.{kind_rule, list_rule, script_rule, t
 
 use crate::item::{WrittenItem, written_items};
 use crate::keys::list_name;
+use crate::repeated::is_name_twice;
 use crate::rules::{NO_RULE, item_rule};
-use crate::twice::is_name_twice;
 use crate::values::items;
 use base::Memory;
 use std::alloc::Global;

@@ -18,7 +18,7 @@ use Rattle.written_names.specs.declared.roster.Block.{Block}
 use Rattle.scenario_reader.specs.Rules.{any_two}
 use Rattle.written_names.specs.Names.{is_written_name, breaks_name, breaks_names}
 
-pub bytes_eq-sym : (a b : List ℕ) → bytes_eq a b ≡ bytes_eq b a
+bytes_eq-sym : (a b : List ℕ) → bytes_eq a b ≡ bytes_eq b a
 bytes_eq-sym a b =
     let there = bytes_eq-Decides b a in
     same_from_decides (bytes_eq a b) (bytes_eq b a) (bytes_eq-Decides a b) (λ e. sym (there.0 e), λ e. there.1 (sym e))
@@ -49,7 +49,7 @@ regroup true false false d = refl
 regroup false true c d = refl
 regroup false false c d = refl
 
-pub repeats-last : (ns : List (List ℕ)) (n : List ℕ) → any_two bytes_eq (ns ++ n ∷ []) ≡ (list_any (bytes_eq n) ns || any_two bytes_eq ns)
+repeats-last : (ns : List (List ℕ)) (n : List ℕ) → any_two bytes_eq (ns ++ n ∷ []) ≡ (list_any (bytes_eq n) ns || any_two bytes_eq ns)
 repeats-last [] n = refl
 repeats-last (m ∷ ns) n =
     ap (λ more. more || any_two bytes_eq (ns ++ n ∷ [])) (list_any-append (bytes_eq m) ns (n ∷ []))
