@@ -1,12 +1,10 @@
 -- The rule that a text breaks is one: what its keys say is one.
-use Rattle.std.proofs.Common.{◌≡◌, ◌≤◌, ◌<◌, ℕ, ◌+◌, ◌*◌, ◌^◌, List, [], ◌∷◌, map, Option, Some, None, Result, Ok, Err, pos, negsuc, min, refl, ap, sym, subst, ◌∙◌, codes, cond, nat_eq, nat_lt}
+use Rattle.std.proofs.Common.{◌≡◌, ◌≤◌, ℕ, ◌*◌, ◌^◌, List, [], ◌∷◌, map, Option, Some, None, Result, Ok, Err, pos, negsuc, min, refl, ap, sym, subst, ◌∙◌, codes, cond, nat_eq, nat_lt}
 use Rattle.std.specs.List.{fold}
 use Rattle.std.proofs.lemmas.List.Folds.{fold-map}
-use Rattle.std.specs.Prelude.{All}
 use Rattle.std.specs.List.{AllByRecursion}
 use Rattle.std.proofs.lemmas.List.Elements.{recursion_from_All}
-use Rattle.toml.specs.Data.{Data, Items, Members, array, boolean, datetime, float, get, integer, string, table}
-use Rattle.lengths.specs.Lengths.{AreTicks}
+use Rattle.toml.specs.Data.{Data, array, boolean, datetime, float, get, integer, string, table}
 use Rattle.scenario.specs.Setup.{Group}
 use Rattle.written_entries.specs.declared.keys.ScriptList.{ScriptList}
 use Rattle.written_entries.specs.declared.keys.ScriptList.TheVariants.{Crash, Leave, Restart, Slow, Pause, Block}

@@ -1,5 +1,5 @@
 -- The lowest rule that items of the six lists break as they are written: 2 to 7, or 9 of their keys.
-use Rattle.std.specs.Prelude.{ℕ, min, Bool, false, not, ◌&&◌, ◌||◌, if◌then◌else◌, List, [], ◌∷◌, length, map, codes, fold, nat_eq, nat_lt, bytes_eq, is_none, is_some, Option, Some, None}
+use Rattle.std.specs.Prelude.{ℕ, min, Bool, false, not, ◌&&◌, ◌||◌, if◌then◌else◌, List, [], ◌∷◌, length, codes, fold, nat_eq, nat_lt, bytes_eq, is_none, is_some, Option}
 use Rattle.std.specs.List.{list_any}
 use Rattle.std.specs.Option.{option_map_or}
 use Rattle.toml.specs.Data.{Data, as_str, as_table, get}

@@ -1,4 +1,4 @@
-use Rattle.std.proofs.Common.{◌≡◌, ◌++◌, ◌∙◌, List, ℕ, Ok, Option, map, take, ap, sym, arith, String, Global}
+use Rattle.std.proofs.Common.{◌++◌, ◌∙◌, List, ℕ, Ok, Option, map, ap, sym, arith, String, Global}
 use Rattle.std.proofs.lemmas.List.{take_all}
 use Rattle.toml.specs.View.{view}
 use Rattle.toml.specs.declared.value.Value.{Value}
