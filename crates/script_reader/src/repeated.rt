@@ -31,11 +31,7 @@ pub(crate) fn is_name_twice(alloc: Global, items: &[Value]) -> Result<bool, Memo
 }
 
 /// Adds a name, where there is one, and says whether it was there.
-fn is_taken(
-    alloc: Global,
-    names: &mut IndexSet<String>,
-    name: Option<&str>,
-) -> Result<bool, Memory>
+fn is_taken(alloc: Global, names: &mut IndexSet<String>, name: Option<&str>) -> Result<bool, Memory>
     ensures taken { IfOk result (λ taken. taken ≡ is_among (words names.old.keys) (option_map (λ t. t.now) name.entry)) }
     ensures added { result ≡ Ok false → words names.new.keys ≡ words names.old.keys ++ name_or_none (option_map (λ t. t.now) name.entry) }
 {
@@ -46,11 +42,7 @@ fn is_taken(
 }
 
 /// Adds a name, and says whether it was there.
-fn is_name_taken(
-    alloc: Global,
-    names: &mut IndexSet<String>,
-    name: &str,
-) -> Result<bool, Memory>
+fn is_name_taken(alloc: Global, names: &mut IndexSet<String>, name: &str) -> Result<bool, Memory>
     ensures taken { IfOk result (λ taken. taken ≡ list_any (bytes_eq name.now) (words names.old.keys)) }
     ensures added { result ≡ Ok false → words names.new.keys ≡ words names.old.keys ++ name.now ∷ [] }
 {
