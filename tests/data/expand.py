@@ -17,6 +17,8 @@ from program import Case, DATA, Wrong, expect, expect_ran
 from scenarios import NEWEST_TAKEN, document_of
 
 FOLDER = DATA / 'expand'
+# so many named entries of one list
+NAMED = 3000
 # so many random texts of version 4, and of versions 1 to 3
 RANDOM = 300
 EARLIER = 300
@@ -94,6 +96,23 @@ def check_rule(program, base, old, new, rule):
     check_answer(program, text)
 
 
+def named_text(last):
+    """A text with many named pauses, of which the last one has the name `last`, and with a crash of the first pause's name."""
+    names = [f'p-{number}' for number in range(NAMED - 1)] + [last]
+    lines = ['version = 4\nseed = 1\nend = 100000\n[swim]\nperiod = 2\ntimeout = 1\n[link]\ndelay = 1\n'
+             '[[group]]\nname = "n"\ncount = 100\n']
+    for number, name in enumerate(names):
+        lines.append(f'[[pause]]\nname = "{name}"\nmember = "n-{number % 100}"\nfrom = {number}\nuntil = {number + 1}\n')
+    return ''.join(lines) + '[[crash]]\nname = "p-0"\nmember = "n-0"\nat = 5000\n'
+
+
+def check_named(program, last, rule):
+    """Compares the answer to a text with many named pauses with the second simulator's."""
+    text = named_text(last)
+    expect('rule', rule_of(document_of(text.encode())), rule)
+    check_answer(program, text)
+
+
 def check_random(program, number):
     """Compares the plain text of a random text of version 4, and that of one whose lines are mixed up."""
     lines = written_text(7, number).splitlines(keepends=True)
@@ -136,6 +155,8 @@ def cases():
     for group in json.loads((FOLDER / 'judged.json').read_text()):
         for place, case in enumerate(group['cases']):
             yield Case(f'expand: {group["about"]} {place}', check_rule, (group['base'], *case))
+    for last, rule in ((f'p-{NAMED}', 0), ('p-0', 6), (f'p-{NAMED - 2}', 6), ('P-0', 0)):
+        yield Case(f'expand: many named entries, the last {last}', check_named, (last, rule))
     for number in range(RANDOM):
         yield Case(f'expand: random text {number}', check_random, (number,))
     for number, text in enumerate(earlier_texts()):

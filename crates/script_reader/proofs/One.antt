@@ -1,12 +1,10 @@
 -- The rule that a text breaks is one: what its keys say is one.
-use Rattle.std.proofs.Common.{◌≡◌, ◌≤◌, ◌<◌, ℕ, ◌+◌, ◌*◌, ◌^◌, List, [], ◌∷◌, map, Option, Some, None, Result, Ok, Err, pos, negsuc, min, refl, ap, sym, subst, ◌∙◌, codes, cond, nat_eq, nat_lt}
+use Rattle.std.proofs.Common.{◌≡◌, ◌≤◌, ℕ, ◌*◌, ◌^◌, List, [], ◌∷◌, map, Option, Some, None, Result, Ok, Err, pos, negsuc, min, refl, ap, sym, subst, ◌∙◌, codes, cond, nat_eq, nat_lt}
 use Rattle.std.specs.List.{fold}
 use Rattle.std.proofs.lemmas.List.Folds.{fold-map}
-use Rattle.std.specs.Prelude.{All}
 use Rattle.std.specs.List.{AllByRecursion}
 use Rattle.std.proofs.lemmas.List.Elements.{recursion_from_All}
-use Rattle.toml.specs.Data.{Data, Items, Members, array, boolean, datetime, float, get, integer, string, table}
-use Rattle.lengths.specs.Lengths.{AreTicks}
+use Rattle.toml.specs.Data.{Data, array, boolean, datetime, float, get, integer, string, table}
 use Rattle.scenario.specs.Setup.{Group}
 use Rattle.written_entries.specs.declared.keys.ScriptList.{ScriptList}
 use Rattle.written_entries.specs.declared.keys.ScriptList.TheVariants.{Crash, Leave, Restart, Slow, Pause, Block}
@@ -116,12 +114,13 @@ module _ (tick : ℕ) (some : 1 ≤ tick) where
     unfolding list_rule
     same_list of value a b first second =
         let other : a.is_other ≡ b.is_other = first.other ∙ sym second.other in
+        let twice : a.is_twice ≡ b.is_twice = first.twice ∙ sym second.twice in
         let items : map item_of a.items.items ≡ map item_of b.items.items = first.items ∙ sym second.items in
         let list : a.list ≡ b.list = first.list ∙ sym second.list in
         let rest : items_rule a.list groups a.items.items ≡ items_rule b.list groups b.items.items =
         ap (λ (l : ScriptList). items_rule l groups a.items.items) list
         ∙ same_items b.list a.items.items b.items.items items (recursion_from_All (IsRead tick) a.items.items first.read) (recursion_from_All (IsRead tick) b.items.items second.read) in
-        λ i. min (min (kind_rule (other i)) (twice_rule (items i))) (rest i)
+        λ i. min (min (kind_rule (other i)) (twice_rule (twice i))) (rest i)
 
     same_script : (d : Data) (a b : WrittenScript) → IsWritten tick d a → IsWritten tick d b → script_rule groups a ≡ script_rule groups b
     unfolding script_rule

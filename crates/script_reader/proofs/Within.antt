@@ -1,8 +1,7 @@
 -- What a key says is in its range.
-use Rattle.std.proofs.Common.{◌≡◌, ℕ, Option, Some, None, Result, Ok, Err, refl}
+use Rattle.std.proofs.Common.{ℕ, Option, Some, None, Result, Ok, Err}
 use Rattle.toml.specs.Data.{Data}
 use Rattle.written_values.specs.declared.fault.ValueFault.{ValueFault}
-use Rattle.written_values.specs.declared.fault.ValueFault.TheVariants.{WrongKind, OutOfRange}
 use Rattle.script_reader.specs.Numbers.{IsIn, SaysReading}
 
 pub is_in : (tick least most : ℕ) (d : Option Data) (reading : Option (Result ℕ ValueFault)) → SaysReading tick least most d reading → IsIn least most reading

@@ -4,6 +4,7 @@ pub mod Numbers
 pub mod Rules
 pub mod Who
 pub mod Times
+pub mod Twice
 pub mod Entries
 pub mod Lists
 pub mod Script

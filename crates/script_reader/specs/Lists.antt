@@ -20,6 +20,7 @@ is_other value = option_map_or (λ d. is_none (as_array d)) value false
 pub record IsList (tick : ℕ) (of : ScriptList) (value : Option Data) (made : WrittenList) : Type 0 where
   pub list : made.list ≡ of
   pub other : made.is_other ≡ is_other value
+  pub twice : made.is_twice ≡ is_name_twice (option_map_or items_of value [])
   pub items : map item_of made.items.items ≡ option_map_or items_of value []
   pub read : All (IsRead tick) made.items.items
 
@@ -37,11 +38,11 @@ pub record IsWritten (tick : ℕ) (d : Data) (script : WrittenScript) : Type 0 w
 abbrev pub kind_rule : Bool → ℕ
 kind_rule other = if other then 4 else no_rule
 
-abbrev pub twice_rule : List Data → ℕ
-twice_rule items = if is_name_twice items then 6 else no_rule
+abbrev pub twice_rule : Bool → ℕ
+twice_rule twice = if twice then 6 else no_rule
 
 unfoldable pub list_rule : List Group → WrittenList → ℕ
-list_rule groups made = min (min (kind_rule made.is_other) (twice_rule (map item_of made.items.items))) (items_rule made.list groups made.items.items)
+list_rule groups made = min (min (kind_rule made.is_other) (twice_rule made.is_twice)) (items_rule made.list groups made.items.items)
 
 -- the lowest of rules 2 to 7, or 9 of keys, that the six lists break; 255 where they break none
 unfoldable pub script_rule : List Group → WrittenScript → ℕ

@@ -1,5 +1,5 @@
 -- What the keys of an item that count ticks say: a number of ticks in the key's range, or rule 4 or 5.
-use Rattle.std.specs.Prelude.{◌≡◌, ◌≤◌, ℕ, ◌^◌, Bool, true, false, ◌||◌, List, codes, Option, Some, None, Result, Ok, Err}
+use Rattle.std.specs.Prelude.{◌≡◌, ◌≤◌, ℕ, ◌^◌, Bool, true, false, ◌||◌, codes, Option, Some, None, Result, Ok, Err}
 use Rattle.toml.specs.Data.{Data, get}
 use Rattle.written_values.specs.Values.{SaysTicksIn}
 use Rattle.written_values.specs.declared.fault.ValueFault.{ValueFault}

@@ -1,5 +1,5 @@
 -- The lowest rule that items of the six lists break as they are written: 2 to 7, or 9 of their keys.
-use Rattle.std.specs.Prelude.{ℕ, min, Bool, false, not, ◌&&◌, ◌||◌, if◌then◌else◌, List, [], ◌∷◌, length, map, codes, fold, nat_eq, nat_lt, bytes_eq, is_none, is_some, Option, Some, None}
+use Rattle.std.specs.Prelude.{ℕ, min, Bool, false, not, ◌&&◌, ◌||◌, if◌then◌else◌, List, [], ◌∷◌, length, codes, fold, nat_eq, nat_lt, bytes_eq, is_none, is_some, Option}
 use Rattle.std.specs.List.{list_any}
 use Rattle.std.specs.Option.{option_map_or}
 use Rattle.toml.specs.Data.{Data, as_str, as_table, get}
@@ -94,10 +94,6 @@ items_rule list groups items = fold (λ low it. min low (item_rule list groups (
 
 abbrev pub is_so_called : List ℕ → Data → Bool
 is_so_called name d = option_map_or (λ other. bytes_eq other name) (text_at (codes "name") d) false
-
--- one of the other items has the item's name
-abbrev pub is_called_again : WrittenItem → List WrittenItem → Bool
-is_called_again it others = option_map_or (λ name. list_any (λ other. is_so_called name (item_of other)) others) (text_at (codes "name") (item_of it)) false
 
 -- two entries have one name
 abbrev pub is_name_twice : List Data → Bool

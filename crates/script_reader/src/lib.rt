@@ -9,6 +9,7 @@ pub mod laws;
 mod lists;
 mod names;
 mod numbers;
+mod repeated;
 mod rules;
 mod script;
 mod times;

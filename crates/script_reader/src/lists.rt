@@ -1,18 +1,17 @@
 //! The six lists of a text as they are written, and the lowest rule that they break.
-ghost use Rattle.std.specs.Prelude.{◌≡◌, ◌<◌, ◌+◌, drop, length, map, IfOk};
-ghost use Rattle.std.specs.List.{list_any};
+ghost use Rattle.std.specs.Prelude.{◌≡◌, Some, IfOk};
 ghost use Rattle.lengths.specs.Lengths.{IsTick};
 ghost use Rattle.toml.specs.Data.{get};
 ghost use Rattle.toml.specs.View.{view};
 ghost use Rattle.script_reader.specs.Keys.{list_name};
-ghost use Rattle.script_reader.specs.Rules.{is_called_again, is_name_twice, is_so_called, item_of, items_rule};
+ghost use Rattle.script_reader.specs.Rules.{items_rule};
 ghost use Rattle.script_reader.specs.Lists.{kind_rule, list_rule, script_rule, twice_rule, IsList, IsWritten};
 
 use crate::item::{WrittenItem, written_items};
 use crate::keys::list_name;
-use crate::names::is_so_called;
+use crate::repeated::is_name_twice;
 use crate::rules::{NO_RULE, item_rule};
-use crate::values::{items, text_at};
+use crate::values::items;
 use base::Memory;
 use std::alloc::Global;
 use toml::Value;
@@ -25,6 +24,8 @@ pub struct WrittenList<'a> {
     pub list: ScriptList,
     /// Whether something else than a list stands at its name.
     pub is_other: bool,
+    /// Whether two items have one name.
+    pub is_twice: bool,
     pub items: Vec<WrittenItem<'a>>,
 }
 
@@ -90,17 +91,35 @@ fn written_list<'a>(
     ensures { IfOk result (IsList tick list (get (list_name list) (view document.now))) }
 {
     match document.get(list_name(list)) {
-        Some(value) => Ok(WrittenList {
-            list,
-            is_other: !value.is_array(),
-            items: written_items(alloc, items(value), tick)?,
-        }),
+        Some(value) => list_in(alloc, list, value, tick),
         None => Ok(WrittenList {
             list,
             is_other: false,
+            is_twice: false,
             items: Vec::new(alloc),
         }),
     }
+}
+
+/// The list that a value is.
+fn list_in<'a>(
+    alloc: Global,
+    list: ScriptList,
+    value: &'a Value,
+    tick: u64,
+) -> Result<WrittenList<'a>, Memory>
+    requires { IsTick tick }
+    ensures { IfOk result (IsList tick list (Some (view value.now))) }
+{
+    let there = items(value);
+    let is_twice = is_name_twice(alloc, there)?;
+    let items = written_items(alloc, there, tick)?;
+    Ok(WrittenList {
+        list,
+        is_other: !value.is_array(),
+        is_twice,
+        items,
+    })
 }
 
 /// The lowest rule that a list breaks; else 255.
@@ -108,10 +127,9 @@ fn written_list<'a>(
 fn list_rule(roster: &Roster, list: &WrittenList) -> u8
     ensures { result ≡ list_rule roster.now list.now }
 {
-    let items = list.items.as_slice();
     kind_rule(list.is_other)
-        .min(twice_rule(items))
-        .min(items_rule(list.list, roster, items))
+        .min(twice_rule(list.is_twice))
+        .min(items_rule(list.list, roster, list.items.as_slice()))
 }
 
 /// Rule 4 where something else than a list stands there.
@@ -122,47 +140,10 @@ fn kind_rule(is_other: bool) -> u8
 }
 
 /// Rule 6 where two items have one name.
-fn twice_rule(items: &[WrittenItem]) -> u8
-    ensures { result ≡ twice_rule (map item_of items.now) }
+fn twice_rule(is_twice: bool) -> u8
+    ensures { result ≡ twice_rule is_twice }
 {
-    if is_name_twice(items) { 6 } else { NO_RULE }
-}
-
-/// Whether two items have one name.
-fn is_name_twice(items: &[WrittenItem]) -> bool
-    ensures { result ≡ is_name_twice (map item_of items.now) }
-{
-    for (place, it) in items.iter().enumerate() {
-        if is_called_later(items, place, it) {
-            return true;
-        }
-    }
-    false
-}
-
-/// Whether an item behind this place has the item's name.
-fn is_called_later(items: &[WrittenItem], place: usize, it: &WrittenItem) -> bool
-    requires { place < length items.now }
-    ensures { result ≡ is_called_again it.now (drop (place + 1) items.now) }
-{
-    is_called_again(it, &items[place + 1..])
-}
-
-/// Whether one of the other items has the item's name.
-fn is_called_again(it: &WrittenItem, others: &[WrittenItem]) -> bool
-    ensures { result ≡ is_called_again it.now others.now }
-{
-    match text_at(it.item, "name") {
-        Some(name) => is_any_called(others, name),
-        None => false,
-    }
-}
-
-/// Whether one of these items has the name.
-fn is_any_called(items: &[WrittenItem], name: &str) -> bool
-    ensures { result ≡ list_any (λ it. is_so_called name.now (item_of it)) items.now }
-{
-    items.iter().any(|it| is_so_called(it.item, name))
+    if is_twice { 6 } else { NO_RULE }
 }
 
 /// The lowest rule that one of these items breaks; else 255.

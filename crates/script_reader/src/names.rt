@@ -4,7 +4,7 @@ ghost use Rattle.std.specs.List.{list_any};
 ghost use Rattle.toml.specs.Data.{as_str};
 ghost use Rattle.toml.specs.View.{view};
 ghost use Rattle.script_reader.specs.Values.{members_of};
-ghost use Rattle.script_reader.specs.Rules.{has_bad_name, is_no_group, is_nobody, is_so_called, names_nobody};
+ghost use Rattle.script_reader.specs.Rules.{has_bad_name, is_no_group, is_nobody, names_nobody};
 
 use crate::values::{members_of, text_at, text_in};
 use toml::Value;
@@ -62,16 +62,6 @@ pub(crate) fn has_bad_name(item: &Value) -> bool
 {
     match text_at(item, "name") {
         Some(name) => !is_written_name(name.as_bytes()),
-        None => false,
-    }
-}
-
-/// Whether an item has this name.
-pub(crate) fn is_so_called(item: &Value, name: &str) -> bool
-    ensures { result ≡ is_so_called name.now (view item.now) }
-{
-    match text_at(item, "name") {
-        Some(other) => other == name,
         None => false,
     }
 }
