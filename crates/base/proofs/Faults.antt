@@ -1,4 +1,4 @@
--- Faults are told apart.
+-- Faults differ from each other.
 use Rattle.std.proofs.Common.{◌≢◌}
 use Rattle.base.specs.declared.fault.Fault.TheVariants.{Memory, CounterOverflow, Write, ThreadLost}
 

@@ -176,7 +176,7 @@ asked_run_done release words before after making old new gave heard answer run c
     let asks : Answers words (asked.Run run) = subst (Answers words) is h in
     on_ok_weaker printed (λ appended. inl (count, (run, asks, ran), appended)) told
 
--- where the words ask for nothing that tells how far it has come, this run doesn't
+-- where the words don't ask for progress, this run prints none
 pub asked_run_untold : (words : List Text) (answer : Asked) (run : RunWords) → answer ≡ asked.Run run → Answers words answer
     → ¬ (AsksForProgress words) → run.progress ≡ false
 asked_run_untold words answer run is h none = go run.progress refl
@@ -210,7 +210,7 @@ asked_sweep_done release words before after making old new gave heard answer swe
     let asks : Answers words (asked.Sweep sweep) = subst (Answers words) is h in
     on_ok_weaker printed (λ appended. inr (inr (inr (inl (lines, (sweep, asks, swept), subst (Appends old new) same appended))))) told
 
--- where the words ask for nothing that tells how far it has come, this sweep doesn't
+-- where the words don't ask for progress, this sweep prints none
 pub asked_untold : (words : List Text) (answer : Asked) (sweep : SweepWords) → answer ≡ asked.Sweep sweep → Answers words answer
     → ¬ (AsksForProgress words) → sweep.progress ≡ false
 asked_untold words answer sweep is h none = go sweep.progress refl

@@ -1,4 +1,4 @@
--- The program's command is one whose matches `clap` tells exactly.
+-- The program's command is one whose matches `clap` specifies exactly.
 use Rattle.std.proofs.Common.{◌≡◌, true, refl}
 use Rattle.clap.specs.Words.{is_simple, is_simple_and_free}
 use Rattle.clap.proofs.OnLiterals.{clap_on_literals}

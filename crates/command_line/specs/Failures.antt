@@ -65,7 +65,7 @@ abbrev pub setting_swept_keys : List ℕ → List ℕ
 setting_swept_keys [] = []
 setting_swept_keys swept_keys = codes " with " ++ swept_keys
 
--- what is told of the shard in a file
+-- what the message says of the shard in a file
 abbrev pub shard_told : Text → List ℕ → List ℕ
 shard_told name what = codes "piece " ++ shown_name name ++ what
 

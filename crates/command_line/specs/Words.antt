@@ -83,14 +83,14 @@ with_runs app =
     let sharded = with_rule cased (option_rule (codes "shard")) in
     with_rule (with_rule sharded (flag_rule (codes "resume"))) (option_rule (codes "workers"))
 
--- a command, and what says what is told of the settings of a sweep: the option --want, which may stand more than once; the flag --jsonl; and the
+-- a command, and what says which settings are printed, and how: the option --want, which may stand more than once; the flag --jsonl; and the
 -- options --page and --tick
 abbrev pub with_telling : App → App
 with_telling app =
     let wanted = with_rule app (repeated_rule (codes "want")) in
     with_tick (with_rule (with_rule wanted (flag_rule (codes "jsonl"))) (option_rule (codes "page")))
 
--- the command `sweep`: a file, which is required, the options of its runs and those of what is told of its settings, and the flag --progress
+-- the command `sweep`: a file, which is required, the options of its runs and those on the printed settings, and the flag --progress
 abbrev pub sweep_app : App
 sweep_app = with_rule (with_telling (with_runs (with_rule (new_app (codes "sweep")) file_rule))) (flag_rule (codes "progress"))
 
@@ -98,7 +98,7 @@ sweep_app = with_rule (with_telling (with_runs (with_rule (new_app (codes "sweep
 abbrev pub shards_rule : Rule
 shards_rule = record (new_rule (codes "SHARD")) { required = true; range = Some (record { start_inclusive = 1; end_inclusive = usize_max }) }
 
--- the command `join`: files of shards and the option --table, both required, the options of what is told of the settings, and the option --name
+-- the command `join`: files of shards and the option --table, both required, the options on the printed settings, and the option --name
 abbrev pub join_app : App
 join_app =
     let tabled = with_rule (with_rule (new_app (codes "join")) shards_rule) (required_rule (codes "table")) in
@@ -115,7 +115,7 @@ preset_rule = record (new_rule (codes "PRESET")) { required = true }
 abbrev pub init_app : App
 init_app = with_rule (new_app (codes "init")) preset_rule
 
--- the program, whose words come without its name, and which has a version to tell
+-- the program, whose words come without its name, and which has a version to print
 abbrev pub bare_app : App
 bare_app = let app = new_app (codes "swimsim") in
     record app { top = record app.top { has_version = true; no_binary_name = true; subcommand_required = true } }
@@ -220,7 +220,7 @@ AsksForShard None (Some p) = ⊥
 AsksForShard (Some word) None = ⊥
 AsksForShard (Some word) (Some p) = IsShardWord word p
 
--- only a shard goes on where it was cut off; and only a whole sweep tells its settings and has a page
+-- only a shard goes on where it was cut off; and only a whole sweep prints its settings and has a page
 abbrev pub go_together : Option Text → Option Text → Bool → Bool → Bool
 go_together None page resume jsonl = not resume
 go_together (Some shard) page resume jsonl = is_none page && not jsonl
@@ -266,7 +266,7 @@ pub record NamesNoPreset (met : Option (Text × List Row)) : Type 0 where
   pub given : first_of (codes "PRESET") rows ≡ Some word
   pub unknown : (preset : Preset) → ¬ (word_of preset ≡ word)
 
--- a name for the scenario is told where there is a page that takes it
+-- a name for the scenario may be given only where there is a page that takes it
 abbrev pub may_name : Option Text → Option Text → Bool
 may_name page name = is_none name || is_some page
 

@@ -39,7 +39,7 @@ fn bare_command<'a>(alloc: Global) -> Result<Command<'a>, AllocError>
     let named = Command::new(alloc, "swimsim").bin_name("swimsim")?;
     let told = named
         .about("Simulates clusters of the SWIM membership protocol")
-        // with a version there is the flag --version; what it tells, `print_release` prints
+        // with a version there is the flag --version; `print_release` prints what it asks for
         .version("");
     Ok(told.no_binary_name(true).subcommand_required(true))
 }

@@ -87,7 +87,7 @@ fn deal(alloc: Global, scenario: &Scenario, parts: usize) -> Result<Division, Fa
     }
 }
 
-/// Deals each member to the part that its item of a list names, items being parted by commas.
+/// Deals each member to the part that its item of a list names. Commas separate the items.
 fn deal_by_list(
     alloc: Global,
     scenario: &Scenario,

@@ -106,7 +106,7 @@ fn division_number(fault: DivisionFault) -> u8
 }
 
 impl fmt::Display for Failure<'_> {
-    // Standard output that failed has a message for programmers alone: no line tells it.
+    // A failure of standard output has a message for programmers alone: no line reports it.
     ghost output = { λ failure. Some (message_of failure) };
 
     fn fmt<W: fmt::Write>(&self, f: &mut fmt::Formatter<W>) -> fmt::Result {
@@ -171,7 +171,7 @@ fn write_shard_fault<W: fmt::Write>(f: &mut fmt::Formatter<W>, fault: ShardFault
     }
 }
 
-/// Writes what is told of the shard in a file.
+/// Writes what the message says of the shard in a file.
 fn write_shard<W: fmt::Write>(f: &mut fmt::Formatter<W>, name: &str, what: &str) -> fmt::Result
     ensures { WritesOnOk W.write_str_gives f.old result (codes "piece " ++ shown_name name.now ++ what.now) f.new }
 {
@@ -180,7 +180,7 @@ fn write_shard<W: fmt::Write>(f: &mut fmt::Formatter<W>, name: &str, what: &str)
     f.write_str(what)
 }
 
-/// Writes the line that tells users of a failure, a name in it as `write_name` does. There is none for standard
+/// Writes the line that reports a failure to users, a name in it as `write_name` does. There is none for standard
 /// output that failed.
 fn tell<E: Write>(failure: &Failure<'_>, err: &mut E) -> io::Result<()>
     ensures told { OnOk result (Appends (E.contents err.old) (E.contents err.new) (failure_line failure.now)) }
@@ -213,7 +213,7 @@ fn is_silent(failure: &Failure<'_>) -> bool
     }
 }
 
-/// Tells users of a failure on `err`, as far as it takes the line, and answers the exit status.
+/// Reports a failure to users on `err`, as far as it takes the line, and returns the exit status.
 pub fn refuse<E: Write>(failure: &Failure<'_>, err: &mut E) -> u8
     ensures status { result ≡ status_of failure.now }
     ensures range { result ≤ 6 }

@@ -25,7 +25,7 @@ pub struct JoinWords<'a> {
     pub table: &'a str,
     /// What is wanted of the settings.
     pub wants: Vec<Want<'a>>,
-    /// Whether the settings are told as JSON, an object a line, in place of aligned columns.
+    /// Whether the settings are printed as JSON, an object a line, in place of aligned columns.
     pub jsonl: bool,
     /// The name of the file that takes the page, where one is asked for.
     pub page: Option<&'a str>,

@@ -36,7 +36,7 @@ pub fn print_members<'a, O: Write>(members: usize, out: &mut O) -> Result<(), Fa
     Ok(())
 }
 
-/// Prints a text: what is told of the settings of a sweep, or of a file that was to be explained.
+/// Prints a text: the lines on the settings of a sweep, or the explanation of a file.
 ///
 /// Failure: `Output` where `out` takes less, or its flush fails.
 pub fn print_text<'a, O: Write>(text: &str, out: &mut O) -> Result<(), Failure<'a>>

@@ -1,6 +1,6 @@
 //! Which release of the program this is.
 
-/// What the program tells of itself.
+/// What the program reports of itself.
 #[derive(Clone, Copy, Debug)]
 pub struct Release<'a> {
     /// The number of the version.

@@ -183,7 +183,7 @@ fn runs_asked<'a>(
 }
 
 /// Whether the words of a sweep go together: only a shard goes on where it was cut off; and only a
-/// whole sweep tells its settings and has a page.
+/// whole sweep prints its settings and has a page.
 fn have_sense(sweep: &ArgMatches<'_>) -> bool
     ensures { result ≡ have_sense (rows_of (found_of sweep.now)) }
 {

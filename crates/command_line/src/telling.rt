@@ -13,7 +13,7 @@ use clap::{ArgMatches, Command};
 use goals::{Want, WantFault, read_wants};
 use std::alloc::{AllocError, Global};
 
-/// A command with the options more that say what is told of the settings of a sweep.
+/// A command with more options: those that say what is printed of the settings of a sweep, and where.
 pub(crate) fn with_telling<'a>(
     alloc: Global,
     so_far: Result<Command<'a>, AllocError>,

@@ -53,7 +53,7 @@ pub struct RunWords<'a> {
     pub workers: Option<&'a str>,
     /// How the members are to be divided.
     pub split: Split<'a>,
-    /// Whether to tell how far the run has come.
+    /// Whether to report how far the run has come.
     pub progress: bool,
 }
 
@@ -75,9 +75,9 @@ pub struct SweepWords<'a> {
     pub wants: Vec<Want<'a>>,
     /// How many workers make the runs; one where that isn't said.
     pub workers: Option<&'a str>,
-    /// Whether to tell how far the sweep has come.
+    /// Whether to report how far the sweep has come.
     pub progress: bool,
-    /// Whether the settings are told as JSON, an object a line, in place of aligned columns. Never with a shard.
+    /// Whether the settings are printed as JSON, an object a line, in place of aligned columns. Never with a shard.
     pub jsonl: bool,
     /// The name of the file that takes the page, where one is asked for. Never with a shard.
     pub page: Option<&'a str>,
@@ -109,7 +109,7 @@ pub enum Asked<'a> {
     Init(Preset),
     /// To be shown the help that is this answer's text.
     Help(Error),
-    /// To be told which release of the program this is.
+    /// To be shown which release of the program this is.
     Version,
 }
 

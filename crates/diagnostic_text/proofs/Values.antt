@@ -25,7 +25,7 @@ document_reads file ds more all =
     let few = items_shallow ds all in
     omega (arith, few)
 
--- what a diagnostic's object tells first, and that it has no other one
+-- what a diagnostic's object says first, and that it has no other one
 pub tells_rule : {d : Data} (rule : ℕ) (message remedy : List ℕ) (line column length : ℕ) → d ≡ diagnostic_data rule message remedy line column length
     → get (codes "rule") d ≡ Some (number (unsigned rule))
 unfolding diagnostic_data

@@ -1,4 +1,4 @@
--- What is told of the diagnostics of a text that is refused.
+-- What is printed of the diagnostics of a text that is refused.
 use Rattle.std.specs.Prelude.{◌≡◌, ℕ, ◌-◌, ◌==◌, nat_le, nat_eq, if◌then◌else◌, List, [], ◌∷◌, ◌++◌, Option, Some, Bool, false, codes, find, length, map, take}
 use Rattle.std.specs.Fmt.{decimal}
 use Rattle.std.specs.List.{list_all}
@@ -44,7 +44,7 @@ count_line count =
     else if nat_le count 50 then decimal count ++ codes " errors\n"
     else decimal count ++ codes " errors, " ++ decimal (count - 50) ++ codes " of them not shown\n"
 
--- the text has words on each diagnostic that is shown, and then tells how many there are
+-- the text has words on each diagnostic that is shown, and then says how many there are
 pub record TellsLines (rule : ℕ) (text : List ℕ) : Type 0 where
   pub found : List Diagnostic
   pub shown : List Diagnostic
@@ -53,13 +53,13 @@ pub record TellsLines (rule : ℕ) (text : List ℕ) : Type 0 where
   pub each : AreBlocks shown blocks
   pub whole : text ≡ blocks ++ count_line (length found)
 
--- what is told of a diagnostic
+-- what a document says of a diagnostic
 unfoldable pub diagnostic_data : ℕ → List ℕ → List ℕ → ℕ → ℕ → ℕ → Data
 diagnostic_data rule message remedy line column length =
     object (put (codes "length") (number (unsigned length)) (put (codes "column") (number (unsigned column)) (put (codes "line") (number (unsigned line))
     (put (codes "remedy") (string remedy) (put (codes "message") (string message) (put (codes "rule") (number (unsigned rule)) no_members))))))
 
--- the values tell the rules of these diagnostics
+-- the values have the rules of these diagnostics
 abbrev pub AreRulesOf : List Diagnostic → List Data → Type 0
 AreRulesOf shown values = map (λ d. get (codes "rule") d) values ≡ map (λ m. Some (number (unsigned m.rule))) shown
 
@@ -78,7 +78,7 @@ document_with file diagnostics more =
 abbrev pub document_of : List ℕ → List Data → ℕ → Data
 document_of file values more = document_with file (array (items_of values)) more
 
--- the text is a line that reads as a document, whose values tell the rules of the diagnostics that are shown
+-- the text is a line that reads as a document, whose values have the rules of the diagnostics that are shown
 pub record TellsDocument (rule : ℕ) (text : List ℕ) : Type 0 where
   pub found : List Diagnostic
   pub shown : List Diagnostic

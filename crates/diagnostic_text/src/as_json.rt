@@ -94,7 +94,7 @@ fn diagnostic_value(context: &Context<'_>, diagnostic: &Diagnostic) -> Result<Va
     )
 }
 
-/// The JSON object that tells this of a diagnostic.
+/// The JSON object that says this of a diagnostic.
 #[tactic(auto, unfolding(crate::specs::Told::diagnostic_data))]
 fn object(
     alloc: Global,

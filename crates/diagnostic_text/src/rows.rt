@@ -118,7 +118,7 @@ pub(crate) fn version_of(context: &Context<'_>) -> Version {
     context.diagnostics.version
 }
 
-/// The version whose keys are told of as keys of another table: that of the text, but no less than 2.
+/// The version whose keys are named as keys of another table: that of the text, but no less than 2.
 pub(crate) fn told_version(context: &Context<'_>) -> Version {
     match version_of(context) {
         Version::One | Version::Two => Version::Two,

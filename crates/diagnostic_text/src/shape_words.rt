@@ -65,7 +65,7 @@ pub(crate) fn missing_words(
     )
 }
 
-/// Which keys the table needs; of a text without a version, why nothing else is told.
+/// Which keys the table needs; of a text without a version, why nothing else is reported.
 fn missing_note(context: &Context<'_>, home: Home, row: KeyRule) -> Result<String, AllocError> {
     if row.key == FormatKey::Version {
         return String::from_str(

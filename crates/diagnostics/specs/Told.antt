@@ -1,4 +1,4 @@
--- Which diagnostics may be told of a text that is refused.
+-- Which diagnostics may be reported of a text that is refused.
 use Rattle.std.specs.Prelude.{◌≡◌, ℕ, List, Bool, true, nat_le, nat_eq}
 use Rattle.std.specs.List.{list_any, list_all}
 use Rattle.diagnostics.specs.declared.list.Diagnostic.{Diagnostic}

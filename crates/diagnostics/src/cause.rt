@@ -84,13 +84,13 @@ pub enum Cause {
     NoGroup,
     /// Rule 7: no member has the name.
     NoMember,
-    /// Rule 8: the member goes twice, the other time as is told at `other`.
+    /// Rule 8: the member goes twice, the other time as the text says at `other`.
     GoneTwice {
         now: DepartureKind,
         before: DepartureKind,
         other: Span,
     },
-    /// Rule 8: the member is slow, or paused, at the same time, as is told at `other`; `key` is that of the
+    /// Rule 8: the member is slow, or paused, at the same time, as the text says at `other`; `key` is that of the
     /// list.
     Overlap {
         key: FormatKey,

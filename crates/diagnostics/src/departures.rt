@@ -56,7 +56,7 @@ fn judge_gone(walk: &mut Walk<'_>, roster: &Roster) -> Result<(), Memory> {
     tell_gone(walk, list.as_slice())
 }
 
-/// Tells of the members that go twice in a list by members and places.
+/// Reports the members that go twice in a list by members and places.
 fn tell_gone(walk: &mut Walk<'_>, list: &[Gone]) -> Result<(), Memory> {
     let mut before: Option<Gone> = None;
     for gone in list {
@@ -130,7 +130,7 @@ fn judge_stretches(
     tell_overlaps(walk, key, list.as_slice())
 }
 
-/// Tells of the items that overlap in a list by members and beginnings: each is compared with the one that
+/// Reports the items that overlap in a list by members and beginnings: each is compared with the one that
 /// lasts longest of those before it.
 fn tell_overlaps(walk: &mut Walk<'_>, key: FormatKey, list: &[Stretch]) -> Result<(), Memory> {
     let mut longest: Option<Stretch> = None;
@@ -151,7 +151,7 @@ fn tell_overlaps(walk: &mut Walk<'_>, key: FormatKey, list: &[Stretch]) -> Resul
     Ok(())
 }
 
-/// Tells of two items of a list that overlap, at the later one in the text.
+/// Reports two items of a list that overlap, at the later one in the text.
 fn tell_overlap(walk: &mut Walk<'_>, key: FormatKey, a: Span, b: Span) -> Result<(), Memory> {
     if a.start < b.start {
         walk.add(8, Cause::Overlap { key, other: a }, b)

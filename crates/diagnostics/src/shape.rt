@@ -3,7 +3,7 @@ use crate::cause::{Cause, Home, ValueKind};
 use crate::walk::{Walk, found_at, is_within, items_of};
 use base::Memory;
 use schema::{Absence, FormatKey, KeyRule, Kind, Section, Version};
-use toml_places::{Content, Places};
+use toml_places::{NodeContent, Places};
 
 /// Judges the whole text, and the tables and the items of lists that its keys call for.
 pub(crate) fn judge_shape(walk: &mut Walk<'_>) -> Result<(), Memory> {
@@ -91,7 +91,7 @@ fn judge_absence(
 fn whole_at(walk: &Walk<'_>, table: usize, key: FormatKey) -> Option<i64> {
     let place = walk.places.child(table, key.text())?;
     match walk.places.content(place) {
-        Some(Content::Whole(number)) => Some(*number),
+        Some(NodeContent::Whole(number)) => Some(*number),
         _ => None,
     }
 }
@@ -105,19 +105,19 @@ fn judge_value(walk: &mut Walk<'_>, row: &KeyRule, place: usize) -> Result<(), M
         return walk.add(4, Cause::WrongKind { row, found }, span);
     }
     match walk.places.content(place) {
-        Some(Content::Whole(number)) if !is_within(row.kind, *number) => {
+        Some(NodeContent::Whole(number)) if !is_within(row.kind, *number) => {
             let number = *number;
             let row = told_row(row);
             walk.add(5, Cause::OutOfRange { row, number }, span)
         }
-        Some(Content::List(items)) if items.is_empty() && row.absence == Absence::Refused => {
+        Some(NodeContent::List(items)) if items.is_empty() && row.absence == Absence::Refused => {
             walk.add(2, Cause::EmptyList { row: *row }, span)
         }
         _ => Ok(()),
     }
 }
 
-/// The row that is told of a key: of the version, that which knows all of them.
+/// The row that a diagnostic on a key has: of the version, that which knows all of them.
 fn told_row(row: &KeyRule) -> KeyRule {
     if row.key == FormatKey::Version {
         for other in Section::Top.rows(Version::Three) {
@@ -147,7 +147,7 @@ fn judge_keys(
     rows: &[KeyRule],
     table: usize,
 ) -> Result<(), Memory> {
-    if let Some(Content::Table(keys)) = walk.places.content(table) {
+    if let Some(NodeContent::Table(keys)) = walk.places.content(table) {
         for (name, place) in keys.iter() {
             if !is_named(rows, name.as_str()) {
                 let cause = unknown(walk, home, name.as_str(), *place);

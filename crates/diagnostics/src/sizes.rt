@@ -4,7 +4,7 @@ use crate::walk::Walk;
 use base::Memory;
 use schema::{FormatKey, Section};
 
-/// Judges that the groups have no more members than there may be. It is told at the group by which there
+/// Judges that the groups have no more members than there may be. It is reported at the group by which there
 /// are too many.
 pub(crate) fn judge_size(walk: &mut Walk<'_>) -> Result<(), Memory> {
     let most = walk.version.most_members();

@@ -11,7 +11,7 @@ use base::Memory;
 use indexmap::IndexMap;
 use schema::{Absence, FormatKey, KeyRule, Kind, Section, Version};
 use std::alloc::Global;
-use toml_places::{Content, Places, Span};
+use toml_places::{NodeContent, Places, Span};
 
 /// What is gone over, and the diagnostics so far.
 #[derive(Drop)]
@@ -57,7 +57,7 @@ impl<'p> Walk<'p> {
     pub(crate) fn text(&self, table: usize, key: FormatKey) -> Option<(&'p str, usize)> {
         let place = self.places.child(table, key.text())?;
         match self.places.content(place) {
-            Some(Content::Text(text)) => Some((text.as_str(), place)),
+            Some(NodeContent::Text(text)) => Some((text.as_str(), place)),
             _ => None,
         }
     }
@@ -68,7 +68,7 @@ impl<'p> Walk<'p> {
         let row = row_of(section.rows(self.version), key)?;
         match self.places.child(table, key.text()) {
             Some(place) => match self.places.content(place) {
-                Some(Content::Whole(number)) if is_within(row.kind, *number) => {
+                Some(NodeContent::Whole(number)) if is_within(row.kind, *number) => {
                     u64::try_from(*number).ok()
                 }
                 _ => None,
@@ -93,7 +93,7 @@ impl<'p> Walk<'p> {
 /// The places of the items of a list.
 pub(crate) fn items_of(places: &Places, list: usize) -> &[usize] {
     match places.content(list) {
-        Some(Content::List(items)) => items.as_slice(),
+        Some(NodeContent::List(items)) => items.as_slice(),
         _ => &[],
     }
 }
@@ -122,13 +122,13 @@ pub(crate) fn is_within(kind: Kind, number: i64) -> bool {
 /// What kind of value stands at a place.
 pub(crate) fn found_at(places: &Places, place: usize) -> ValueKind {
     match places.content(place) {
-        Some(Content::Whole(_)) => ValueKind::Whole,
-        Some(Content::Switch(_)) => ValueKind::Switch,
-        Some(Content::Text(_)) => ValueKind::Text,
-        Some(Content::Float) => ValueKind::Float,
-        Some(Content::Datetime) => ValueKind::Datetime,
-        Some(Content::List(_)) => ValueKind::List,
-        Some(Content::Table(_)) | None => ValueKind::Table,
+        Some(NodeContent::Whole(_)) => ValueKind::Whole,
+        Some(NodeContent::Switch(_)) => ValueKind::Switch,
+        Some(NodeContent::Text(_)) => ValueKind::Text,
+        Some(NodeContent::Float) => ValueKind::Float,
+        Some(NodeContent::Datetime) => ValueKind::Datetime,
+        Some(NodeContent::List(_)) => ValueKind::List,
+        Some(NodeContent::Table(_)) | None => ValueKind::Table,
     }
 }
 
@@ -289,8 +289,8 @@ fn judge_moments(walk: &mut Walk<'_>, roster: &Roster) -> Result<(), Memory> {
 fn version_of(places: &Places) -> Version {
     match places.child(Places::TOP, FormatKey::Version.text()) {
         Some(place) => match places.content(place) {
-            Some(Content::Whole(2)) => Version::Two,
-            Some(Content::Whole(3)) => Version::Three,
+            Some(NodeContent::Whole(2)) => Version::Two,
+            Some(NodeContent::Whole(3)) => Version::Three,
             _ => Version::One,
         },
         None => Version::One,

@@ -42,6 +42,6 @@ escaped text = flat_map escaped_char (chars text)
 abbrev pub is_markup : ℕ → Bool
 is_markup b = (b == 60 || b == 62) || (b == 34 || b == 39)
 
--- markup of the page itself, which stands as it is. It is kept closed, so that texts are told apart by their pieces, and not by bytes.
+-- Markup of the page itself, which stands as it is. It is kept closed, so that proofs compare texts by their pieces, and not by bytes.
 unfoldable pub markup : List ℕ → List ℕ
 markup words = words

@@ -23,7 +23,7 @@ in_unit length unit name = decimal (length / unit) ++ part_words (length % unit)
 abbrev pub and_more : ℕ → List ℕ → List ℕ
 and_more count name = if nat_eq count 0 then [] else codes " " ++ decimal count ++ name
 
--- the seconds beyond whole minutes, behind others; a length is told in microseconds
+-- the seconds beyond whole minutes, behind others; a length is a number of microseconds
 abbrev pub and_seconds : ℕ → List ℕ
 and_seconds length = if nat_eq length 0 then [] else codes " " ++ in_unit length 1000000 (codes "s")
 

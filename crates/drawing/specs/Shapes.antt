@@ -20,7 +20,7 @@ unfoldable pub svg_opening : List ℕ → ℕ → ℕ → List ℕ
 svg_opening class width height =
     codes "<svg class=\"plot " ++ class ++ codes "\" viewBox=\"0 0 " ++ decimal width ++ codes " " ++ decimal height ++ codes "\" preserveAspectRatio=\"none\" role=\"img\">"
 
--- a plot begins, so wide and so high, with what a screen reader tells of it
+-- a plot begins, so wide and so high, with the words that a screen reader reads out
 unfoldable pub plot_opening : List ℕ → ℕ → ℕ → List ℕ → List ℕ → List ℕ
 plot_opening class width height title description =
     svg_opening class width height ++ codes "<title>" ++ escaped title ++ codes "</title><desc>" ++ escaped description ++ codes "</desc>"

@@ -32,7 +32,7 @@ pub fn close_figure(text: &mut String) -> Result<(), AllocError>
     text.push_str("</section>\n")
 }
 
-/// Begins a plot that is so wide and so high, in the units of the data, and tells a screen reader what
+/// Begins a plot that is so wide and so high, in the units of the data, and says for screen readers what
 /// it shows.
 #[tactic(auto, unfolding(crate::specs::Shapes::plot_opening))]
 pub fn open_plot(

@@ -20,7 +20,7 @@ is_message what.Pull = true
 is_message what.Reconnect = true
 is_message _ = false
 
--- a row's that tells what a member believes
+-- a row's that says what a member believes
 abbrev pub is_told : What → Bool
 is_told what.Joined = true
 is_told what.Fail = true

@@ -30,11 +30,11 @@ pub struct Timer {
 /// A row of the trace.
 #[derive(Clone, Copy, Debug)]
 pub struct Noted {
-    /// What it tells of.
+    /// What it records.
     pub what: What,
     /// The member that it is about, where it is about one.
     pub about: Option<MemberId>,
-    /// A number whose meaning depends on what it tells of, as an incarnation number.
+    /// A number whose meaning depends on what it records, as an incarnation number.
     pub value: u64,
 }
 

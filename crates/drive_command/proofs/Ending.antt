@@ -158,7 +158,7 @@ module _ {M : Type 0} (contents : M → Option (List ℕ)) (s : Setup) (release 
         subst (λ (lines : List (List ℕ)). DriveEnds Refused s release start end making drive lines told_now failure) (sym same)
         (subst (λ (bytes : List ℕ). DriveEnds Refused s release start end making drive gave bytes failure) (sym same_too) (left e failure is leaves refused))
 
-    -- it was done, but the end couldn't be told
+    -- it was done, but the end couldn't be sent
     pub drive_untold : (gave_now : List (List ℕ)) (told_now : List ℕ) → gave_now ≡ gave → (failure : Failure)
         → (failure ≡ Drive stopped.Closed) ⊎ (failure ≡ Run fault.Memory) → WritesAll contents s drive.file.now release gave told first last
         → DriveEnds Refused s release start end making drive gave_now told_now failure

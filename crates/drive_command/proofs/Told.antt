@@ -1,4 +1,4 @@
--- How what came of a drive is told.
+-- How the outcome of a drive is reported.
 use Rattle.std.proofs.Common.{◌≡◌, ◌⊎◌, Result, Ok, Err, OnOk, OnErr, IfErr, refl, subst, inl, inr}
 use Rattle.base.specs.declared.fault.Fault.TheVariants as fault
 use Rattle.command_line.specs.declared.answers.DriveStop.TheVariants as stopped
@@ -8,13 +8,13 @@ use Rattle.drive_world.specs.declared.ends.DriveError.{DriveError}
 use Rattle.drive_world.specs.declared.ends.DriveError.TheVariants as error
 use Rattle.drive_command.specs.Ends.{EndsBy, IsToldBy}
 
--- a harness that can't be told the end
+-- a harness to which the end can't be sent
 pub end_untold : (e : DriveError) (failure : Failure) → (e ≡ error.Closed) ⊎ (e ≡ error.Fault fault.Memory) → IsToldBy e failure
     → (failure ≡ Drive stopped.Closed) ⊎ (failure ≡ Run fault.Memory)
 end_untold e failure (inl is) told = inl (subst (λ x. IsToldBy x failure) is told)
 end_untold e failure (inr is) told = inr (subst (λ x. IsToldBy x failure) is told)
 
--- what is told as done was done
+-- what is reported as done was done
 pub told_done : {T U E F P Q R : Type 0} (told : Result T E) (outcome : Result U F) → OnOk told (OnOk outcome P) → OnErr outcome (OnOk told ⊥) → OnOk outcome Q → (P → Q → R) → OnOk told R
 told_done (Err e) outcome ended was done then = tt
 told_done (Ok x) (Ok y) ended was done then = then ended done

@@ -1,4 +1,4 @@
--- How the end of a drive is told.
+-- How the end of a drive is reported.
 use Rattle.std.specs.Prelude.{◌≡◌, ◌⊎◌, ℕ, List, Option, Some, None, Result, Ok, Err, string_bytes}
 use Rattle.base.specs.declared.fault.Fault.TheVariants as fault
 use Rattle.command_line.specs.declared.answers.AnswerFault.{AnswerFault}
@@ -23,19 +23,19 @@ cause_of (stop.Answer none.Action) = Some answer.Action
 cause_of (stop.Answer none.Member) = Some answer.Member
 cause_of (stop.Answer none.Memory) = None
 
--- an answer that is none is told by its place, its cause and the line of its event
+-- an answer that is none is reported by its place, its cause and the line of its event
 abbrev pub TellsAnswer : ℕ → Stop → List ℕ → DriveStop → Type 0
 TellsAnswer place stop event (stopped.Answer told cause text) = (told ≡ place) × (cause_of stop ≡ Some cause) × (string_bytes text ≡ event)
 TellsAnswer place stop event stopped.Closed = ⊥
 
--- The failure that an error is told by; where memory is refused for the line of an event, by that.
+-- The failure that reports an error; where memory is refused for the line of an event, the one that says that.
 abbrev pub IsToldBy : DriveError → Failure → Type 0
 IsToldBy (error.Stopped place stop event) failure =
     ((it : DriveStop) × (failure ≡ Drive it) × TellsAnswer place stop event.items it) ⊎ (failure ≡ Run fault.Memory)
 IsToldBy error.Closed failure = failure ≡ Drive stopped.Closed
 IsToldBy (error.Fault cause) failure = failure ≡ Run cause
 
--- the failure of a drive that ended so; where it was done, only its end couldn't be told
+-- the failure of a drive that ended so; where it was done, only its end couldn't be sent
 abbrev pub EndsBy : Result Unit DriveError → Failure → Type 0
 EndsBy (Ok _) failure = (failure ≡ Drive stopped.Closed) ⊎ (failure ≡ Run fault.Memory)
 EndsBy (Err e) failure = IsToldBy e failure

@@ -1,8 +1,8 @@
--- What a harness behind two pipes was told, and which lines it gave.
+-- What a harness behind two pipes was sent, and which lines it gave.
 use Rattle.std.specs.Prelude.{ℕ, List, flat_map}
 use Rattle.drive_command.specs.declared.pipe_harness.PipeHarness.{PipeHarness}
 
--- all that it was told, in order
+-- all that it was sent, in order
 abbrev pub text_told : {E : Type 0} → PipeHarness E → List ℕ
 text_told harness = flat_map (λ (chunk : List ℕ). chunk) harness.told
 

@@ -1,4 +1,4 @@
--- What a drive has done once it ends, in the files as far as they tell, and why one was not done.
+-- What a drive has done once it ends, in the files as far as they are known, and why one was not done.
 use Rattle.std.specs.Prelude.{◌≡◌, ◌≢◌, ◌⊎◌, ◌++◌, ℕ, List, [], Option, Some, None, Ok, IfSome, false, string_bytes}
 use Rattle.base.specs.declared.fault.Fault.{Fault}
 use Rattle.base.specs.declared.fault.Fault.TheVariants as fault
@@ -52,7 +52,7 @@ abbrev pub AreApart : Making → DriveWords → Type 0
 AreApart making drive = AreDifferent making drive.file.now drive.trace.now (word_given drive.report) (word_given drive.page)
 
 -- The files hold the trace of a drive of the scenario to its end by these lines of the harness, and the report on it and its page where they
--- are asked for, all of the same rows. The harness was told of these events. No other file has changed.
+-- are asked for, all of the same rows. The drive's events have these lines. No other file has changed.
 pub record StoresDrive (s : Setup) (release : List ℕ) (before after : Shelf) (drive : DriveWords) (came_in : List (List ℕ)) (lines : List ℕ) : Type 0 where
   pub rows : List Row
   pub driven : DrivesTo s came_in lines rows
@@ -61,7 +61,7 @@ pub record StoresDrive (s : Setup) (release : List ℕ) (before after : Shelf) (
   pub paged : IfSome (word_given drive.page) (λ name. HoldsPage drive.file.now release s rows (before name) (after name))
   pub others : KeepsOthers before after drive
 
--- the drive of a scenario was done by this release, and the harness was told the end behind all events
+-- the drive of a scenario was done by this release, and the harness was sent the end behind all events
 pub record DrivesScenario (s : Setup) (release : List ℕ) (before after : Shelf) (making : Making) (drive : DriveWords) (came_in : List (List ℕ)) (told : List ℕ) : Type 0 where
   pub apart : AreApart making drive
   pub lines : List ℕ
@@ -96,11 +96,11 @@ pub record StopsDrive (s : Setup) (before after : Shelf) (drive : DriveWords) (c
   pub tells : cause_of why ≡ Some cause
   pub left : LeavesRows (StopsAt s place why event came_in told) s before after drive
 
--- how far it comes where the harness can't be told: these lines are those that it should have been told
+-- how far it comes where nothing can be sent to the harness: these lines are those that should have been sent
 abbrev pub ComesUntold : Setup → List (List ℕ) → List Row → Type 0
 ComesUntold s came_in rows = (lines : List ℕ) × (DrivesUpTo s came_in lines rows ⊎ DrivesToBy s came_in lines rows)
 
--- the same where the harness couldn't be told any more; where no answer is missing, those of all events
+-- the same where nothing more could be sent to the harness; where no answer is missing, the rows are those of all events
 abbrev pub LosesHarness : Setup → Shelf → Shelf → DriveWords → List (List ℕ) → Type 0
 LosesHarness s before after drive came_in = LeavesRows (ComesUntold s came_in) s before after drive
 
@@ -137,7 +137,7 @@ IsUnmade making file trace report page name = ((name ≡ trace) × CannotMake ma
     ⊎ (((report ≡ Some name) × CannotMakeSecond making file trace name)
     ⊎ ((page ≡ Some name) × CannotMakePage making file trace report name))
 
--- why a drive of this scenario was not done; where its trace, its report and its page are whole, only the end couldn't be told
+-- why a drive of this scenario was not done; where its trace, its report and its page are whole, only the end couldn't be sent
 abbrev pub DriveEnds : Type 0 → Setup → List ℕ → Shelf → Shelf → Making → DriveWords → List (List ℕ) → List ℕ → Failure → Type 0
 DriveEnds Refused s release before after making drive came_in told (File name) =
     IsUnmade making drive.file.now drive.trace.now (word_given drive.report) (word_given drive.page) name.now × (after ≡ before)

@@ -19,11 +19,11 @@ use scenario_files::load;
 use std::alloc::Global;
 
 /// Plays the world of the scenario of one file for a harness, and writes its trace, its report and its page to others,
-/// which are made once the scenario is accepted. The page tells the release. Once they are whole the harness is told
+/// which are made once the scenario is accepted. The page shows the release. Once they are whole the harness is sent
 /// the end.
 ///
-/// Failures: those of `load`; `File` of a file that can't be made; `Drive` where an answer is none, or the harness can't be
-/// told any more; `Run`; `Memory`.
+/// Failures: those of `load`; `File` of a file that can't be made; `Drive` where an answer is none, or nothing more can be
+/// sent to the harness; `Run`; `Memory`.
 pub fn drive<'a, H: Harness, F: Files>(
     alloc: Global,
     release: &Release<'_>,
@@ -95,7 +95,7 @@ fn setting_of<'s>(scenario: &'s Scenario, links: &'s Links) -> Setting<'s>
     }
 }
 
-/// Tells the harness the end of a drive that was done, and says how a drive ended.
+/// Sends the harness the end of a drive that was done, and returns how the drive ended.
 fn told<H: Harness>(
     alloc: Global,
     scenario: &Scenario,

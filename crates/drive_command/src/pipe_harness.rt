@@ -10,15 +10,15 @@ use std::alloc::Global;
 #[derive(Drop)]
 pub struct PipeHarness<E: Drop> {
     pipes: Pipes<E>,
-    /// What it is told, until it is sent.
+    /// The lines that it is to get, until they are sent.
     telling: Vec<u8>,
-    /// What it was told, and the lines that it gave: contracts alone see them.
+    /// What it was sent, and the lines that it gave: contracts alone see them.
     told: Chunks,
     gave: Chunks,
 }
 
 impl<E: Ends + Drop> PipeHarness<E> {
-    /// One that was told nothing yet.
+    /// One that was sent nothing yet.
     pub fn new(alloc: Global, ends: E) -> Self
         ensures untold { text_told result ≡ [] }
         ensures ungiven { lines_given result ≡ [] }
@@ -64,7 +64,7 @@ impl<E: Ends + Drop> Harness for PipeHarness<E> {
     }
 }
 
-/// Why a harness can't be told what couldn't be sent.
+/// Why a harness doesn't get what couldn't be sent.
 fn unsent(sent: Result<(), SendError>) -> Result<(), Untold> {
     match sent {
         Ok(()) => Ok(()),

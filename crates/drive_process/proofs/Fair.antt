@@ -21,8 +21,8 @@ use Rattle.drive_events.specs.declared.content.Content.TheVariants.{Start, Crash
 use Rattle.drive_answers.specs.declared.action.Action.{Action}
 use Rattle.drive_answers.specs.declared.action.Action.TheVariants as action
 use Rattle.drive_answers.specs.declared.action.Send as declared
-use Rattle.drive_process.specs.declared.process.Phase.{Phase}
-use Rattle.drive_process.specs.declared.process.Phase.TheVariants.{Waiting, Up, Down}
+use Rattle.drive_process.specs.declared.process.ProcessPhase.{ProcessPhase}
+use Rattle.drive_process.specs.declared.process.ProcessPhase.TheVariants.{Waiting, Up, Down}
 use Rattle.drive_process.specs.Process.{Process, Effect, unchanged, on_process, with_row, with_number, with_event}
 use Rattle.drive_process.specs.Acts.{Way, packet, call, stream, kept, way_of, arrival_by, sent_off, carried, message_of, sent, acted, all_acted}
 use Rattle.drive_process.specs.Answers.{IsSoundAction, AreSoundActions, AreSoundAnswers}
@@ -130,7 +130,7 @@ module _ (s : Setup) (sound : IsSound s) (k : Key) (n : ℕ) where
   fair_all [] o are fair = fair
   fair_all (a ∷ rest) o are fair = fair_all rest (acted s k a o) are.1 (fair_acted a o are.0 fair)
 
-  fair_heeded : (content : Content) (phase : Phase) (actions : List Action) (o : Effect) → AreSoundActions s k.to actions → IsWellMade s k n o → IsWellMade s k n (heeded s k content phase actions o)
+  fair_heeded : (content : Content) (phase : ProcessPhase) (actions : List Action) (o : Effect) → AreSoundActions s k.to actions → IsWellMade s k n o → IsWellMade s k n (heeded s k content phase actions o)
   unfolding heeded
   fair_heeded Start Waiting actions o are fair = fair_all actions _ are (fair_row what.Start None 0 false _ (fair_process _ o refl fair))
   fair_heeded Crash Up actions o are fair = fair_row what.Crash None 0 false _ (fair_process _ o refl fair)

@@ -7,8 +7,8 @@ use Rattle.member.specs.declared.step_error.StepError.{StepError}
 use Rattle.drive_events.specs.declared.content.Content.{Content}
 use Rattle.drive_events.specs.declared.content.Content.TheVariants.{Start, Crash, Leave, Timer, Message}
 use Rattle.drive_answers.specs.declared.action.Action.{Action}
-use Rattle.drive_process.specs.declared.effects.Effects.{Effects}
-use Rattle.drive_process.specs.declared.process.Phase.TheVariants.{Down}
+use Rattle.drive_process.specs.declared.effects.ProcessEffects.{ProcessEffects}
+use Rattle.drive_process.specs.declared.process.ProcessPhase.TheVariants.{Down}
 use Rattle.drive_process.specs.declared.process.Process.{Process as Held}
 use Rattle.drive_process.specs.Process.{Effect}
 use Rattle.drive_process.specs.ProcessOf.{effect_of}
@@ -27,5 +27,5 @@ no_error : (e : StepError) → IsErrOf {T = Unit {0}} (Ok tt) e → ⊥
 no_error e is = cc
 
 -- a part that leaves all as it was makes a change that leaves it so
-pub nothing_made : (p : Held) (effects : Effects) (change : Effect → Effect) → change (effect_of p effects) ≡ effect_of p effects → Makes (Ok tt) p effects p effects change
+pub nothing_made : (p : Held) (effects : ProcessEffects) (change : Effect → Effect) → change (effect_of p effects) ≡ effect_of p effects → Makes (Ok tt) p effects p effects change
 nothing_made p effects change same = record { ok = sym same; overflow = λ is. absurd (no_error _ is) }

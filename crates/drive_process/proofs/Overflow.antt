@@ -9,7 +9,7 @@ use Rattle.member.specs.declared.step_error.StepError.TheVariants.{CounterOverfl
 use Rattle.drive_events.specs.declared.content.Content.{Content}
 use Rattle.drive_answers.specs.declared.action.Action.{Action}
 use Rattle.drive_answers.specs.declared.action.Action.TheVariants as action
-use Rattle.drive_process.specs.declared.effects.Effects.{Effects}
+use Rattle.drive_process.specs.declared.effects.ProcessEffects.{ProcessEffects}
 use Rattle.drive_process.specs.declared.process.Process.{Process as Held}
 use Rattle.drive_process.specs.Process.{Effect, with_row, with_number, with_event}
 use Rattle.drive_process.specs.ProcessOf.{effect_of}
@@ -17,7 +17,7 @@ use Rattle.drive_process.specs.Acts.{posted, message_of, carried, sent, acted, a
 use Rattle.drive_process.specs.Makes.{IsOverflowed, Makes}
 
 -- a part whose refusal is handed on: what it brings past the limit the whole brings past it
-pub refused : {old new : Held} {before after : Effects} {change : Effect → Effect} (r : Result (Unit {0}) StepError) (e : StepError) → IsErrAnd r (λ y. y ≡ e)
+pub refused : {old new : Held} {before after : ProcessEffects} {change : Effect → Effect} (r : Result (Unit {0}) StepError) (e : StepError) → IsErrAnd r (λ y. y ≡ e)
     → (IsErrOf {T = Unit {0}} (Err e) CounterOverflow → IsOverflowed (change (effect_of old before)).state) → Makes r old before new after change
 refused (Ok t) e gives past = absurd gives
 refused (Err y) e gives past = record { ok = tt; overflow = λ is. past (let same : y ≡ CounterOverflow = cc in ap Err (sym gives ∙ same)) }

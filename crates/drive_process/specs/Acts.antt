@@ -46,7 +46,7 @@ abbrev pub sent_off : Setup → Key → ℕ → Content → Option ℕ → Effec
 sent_off s k to content None o = on_process with_number o
 sent_off s k to content (Some at) o = with_event s k at to content o
 
--- a row tells of a message whose arrival is decided
+-- a row records a message whose arrival is decided
 abbrev pub posted : Setup → Key → What → ℕ → ℕ → Content → Option ℕ → Effect → Effect
 posted s k tells to value content arrival o = sent_off s k to content arrival (with_row k tells (Some to) value (is_none arrival) o)
 

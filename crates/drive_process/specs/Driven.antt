@@ -10,17 +10,17 @@ use Rattle.member.specs.Opening.{numbers, script_key}
 use Rattle.drive_events.specs.declared.content.Content.{Content}
 use Rattle.drive_events.specs.declared.content.Content.TheVariants.{Start, Crash, Leave, Timer, Message}
 use Rattle.drive_answers.specs.declared.action.Action.{Action}
-use Rattle.drive_process.specs.declared.process.Phase.{Phase}
-use Rattle.drive_process.specs.declared.process.Phase.TheVariants.{Waiting, Up, Down}
+use Rattle.drive_process.specs.declared.process.ProcessPhase.{ProcessPhase}
+use Rattle.drive_process.specs.declared.process.ProcessPhase.TheVariants.{Waiting, Up, Down}
 use Rattle.drive_process.specs.Process.{Process, Effect, unchanged, on_process, with_row, opening_process}
 use Rattle.drive_process.specs.Acts.{all_acted}
 
-abbrev pub with_phase : Phase → Process → Process
+abbrev pub with_phase : ProcessPhase → Process → Process
 with_phase phase p = record p { phase = phase }
 
 -- By cases on the event and whether its member runs. The world writes the rows of the script itself. Who crashes is not asked; who
 -- leaves is down after its answer. An event of a member that doesn't run has no effect.
-unfoldable pub heeded : Setup → Key → Content → Phase → List Action → Effect → Effect
+unfoldable pub heeded : Setup → Key → Content → ProcessPhase → List Action → Effect → Effect
 heeded s k Start Waiting actions o = all_acted s k actions (with_row k what.Start None 0 false (on_process (with_phase Up) o))
 heeded s k Crash Up actions o = with_row k what.Crash None 0 false (on_process (with_phase Down) o)
 heeded s k Leave Up actions o = on_process (with_phase Down) (all_acted s k actions (with_row k what.Leave None 0 false o))

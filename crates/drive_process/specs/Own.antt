@@ -9,13 +9,13 @@ use Rattle.member.specs.State.{State}
 use Rattle.member.specs.Step.{step}
 use Rattle.drive_events.specs.declared.content.Content.{Content}
 use Rattle.drive_answers.specs.declared.action.Action.{Action}
-use Rattle.drive_process.specs.declared.process.Phase.{Phase}
-use Rattle.drive_process.specs.declared.process.Phase.TheVariants.{Waiting, Up, Down}
+use Rattle.drive_process.specs.declared.process.ProcessPhase.{ProcessPhase}
+use Rattle.drive_process.specs.declared.process.ProcessPhase.TheVariants.{Waiting, Up, Down}
 use Rattle.drive_process.specs.Process.{Process, unchanged}
 use Rattle.drive_process.specs.Driven.{heeded}
 
 -- who joins runs, as the world sees it
-abbrev pub phase_of : own_phase.Phase → Phase
+abbrev pub phase_of : own_phase.Phase → ProcessPhase
 phase_of own_phases.Waiting = Waiting
 phase_of own_phases.Joining = Up
 phase_of own_phases.Running = Up

@@ -8,11 +8,11 @@ use Rattle.trace.specs.declared.row.What.{What}
 use Rattle.streams.specs.Draw.{Words, member_words}
 use Rattle.member.specs.Opening.{first_number}
 use Rattle.drive_events.specs.declared.content.Content.{Content}
-use Rattle.drive_process.specs.declared.process.Phase.{Phase}
-use Rattle.drive_process.specs.declared.process.Phase.TheVariants.{Waiting}
+use Rattle.drive_process.specs.declared.process.ProcessPhase.{ProcessPhase}
+use Rattle.drive_process.specs.declared.process.ProcessPhase.TheVariants.{Waiting}
 
 pub record Process : Type 0 where
-  pub phase : Phase
+  pub phase : ProcessPhase
   -- the number of the next event that it makes
   pub next_number : ℕ
   -- the words that are left of its stream

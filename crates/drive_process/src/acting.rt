@@ -8,11 +8,11 @@ ghost use Rattle.drive_process.specs.Process.{unchanged};
 ghost use Rattle.drive_process.specs.ProcessOf.{process_of, effect_of};
 ghost use Rattle.drive_process.specs.Makes.{IsOverflowed, Makes};
 ghost use Rattle.drive_events.specs.declared.content.Content.TheVariants as content;
-ghost use Rattle.drive_process.specs.declared.process.Phase.TheVariants as phases;
+ghost use Rattle.drive_process.specs.declared.process.ProcessPhase.TheVariants as phases;
 
-use crate::effects::{Effects, Event};
+use crate::effects::{ProcessEffects, ProcessEvent};
 use crate::here::Here;
-use crate::process::{Phase, Process};
+use crate::process::{Process, ProcessPhase};
 use crate::words::pass_words;
 use base::Moment;
 use drive_answers::{Action, Noted, Timer};
@@ -24,7 +24,7 @@ use std::alloc::Global;
 use trace::What;
 
 /// Handles an event of the member by the actions that were answered, and gives what it makes. The event must be one of the
-/// scenario up to its end, and the actions must name members. Of an event that isn't told the actions don't count.
+/// scenario up to its end, and the actions must name members. Of an event that isn't sent the actions don't count.
 ///
 /// Errors: `Memory`; `CounterOverflow` where the member's number would pass 2^63. The process is then of no use.
 pub fn heed(
@@ -32,9 +32,9 @@ pub fn heed(
     process: &mut Process,
     scenario: &Scenario,
     links: &Links,
-    event: &Event,
+    event: &ProcessEvent,
     actions: Vec<Action>,
-) -> Result<Effects, StepError>
+) -> Result<ProcessEffects, StepError>
     requires setting { IsSoundSetting scenario.now links.now event.now.key }
     requires sound { AreSoundActions scenario.now event.now.key.to actions.items }
     ensures heeds { IfOk result (λ made. effect_of process.new made
@@ -47,7 +47,7 @@ pub fn heed(
         scenario,
         links,
     };
-    let mut effects = Effects {
+    let mut effects = ProcessEffects {
         events: Vec::new(alloc),
         rows: Vec::new(alloc),
     };
@@ -59,7 +59,7 @@ impl Process {
     /// Heeds an event by whether the member runs.
     fn heed_event(
         &mut self,
-        effects: &mut Effects,
+        effects: &mut ProcessEffects,
         here: &Here,
         content: &Content,
         actions: Vec<Action>,
@@ -69,9 +69,9 @@ impl Process {
             (heeded here.now.scenario.now here.now.key content.now self.old.phase actions.items) }
     {
         match self.phase {
-            Phase::Waiting => self.heed_waiting(effects, here, content, actions),
-            Phase::Up => self.heed_up(effects, here, content, actions),
-            Phase::Down => Ok(()),
+            ProcessPhase::Waiting => self.heed_waiting(effects, here, content, actions),
+            ProcessPhase::Up => self.heed_up(effects, here, content, actions),
+            ProcessPhase::Down => Ok(()),
         }
     }
 
@@ -79,7 +79,7 @@ impl Process {
     #[tactic(auto, unfolding(crate::specs::Driven::heeded))]
     fn heed_waiting(
         &mut self,
-        effects: &mut Effects,
+        effects: &mut ProcessEffects,
         here: &Here,
         content: &Content,
         actions: Vec<Action>,
@@ -98,7 +98,7 @@ impl Process {
     #[tactic(auto, unfolding(crate::specs::Driven::heeded))]
     fn heed_up(
         &mut self,
-        effects: &mut Effects,
+        effects: &mut ProcessEffects,
         here: &Here,
         content: &Content,
         actions: Vec<Action>,
@@ -120,7 +120,7 @@ impl Process {
     #[tactic(auto, unfolding(crate::specs::Driven::heeded))]
     fn start(
         &mut self,
-        effects: &mut Effects,
+        effects: &mut ProcessEffects,
         here: &Here,
         actions: Vec<Action>,
     ) -> Result<(), StepError>
@@ -128,18 +128,18 @@ impl Process {
         ensures { Makes result self.old effects.old self.new effects.new
             (heeded here.now.scenario.now here.now.key content.Start phases.Waiting actions.items) }
     {
-        self.phase = Phase::Up;
+        self.phase = ProcessPhase::Up;
         self.write_row(effects, here, What::Start, None, 0, false)?;
         self.act_all(effects, here, actions)
     }
 
     /// Crashes, for good.
     #[tactic(auto, unfolding(crate::specs::Driven::heeded))]
-    fn crash(&mut self, effects: &mut Effects, here: &Here) -> Result<(), StepError>
+    fn crash(&mut self, effects: &mut ProcessEffects, here: &Here) -> Result<(), StepError>
         ensures { Makes result self.old effects.old self.new effects.new
             (heeded here.now.scenario.now here.now.key content.Crash phases.Up []) }
     {
-        self.phase = Phase::Down;
+        self.phase = ProcessPhase::Down;
         self.write_row(effects, here, What::Crash, None, 0, false)
     }
 
@@ -147,7 +147,7 @@ impl Process {
     #[tactic(auto, unfolding(crate::specs::Driven::heeded))]
     fn leave(
         &mut self,
-        effects: &mut Effects,
+        effects: &mut ProcessEffects,
         here: &Here,
         actions: Vec<Action>,
     ) -> Result<(), StepError>
@@ -157,7 +157,7 @@ impl Process {
     {
         self.write_row(effects, here, What::Leave, None, 0, false)?;
         self.act_all(effects, here, actions)?;
-        self.phase = Phase::Down;
+        self.phase = ProcessPhase::Down;
         Ok(())
     }
 
@@ -165,7 +165,7 @@ impl Process {
     #[tactic(auto, unfolding(crate::specs::Acts::all_acted))]
     fn act_all(
         &mut self,
-        effects: &mut Effects,
+        effects: &mut ProcessEffects,
         here: &Here,
         actions: Vec<Action>,
     ) -> Result<(), StepError>
@@ -179,7 +179,12 @@ impl Process {
     }
 
     /// Does one thing.
-    fn act(&mut self, effects: &mut Effects, here: &Here, action: Action) -> Result<(), StepError>
+    fn act(
+        &mut self,
+        effects: &mut ProcessEffects,
+        here: &Here,
+        action: Action,
+    ) -> Result<(), StepError>
         requires { IsSoundAction here.now.scenario.now here.now.key.to action }
         ensures { Makes result self.old effects.old self.new effects.new (acted here.now.scenario.now here.now.key action) }
     {
@@ -195,7 +200,12 @@ impl Process {
     }
 
     /// Writes a row.
-    fn note(&mut self, effects: &mut Effects, here: &Here, noted: Noted) -> Result<(), StepError>
+    fn note(
+        &mut self,
+        effects: &mut ProcessEffects,
+        here: &Here,
+        noted: Noted,
+    ) -> Result<(), StepError>
         ensures { Makes result self.old effects.old self.new effects.new (acted here.now.scenario.now here.now.key (Action.Noted noted)) }
     {
         self.write_row(effects, here, noted.what, noted.about, noted.value, false)
@@ -204,7 +214,7 @@ impl Process {
     /// Sets a timer.
     fn set_timer(
         &mut self,
-        effects: &mut Effects,
+        effects: &mut ProcessEffects,
         here: &Here,
         timer: Timer,
     ) -> Result<(), StepError>

@@ -5,12 +5,12 @@ use trace::Row;
 
 /// An event: its key, and what it asks of its receiver.
 #[derive(Debug, Drop)]
-pub struct Event {
+pub struct ProcessEvent {
     pub key: Key,
     pub content: Content,
 }
 
-impl Keyed for Event {
+impl Keyed for ProcessEvent {
     ghost key = { λ event. event.key };
 
     fn key(&self) -> Key {
@@ -20,7 +20,7 @@ impl Keyed for Event {
 
 /// What an event has made: events, and rows of the trace, each in the order made.
 #[derive(Debug, Drop)]
-pub struct Effects {
-    pub events: Vec<Event>,
+pub struct ProcessEffects {
+    pub events: Vec<ProcessEvent>,
     pub rows: Vec<Row>,
 }

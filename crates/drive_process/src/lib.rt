@@ -10,5 +10,5 @@ mod sending;
 mod words;
 
 pub use acting::heed;
-pub use effects::{Effects, Event};
-pub use process::{Phase, Process};
+pub use effects::{ProcessEffects, ProcessEvent};
+pub use process::{Process, ProcessPhase};

@@ -9,7 +9,7 @@ use streams::Stream;
 
 /// Whether a member runs.
 #[derive(Clone, Copy, Debug, PartialEq, Eq)]
-pub enum Phase {
+pub enum ProcessPhase {
     /// It has not started.
     Waiting,
     /// It has started.
@@ -21,7 +21,7 @@ pub enum Phase {
 /// What the world keeps of a member.
 #[derive(Drop)]
 pub struct Process {
-    pub(crate) phase: Phase,
+    pub(crate) phase: ProcessPhase,
     /// The number of the next event that it makes.
     pub(crate) next_number: u64,
     pub(crate) stream: Stream,
@@ -40,14 +40,14 @@ impl Process {
         ensures { process_of result ≡ opening_process scenario.now member }
     {
         Process {
-            phase: Phase::Waiting,
+            phase: ProcessPhase::Waiting,
             next_number: first_number(scenario, member),
             stream: Stream::of(scenario.seed(), member),
         }
     }
 
     /// Whether it has not started, runs or is down.
-    pub fn phase(&self) -> Phase
+    pub fn phase(&self) -> ProcessPhase
         ensures { result ≡ self.now.phase }
     {
         self.phase

@@ -6,7 +6,7 @@ ghost use Rattle.drive_process.specs.Acts.{stream, way_of, arrival_by, sent_off,
 ghost use Rattle.drive_process.specs.ProcessOf.{process_of, effect_of};
 ghost use Rattle.drive_process.specs.Makes.{IsMember, IsOverflowed, Makes};
 
-use crate::effects::{Effects, Event};
+use crate::effects::{ProcessEffects, ProcessEvent};
 use crate::here::Here;
 use crate::process::Process;
 use base::limits::COUNTER_LIMIT;
@@ -21,7 +21,7 @@ impl Process {
     #[tactic(auto, unfolding(crate::specs::Process::with_row))]
     pub(crate) fn write_row(
         &self,
-        effects: &mut Effects,
+        effects: &mut ProcessEffects,
         here: &Here,
         what: What,
         about: Option<MemberId>,
@@ -68,7 +68,7 @@ impl Process {
     #[tactic(auto, unfolding(crate::specs::Process::with_event))]
     pub(crate) fn make_event(
         &mut self,
-        effects: &mut Effects,
+        effects: &mut ProcessEffects,
         here: &Here,
         at: Moment,
         to: MemberId,
@@ -87,7 +87,7 @@ impl Process {
             from: here.key.to,
             number,
         };
-        effects.events.push(Event { key, content })?;
+        effects.events.push(ProcessEvent { key, content })?;
         self.next_number = number + 1;
         Ok(())
     }
@@ -113,7 +113,7 @@ impl Process {
     /// A message arrives, or is lost.
     fn send_off(
         &mut self,
-        effects: &mut Effects,
+        effects: &mut ProcessEffects,
         here: &Here,
         to: MemberId,
         content: Content,
@@ -128,10 +128,10 @@ impl Process {
         }
     }
 
-    /// Tells of a message, which arrives or is lost.
+    /// Writes the row of a message, which arrives or is lost.
     fn post(
         &mut self,
-        effects: &mut Effects,
+        effects: &mut ProcessEffects,
         here: &Here,
         what: What,
         to: MemberId,
@@ -150,7 +150,7 @@ impl Process {
     #[tactic(auto, unfolding(crate::specs::Acts::sent, crate::specs::Acts::carried))]
     pub(crate) fn send(
         &mut self,
-        effects: &mut Effects,
+        effects: &mut ProcessEffects,
         here: &Here,
         send: Send,
     ) -> Result<(), StepError>

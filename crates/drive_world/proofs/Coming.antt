@@ -12,7 +12,7 @@ use Rattle.drive_world.specs.DriveOf.{drive_of}
 use Rattle.drive_world.specs.Turns.{counted, Turns, HasCome}
 
 module _ (s : Setup) (least_delay : Option ℕ) where
-  -- nothing was told yet
+  -- nothing was sent yet
   pub come_first : (w : Held) (told : List ℕ) (gave : List (List ℕ)) → drive_of w ≡ at_first s → w.rows.items ≡ [] → w.answers ≡ 0 → told ≡ [] → gave ≡ [] → HasCome s least_delay w told gave []
   come_first w told gave first rows none untold ungiven = record {
     course = begun_course s;

@@ -65,7 +65,7 @@ module _ (cmp : Row → Row → Ordering) (order : IsRowOrder cmp) (s : Setup) (
   pauses_under (Stopped place stop event) w told gave written paused = (told, paused.0.before, paused.0.under)
   pauses_under Closed w told gave written paused = (paused.0, paused.1.before, paused.1.under)
 
-  -- where the harness can't be told too
+  -- where nothing can be sent to the harness too
   pub closed_way : (halt : Halt) (w : Held) (told : List ℕ) (gave : List (List ℕ)) (written : List Row) → PausesBy cmp s least_delay halt w told gave written
       → (lines : List ℕ) × (came : List (List ℕ)) × (rows : List Row) × IsUnderWay cmp s least_delay w lines came rows
   closed_way halt w told gave written paused = let under = pauses_under halt w told gave written paused in (under.0, under.1, written, under.2)
@@ -76,7 +76,7 @@ module _ (cmp : Row → Row → Ordering) (order : IsRowOrder cmp) (s : Setup) (
   rests_stopped (Stopped p t e) place stop event is w told gave written paused = paused
   rests_stopped Closed place stop event is w told gave written paused = absurd (let no : Closed ≡ Stopped place stop event = is in cc)
 
-  -- where the harness can't be told it rests once it went on
+  -- where nothing can be sent to the harness it rests once it went on
   pub rests_closed : (halt : Halt) → halt ≡ Closed → (w v : Held) (r : Result (Unit {0}) Fault)
       → ((told : List ℕ) (gave : List (List ℕ)) (written : List Row) → IsUnderWay cmp s least_delay w told gave written → OnOk r ((lines : List ℕ) × IsUnderWay cmp s least_delay v lines gave written))
       → OnOk r (IsOver s.end (world_of v) ⊎ NoneMay s least_delay (drive_of v)) → (told : List ℕ) (gave : List (List ℕ)) (written : List Row) → PausesBy cmp s least_delay halt w told gave written

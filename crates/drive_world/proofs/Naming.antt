@@ -15,8 +15,8 @@ use Rattle.drive_events.specs.declared.content.Content.{Content}
 use Rattle.drive_events.specs.declared.content.Content.TheVariants.{Start, Crash, Leave, Timer, Message}
 use Rattle.drive_answers.specs.declared.action.Action.{Action}
 use Rattle.drive_answers.specs.declared.action.Action.TheVariants as action
-use Rattle.drive_process.specs.declared.process.Phase.{Phase}
-use Rattle.drive_process.specs.declared.process.Phase.TheVariants.{Waiting, Up, Down}
+use Rattle.drive_process.specs.declared.process.ProcessPhase.{ProcessPhase}
+use Rattle.drive_process.specs.declared.process.ProcessPhase.TheVariants.{Waiting, Up, Down}
 use Rattle.drive_process.specs.Process.{Process, Effect, unchanged, with_row, with_event}
 use Rattle.drive_process.specs.Acts.{sent_off, carried, message_of, sent, acted, all_acted}
 use Rattle.drive_process.specs.Answers.{IsSoundAction, AreSoundActions}
@@ -52,7 +52,7 @@ module _ (s : Setup) (k : Key) (receiver : k.to < member_count s) (sender : k.fr
   named_all [] o are all = all
   named_all (a ∷ rest) o are all = named_all rest (acted s k a o) are.1 (named_acted a o are.0 all)
 
-  named_heeded : (content : Content) (phase : Phase) (actions : List Action) (o : Effect) → AreSoundActions s k.to actions → AllNamed o → AllNamed (heeded s k content phase actions o)
+  named_heeded : (content : Content) (phase : ProcessPhase) (actions : List Action) (o : Effect) → AreSoundActions s k.to actions → AllNamed o → AllNamed (heeded s k content phase actions o)
   unfolding heeded
   named_heeded Start Waiting actions o are all = named_all actions _ are (named_row what.Start None 0 false _ tt all)
   named_heeded Crash Up actions o are all = named_row what.Crash None 0 false _ tt all

@@ -1,4 +1,4 @@
--- The first free event before the bound is told next.
+-- The first free event before the bound is sent next.
 use Rattle.std.proofs.Common.{◌≡◌, ◌≢◌, ℕ, Bool, true, false, ◌||◌, nat_eq, List, [], ◌∷◌, Option, ◌∙◌, sym, subst, refl, arith}
 use Rattle.std.specs.List.{AllByRecursion}
 use Rattle.std.proofs.lemmas.Bool.{false≢true, eqb-true, eq-eqb}
@@ -33,7 +33,7 @@ none_for m [] free = refl
 none_for m (q ∷ keys) free = both_false (nat_eq q.to m) (has_one_for m keys) (unlike q.to m (nat_eq q.to m) refl free.0) (none_for m keys free.1)
 
 module _ (s : Setup) (least_delay : Option ℕ) (d : Drive) (bound : ℕ) (is : IsSafeBound s.end least_delay d.world bound) where
-  -- who may be told is free before the bound
+  -- an event that may be sent is free before the bound
   free_before : (q : Key) → MayBeTold s least_delay d q → IsFreeBelow bound d.world.pending d.waiting q
   free_before q may = record {
     here = may.safe.first.here;

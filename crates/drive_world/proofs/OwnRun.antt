@@ -25,8 +25,8 @@ use Rattle.member_laws.specs.Runs.{Cluster, IsRunOf, IsReached}
 use Rattle.member_laws.proofs.Opened.{opening_numbered}
 use Rattle.drive_events.specs.declared.content.Content.{Content}
 use Rattle.drive_events.specs.declared.content.Content.TheVariants as content
-use Rattle.drive_process.specs.declared.process.Phase.{Phase}
-use Rattle.drive_process.specs.declared.process.Phase.TheVariants.{Waiting, Up, Down}
+use Rattle.drive_process.specs.declared.process.ProcessPhase.{ProcessPhase}
+use Rattle.drive_process.specs.declared.process.ProcessPhase.TheVariants.{Waiting, Up, Down}
 use Rattle.drive_process.specs.Acts.{all_acted}
 use Rattle.drive_process.specs.Answers.{AreSoundAnswers}
 use Rattle.drive_process.specs.Driven.{Answers, driven, heeded, opening, script_of, ending}
@@ -39,7 +39,7 @@ use Rattle.drive_world.proofs.Alike.{IsLike, AreLike, like_removed, like_without
 -- ---- nothing is done
 
 -- an event that isn't of the script, and is answered by nothing, changes nothing
-quiet : (s : Setup) (k : Key) (d : Content) (phase : Phase) (o : Effect) → is_script_content d ≡ false → heeded s k d phase [] o ≡ o
+quiet : (s : Setup) (k : Key) (d : Content) (phase : ProcessPhase) (o : Effect) → is_script_content d ≡ false → heeded s k d phase [] o ≡ o
 unfolding heeded all_acted
 quiet s k content.Start phase o is = absurd (false≢true (sym is))
 quiet s k content.Crash phase o is = absurd (false≢true (sym is))

@@ -12,7 +12,7 @@ use Rattle.base.specs.Order.{key_cmp, key_total}
 use Rattle.base.specs.World.{with_events}
 use Rattle.base.proofs.Trees.{found, get-entries, none_before}
 use Rattle.drive_events.specs.declared.content.Content.{Content}
-use Rattle.drive_process.specs.declared.effects.Event.{Event}
+use Rattle.drive_process.specs.declared.effects.ProcessEvent.{ProcessEvent}
 use Rattle.drive_process.specs.ProcessOf.{pair_of}
 use Rattle.worker_queue.specs.Queue.{IsLeastKey}
 
@@ -20,7 +20,7 @@ pub least_of : (es : List (Key × Content)) (k : Key) (content : Content) → fo
 least_of es k content here least = record { here = ap is_some (get-entries key_total es k ∙ here); least = none_before key_total es k least }
 
 -- one event more of a list
-pub one_pushed : (old now after : FinMap key_cmp Content) (all items rest : List Event) (e : Event) → with_events old (map pair_of all) ≡ with_events now (map pair_of items) → items ≡ e ∷ rest
+pub one_pushed : (old now after : FinMap key_cmp Content) (all items rest : List ProcessEvent) (e : ProcessEvent) → with_events old (map pair_of all) ≡ with_events now (map pair_of items) → items ≡ e ∷ rest
     → after ≡ insert now e.key e.content → with_events old (map pair_of all) ≡ with_events after (map pair_of rest)
 one_pushed old now after all items rest e same left made =
     same ∙ ap (λ l. with_events now (map pair_of l)) left ∙ ap (λ m. with_events m (map pair_of rest)) (sym made)

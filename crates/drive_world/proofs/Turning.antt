@@ -117,7 +117,7 @@ module _ (s : Setup) (least_delay : Option ℕ) (k : Key) (content : Content) (o
     };
   }
 
--- a line that was told before changes nothing else
+-- a line that was sent before changes nothing else
 pub from_begun : (s : Setup) (k : Key) (content : Content) (actions : List Action) (old mid new : Held) → mid ≡ record old { begun = true } → Settles s k content actions mid new → Settles s k content actions old new
 from_begun s k content actions old mid new same settles =
     let there = subst (λ m. Settles s k content actions m new) same settles in record { world = there.world; rows = there.rows }
@@ -131,7 +131,7 @@ pub popped_rest : (popped : Option Key) (old rest new : List Key) (k : Key) → 
 popped_rest None old rest new k first one none = let no : [] ≡ k ∷ rest = sym none ∙ first in cc
 popped_rest (Some q) old rest new k first one none = let both : q ∷ new ≡ k ∷ rest = sym one ∙ first in cc
 
--- ---- where an event up to the end pends, and none waits, one may be told
+-- ---- where an event up to the end pends, and none waits, one may be sent
 
 positive : (s : Setup) (d : ℕ) → IsSound s → IsLeastDelay s (Some d) → 0 < d
 positive s d sound least =
@@ -156,7 +156,7 @@ never_stuck s least_delay w k sound is least in_time nobody none =
       free = subst (AllByRecursion (λ (q : Key). q.to ≢ k.to)) (sym nobody) tt;
     })
 
--- the member of the least of all events has one that waits, where none may be told
+-- the member of the least of all events has one that waits, where none may be sent
 pub first_waits : (s : Setup) (least_delay : Option ℕ) (w : Held) (k : Key) → IsSound s → IsLeastDelay s least_delay → IsLeastKey (events_in w.pending) k → k.at ≤ s.end → NoneMay s least_delay (drive_of w)
     → has_one_for k.to w.waiting.keys.items ≡ true
 first_waits s least_delay w k sound is least in_time none = either (has_one_for k.to w.waiting.keys.items) refl

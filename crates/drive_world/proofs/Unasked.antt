@@ -8,15 +8,15 @@ use Rattle.scenario.specs.Setup.{Setup}
 use Rattle.drive_events.specs.declared.content.Content.{Content}
 use Rattle.drive_events.specs.declared.content.Content.TheVariants.{Start, Crash, Leave, Timer, Message}
 use Rattle.drive_answers.specs.declared.action.Action.{Action}
-use Rattle.drive_process.specs.declared.process.Phase.{Phase}
-use Rattle.drive_process.specs.declared.process.Phase.TheVariants.{Waiting, Up, Down}
+use Rattle.drive_process.specs.declared.process.ProcessPhase.{ProcessPhase}
+use Rattle.drive_process.specs.declared.process.ProcessPhase.TheVariants.{Waiting, Up, Down}
 use Rattle.drive_process.specs.Process.{Process, Effect, unchanged}
 use Rattle.drive_process.specs.Driven.{Answers, heeded, driven}
 use Rattle.drive_world.specs.declared.fate.Fate.TheVariants.{Asked}
 use Rattle.drive_world.specs.Telling.{fate_at, fate_by, fate_of}
 use Rattle.drive_world.specs.Courses.{outcome_by}
 
-unasked : (s : Setup) (k : Key) (content : Content) (phase : Phase) (actions : List Action) (o : Effect) → fate_at content phase ≢ Asked
+unasked : (s : Setup) (k : Key) (content : Content) (phase : ProcessPhase) (actions : List Action) (o : Effect) → fate_at content phase ≢ Asked
     → heeded s k content phase [] o ≡ heeded s k content phase actions o
 unfolding heeded
 unasked s k Start Waiting actions o other = absurd (other refl)

@@ -1,4 +1,4 @@
--- The course of a drive: what is told, which answers are taken, and which rows come of it, move by move.
+-- The course of a drive: what is sent, which answers are taken, and which rows come of it, move by move.
 use Rattle.std.specs.Prelude.{◌≡◌, ◌⊎◌, ◌||◌, ℕ, Bool, true, false, not, List, [], ◌∷◌, ◌++◌, Option, Some, if◌then◌else◌}
 use Rattle.std.specs.Option.{option_map}
 use Rattle.std.specs.FinMap.{get}
@@ -20,7 +20,7 @@ use Rattle.drive_world.specs.Telling.{Drive, fate_of, IsNext, NoneMay}
 abbrev pub outcome_by : Setup → List Action → World Process Content → Key → Content → Option (Outcome Process Content Row)
 outcome_by s actions w k content = option_map (λ p. heeded s k content p.phase actions (unchanged p)) (get w.members k.to)
 
--- what a move leaves, tells, takes and writes
+-- what a move leaves, sends, takes and writes
 pub record Move : Type 0 where
   pub after : Drive
   -- the lines that are written
@@ -44,7 +44,7 @@ ask s d k content = record {
   over = [];
 }
 
--- An event is over at once. Where it is told a line is written.
+-- An event is over at once. Where it is sent a line is written.
 abbrev pub pass : Setup → Drive → Key → Content → Bool → Move
 pass s d k content tells =
     let outcome = outcome_by s [] d.world k content in
@@ -83,7 +83,7 @@ pub record Tells (s : Setup) (least_delay : Option ℕ) (d : Drive) (m : Move) :
   pub here : get d.world.pending key ≡ Some content
   pub move : m ≡ move_by (fate_of d.world key content) s d key content
 
--- where none may be told, the first that waits takes the next answer
+-- where none may be sent, the first that waits takes the next answer
 pub record Takes (s : Setup) (least_delay : Option ℕ) (d : Drive) (m : Move) : Type 0 where
   pub none : NoneMay s least_delay d
   pub key : Key
@@ -99,11 +99,11 @@ pub record Takes (s : Setup) (least_delay : Option ℕ) (d : Drive) (m : Move) :
 abbrev pub Moves : Setup → Option ℕ → Drive → Move → Type 0
 Moves s least_delay d m = Tells s least_delay d m ⊎ Takes s least_delay d m
 
--- before anything is told
+-- before anything is sent
 abbrev pub at_first : Setup → Drive
 at_first s = record { world = opening s; waiting = []; begun = false }
 
--- what a course of moves told, took and wrote so far, in the order made
+-- what a course of moves sent, took and wrote so far, in the order made
 pub record Course : Type 0 where
   pub last : Drive
   pub lines : List ℕ

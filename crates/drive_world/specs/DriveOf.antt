@@ -9,7 +9,7 @@ use Rattle.links.specs.Arrival.{AreLinksOf}
 use Rattle.windows.specs.Cluster.{IsLeastDelay}
 use Rattle.drive_events.specs.declared.content.Content.{Content}
 use Rattle.drive_answers.specs.declared.action.Action.{Action}
-use Rattle.drive_process.specs.declared.effects.Effects.{Effects}
+use Rattle.drive_process.specs.declared.effects.ProcessEffects.{ProcessEffects}
 use Rattle.drive_process.specs.Process.{Process}
 use Rattle.drive_process.specs.ProcessOf.{pair_of}
 use Rattle.drive_world.specs.declared.setting.Setting.{Setting}
@@ -48,7 +48,7 @@ pub record Settles (s : Setup) (k : Key) (content : Content) (actions : List Act
   pub rows : new.rows.items ≡ old.rows.items ++ rows_of (outcome_by s actions (world_of old) k content)
 
 -- What an event has made pends, and its rows are the last ones.
-abbrev pub Adds : Option Effects → Held → Held → Type 0
+abbrev pub Adds : Option ProcessEffects → Held → Held → Type 0
 Adds None old new = (events_in new.pending ≡ events_in old.pending) × (new.rows.items ≡ old.rows.items)
 Adds (Some effects) old new =
     (events_in new.pending ≡ with_events (events_in old.pending) (map pair_of effects.events.items)) × (new.rows.items ≡ old.rows.items ++ effects.rows.items)

@@ -33,7 +33,7 @@ TakesBeginning s first held = (rows : List Row) × BeginsDrive s rows × Appends
 abbrev pub DrivesToBy : Setup → List (List ℕ) → List ℕ → List Row → Type 0
 DrivesToBy s came_in lines rows = (answers behind : List (List ℕ)) × (came_in ≡ answers ++ behind) × DrivesTo s answers lines rows
 
--- Where an answer is none, the harness was told all lines. Where it can't be told any more, as many as it could be.
+-- Where an answer is none, the harness was sent all lines. Where nothing more can be sent, as many as could be.
 abbrev pub StopsBy : Setup → Halt → List (List ℕ) → List ℕ → Option (List ℕ) → Option (List ℕ) → Type 0
 StopsBy s (Stopped place stop event) came_in told first held = (rows : List Row) × StopsAt s place stop event.items came_in told rows × Appends first held (trace_text s rows)
 StopsBy s Closed came_in told first held =
@@ -75,7 +75,7 @@ pub record IsPaused (cmp : Row → Row → Ordering) (s : Setup) (least_delay : 
   pub under : IsUnderWay cmp s least_delay w told before written
   pub read : gave ≡ before ++ behind
 
--- an event waits for an answer that is none, or the harness can't be told
+-- an event waits for an answer that is none, or nothing can be sent to the harness
 abbrev pub PausesBy : (Row → Row → Ordering) → Setup → Option ℕ → Halt → Held → List ℕ → List (List ℕ) → List Row → Type 0
 PausesBy cmp s least_delay (Stopped place stop event) w told gave written =
     (paused : IsPaused cmp s least_delay w told gave written) × NoneMay s least_delay (drive_of w) × GoesOn s.end w
@@ -87,7 +87,7 @@ abbrev pub PausesAt : (Row → Row → Ordering) → Setup → Option ℕ → Op
 PausesAt cmp s least_delay None w told gave written = IsUnderWay cmp s least_delay w told gave written × IsOver s.end (world_of w)
 PausesAt cmp s least_delay (Some halt) w told gave written = PausesBy cmp s least_delay halt w told gave written
 
--- An answer is needed, or nothing is left: where the harness can't be told, as if it were.
+-- An answer is needed, or nothing is left: where nothing can be sent to the harness, as if it could be.
 abbrev pub RestsBy : (Row → Row → Ordering) → Setup → Option ℕ → Halt → Held → List ℕ → List (List ℕ) → List Row → Type 0
 RestsBy cmp s least_delay (Stopped place stop event) w told gave written =
     (paused : IsPaused cmp s least_delay w told gave written) × NoneMay s least_delay (drive_of w) × GoesOn s.end w

@@ -1,4 +1,4 @@
--- How a drive halts where it is no fault: an answer is none, or the harness can't be told any more.
+-- How a drive halts where it is no fault: an answer is none, or nothing more can be sent to the harness.
 use Rattle.std.specs.Prelude.{◌≡◌, ◌⊎◌, ◌++◌, ◌∷◌, [], ℕ, nat_eq, length, List, Option, Some, None}
 use Rattle.std.specs.FinMap.{get}
 use Rattle.base.specs.declared.key.Key.{Key}
@@ -18,7 +18,7 @@ use Rattle.drive_world.specs.declared.harness.NoLine.TheVariants as none
 use Rattle.drive_events.specs.declared.content.Content.{Content}
 use Rattle.drive_events.specs.Line.{line_of}
 
--- None may be told, and the first that waits has no answer: nothing has changed but what came in.
+-- None may be sent, and the first that waits has no answer: nothing has changed but what came in.
 pub record IsHalted (s : Setup) (least_delay : Option ℕ) (before after : Held) (told_old told_new : List ℕ) (gave_old gave_new : List (List ℕ)) : Type 0 where
   pub none : NoneMay s least_delay (drive_of before)
   pub same : after ≡ before
@@ -26,7 +26,7 @@ pub record IsHalted (s : Setup) (least_delay : Option ℕ) (before after : Held)
   pub behind : List (List ℕ)
   pub gave : gave_new ≡ gave_old ++ behind
 
--- Where the harness can't be told any more, the move is made as if it had been told these lines.
+-- Where nothing more can be sent to the harness, the move is made as if these lines had been sent.
 abbrev pub HaltsBy : Setup → Option ℕ → Halt → Held → Held → List ℕ → List ℕ → List (List ℕ) → List (List ℕ) → Type 0
 HaltsBy s least_delay (Stopped place stop event) before after told_old told_new gave_old gave_new =
     (halted : IsHalted s least_delay before after told_old told_new gave_old gave_new)

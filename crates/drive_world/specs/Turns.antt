@@ -18,7 +18,7 @@ use Rattle.drive_world.specs.DriveOf.{drive_of, world_of, IsPeopled}
 abbrev pub counted : ℕ → ℕ
 counted n = min n (2 ^ 64 - 1)
 
--- The world, what the harness was told and what it gave, before and after it.
+-- The world, what the harness was sent and what it gave, before and after it.
 pub record Comes (m : Move) (before after : Held) (told_old told_new : List ℕ) (gave_old gave_new : List (List ℕ)) : Type 0 where
   pub drive : drive_of after ≡ m.after
   pub lines : told_new ≡ told_old ++ m.lines
@@ -48,7 +48,7 @@ pub record IsOnWay (s : Setup) (w : Held) : Type 0 where
   pub places : length w.waiting.busy.items ≡ member_count s
   pub waits : AllByRecursion (Waits s.end (world_of w)) w.waiting.keys.items
 
--- What a drive has come to: a course leads to the world, the harness was told its lines and gave its answers, and its rows are those
+-- What a drive has come to: a course leads to the world, the harness was sent its lines and gave its answers, and its rows are those
 -- that were handed on and those that are left.
 pub record HasCome (s : Setup) (least_delay : Option ℕ) (w : Held) (told : List ℕ) (gave : List (List ℕ)) (written : List Row) : Type 0 where
   pub course : Course

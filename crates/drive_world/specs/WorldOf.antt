@@ -9,8 +9,8 @@ use Rattle.scenario.specs.Setup.{Setup}
 use Rattle.trace.specs.declared.row.Row.{Row}
 use Rattle.drive_events.specs.declared.content.Content.{Content}
 use Rattle.drive_answers.specs.declared.action.Action.{Action}
-use Rattle.drive_process.specs.declared.effects.Effects.{Effects}
-use Rattle.drive_process.specs.declared.effects.Event.{Event}
+use Rattle.drive_process.specs.declared.effects.ProcessEffects.{ProcessEffects}
+use Rattle.drive_process.specs.declared.effects.ProcessEvent.{ProcessEvent}
 use Rattle.drive_process.specs.declared.process.Process.{Process as Held}
 use Rattle.drive_process.specs.Process.{Process, unchanged}
 use Rattle.drive_process.specs.ProcessOf.{process_of, pair_of}
@@ -34,19 +34,19 @@ abbrev pub events_in : Pending → FinMap key_cmp Content
 events_in pending = from_entries pending.contents.entries
 
 -- what an event has made, but for the process after it
-abbrev pub made_by : Effects → Process → Outcome Process Content Row
+abbrev pub made_by : ProcessEffects → Process → Outcome Process Content Row
 made_by effects p = record { state = p; events = map pair_of effects.events.items; rows = effects.rows.items }
 
 -- what an event comes to among members, by these actions
-abbrev pub heeded_by : Setup → Event → List Action → FinMap nat_cmp Process → Option (Outcome Process Content Row)
+abbrev pub heeded_by : Setup → ProcessEvent → List Action → FinMap nat_cmp Process → Option (Outcome Process Content Row)
 heeded_by s event actions members = option_map (λ p. heeded s event.key event.content p.phase actions (unchanged p)) (get members event.key.to)
 
 -- The receiver of an event heeds it by these actions; an event for nobody changes nothing.
-pub record HeedsOne (s : Setup) (event : Event) (actions : List Action) (before after : FinMap nat_cmp Process) (effects : Effects) : Type 0 where
+pub record HeedsOne (s : Setup) (event : ProcessEvent) (actions : List Action) (before after : FinMap nat_cmp Process) (effects : ProcessEffects) : Type 0 where
   pub process : Process
   pub made : heeded_by s event actions before ≡ Some (made_by effects process)
   pub others : after ≡ insert before event.key.to process
 
-abbrev pub Heeds : Setup → Event → List Action → FinMap nat_cmp Process → FinMap nat_cmp Process → Option Effects → Type 0
+abbrev pub Heeds : Setup → ProcessEvent → List Action → FinMap nat_cmp Process → FinMap nat_cmp Process → Option ProcessEffects → Type 0
 Heeds s event actions before after None = (heeded_by s event actions before ≡ None) × (after ≡ before)
 Heeds s event actions before after (Some effects) = HeedsOne s event actions before after effects

@@ -26,10 +26,10 @@ use scenario::Scenario;
 use std::alloc::Global;
 use trace::Row;
 
-/// Drives the world of a scenario to its end: the harness is told of each event, and its answers say what comes of them. The
+/// Drives the world of a scenario to its end: the harness is sent the events, and its answers say what comes of them. The
 /// place takes the trace: its rows are handed on as soon as no event before them is left. It gives what was tallied of them.
 ///
-/// Errors: `Stopped` where an answer is none; `Closed` where the harness can't be told: the place has then got the rows
+/// Errors: `Stopped` where an answer is none; `Closed` where nothing can be sent to the harness: the place has then got the rows
 /// of all events before the first that was to be answered and wasn't. A fault: `Memory`; `CounterOverflow` where a number
 /// of a member, of the turns or of the report would pass its limit; `Write` where the place failed.
 pub fn drive<H: Harness, T: RowSink<P>, P>(
@@ -100,7 +100,7 @@ fn play<H: Harness, T: RowSink<P>, P>(
     Err(Fault::CounterOverflow)
 }
 
-/// Writes to a harness that the end of the scenario is reached. `Closed` where it can't be told.
+/// Writes to a harness that the end of the scenario is reached. `Closed` where that can't be sent.
 pub fn write_end<H: Harness>(
     alloc: Global,
     scenario: &Scenario,
@@ -122,7 +122,7 @@ pub fn write_end<H: Harness>(
     }
 }
 
-/// How a drive ends where the harness can't be told its end.
+/// How a drive ends where its end can't be sent to the harness.
 fn cannot_tell(untold: Untold) -> DriveError
     ensures { (result ≡ error.Closed) ⊎ (result ≡ error.Fault fault.Memory) }
 {

@@ -78,7 +78,7 @@ fn hand_on_last<T: RowSink<P>, P>(
     }
 }
 
-/// Where the harness can't be told, goes on as if it were.
+/// Where nothing can be sent to the harness, goes on as if it could be.
 ///
 /// Faults: as of `go_on_untold`.
 fn come_to_rest(
@@ -101,7 +101,7 @@ fn come_to_rest(
     }
 }
 
-/// Goes on as if the harness were told, until an answer is needed or no event up to the end is left.
+/// Goes on as if the harness were sent its lines, until an answer is needed or no event up to the end is left.
 ///
 /// Faults: `Memory`; `CounterOverflow` where a number of a member or of the turns would pass its limit.
 fn go_on_untold(alloc: Global, world: &mut World, setting: &Setting) -> Result<(), Fault>

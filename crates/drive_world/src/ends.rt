@@ -28,7 +28,7 @@ pub enum DriveError {
         stop: Stop,
         event: Vec<u8>,
     },
-    /// The harness can't be told any more.
+    /// Nothing more can be sent to the harness.
     Closed,
     /// A fault, as of a run.
     Fault(Fault),
@@ -43,7 +43,7 @@ pub(crate) enum Halt {
         stop: Stop,
         event: Vec<u8>,
     },
-    /// The harness can't be told any more.
+    /// Nothing more can be sent to the harness.
     Closed,
 }
 

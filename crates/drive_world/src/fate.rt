@@ -3,10 +3,10 @@
 /// What becomes of an event that may be sent.
 #[derive(Clone, Copy, Debug, PartialEq, Eq)]
 pub enum Fate {
-    /// It is over at once, and nobody is told.
+    /// It is over at once, and isn't sent.
     Untold,
-    /// It is told, and over at once.
+    /// It is sent, and over at once.
     Told,
-    /// It is told, and waits for its answer.
+    /// It is sent, and waits for its answer.
     Asked,
 }

@@ -1,4 +1,4 @@
-//! Rows are parted by their events, and handed on in their order.
+//! Rows are split into those of the events before one and the others, and handed on in their order.
 ghost use Rattle.std.specs.Prelude.{◌≡◌, ◌++◌, ◌∷◌, [], ◌+◌, ◌<◌, ◌≤◌, ◌^◌, ℕ, List, Option, IfOk, OnOk, OnErr, All};
 ghost use Rattle.trace.specs.Text.{NamesMembers};
 ghost use Rattle.run_output.specs.Written.{sink_failures};

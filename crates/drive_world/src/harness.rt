@@ -17,26 +17,26 @@ pub enum NoLine {
     Long,
     /// Its text ended before the line feed, or can't be read.
     Ended,
-    /// Nobody takes what it was told before.
+    /// Nobody takes what it was sent before.
     Closed,
     /// Memory was refused.
     Memory,
 }
 
-/// A harness that takes lines without waiting for itself: while it is told, it takes no answer that wasn't asked.
+/// A harness that takes lines without waiting for itself. Sending lines takes no answer from it.
 pub trait Harness {
-    // the bytes that it was told
+    // the bytes that it was sent
     ghost told: { Self → List ℕ };
 
     // the lines that it gave
     ghost gave: { Self → List (List ℕ) };
 
-    /// Tells it lines: they may be gathered before they go out.
+    /// Sends it lines: they may be gathered before they go out.
     fn tell(&mut self, lines: &[u8]) -> Result<(), Untold>
         ensures told { OnOk result (told self.new ≡ told self.old ++ lines.now) }
         ensures gave { gave self.new ≡ gave self.old };
 
-    /// Has all that it was told go out.
+    /// Has all lines go out that were gathered.
     fn flush(&mut self) -> Result<(), Untold>
         ensures told { told self.new ≡ told self.old }
         ensures gave { gave self.new ≡ gave self.old };

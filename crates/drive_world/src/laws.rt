@@ -37,7 +37,7 @@ pub fn a_drive_writes_the_run()
         → (keys : List Key) × SequentialRun (driven s answers) s.end (opening s) keys sorted }
 {}
 
-/// What is told, which answer is taken and what comes of it doesn't depend on when answers come: from each state of a drive
+/// What is sent, which answer is taken and what comes of it doesn't depend on when answers come: from each state of a drive
 /// there is one way on, but for the answer.
 pub fn the_course_is_one()
     ensures { (s : Setup) (least_delay : Option ℕ) (c : Course) (m n : Move) → IsCourse s least_delay c

@@ -14,12 +14,12 @@ use crate::waiting::Waiting;
 use crate::world::{FEW, World};
 use base::{Key, MemberId, Memory, Moment};
 use drive_events::Content;
-use drive_process::Event;
+use drive_process::ProcessEvent;
 use scenario::Scenario;
 use std::alloc::Global;
 
 impl World {
-    /// The world of a scenario before anything is told.
+    /// The world of a scenario before anything is sent.
     pub(crate) fn open(alloc: Global, scenario: &Scenario) -> Result<Self, Memory>
         ensures drive { IfOk result (λ world. drive_of world ≡ at_first scenario.now) }
         ensures rows { IfOk result (λ world. world.rows.items ≡ []) }
@@ -71,7 +71,7 @@ fn push_ending(
 }
 
 /// An event of the script: its receiver is its sender.
-fn script_event(member: MemberId, at: Moment, number: u64, content: Content) -> Event
+fn script_event(member: MemberId, at: Moment, number: u64, content: Content) -> ProcessEvent
     ensures key { result.key ≡ script_key member at number }
     ensures content { result.content ≡ content }
 {
@@ -81,5 +81,5 @@ fn script_event(member: MemberId, at: Moment, number: u64, content: Content) -> 
         from: member,
         number,
     };
-    Event { key, content }
+    ProcessEvent { key, content }
 }

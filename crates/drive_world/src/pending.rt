@@ -11,7 +11,7 @@ ghost use Rattle.drive_world.specs.Next.{IsFirstFree, IsFreeBelow};
 use crate::waiting::Waiting;
 use base::{Key, Memory, Moment};
 use drive_events::Content;
-use drive_process::Event;
+use drive_process::ProcessEvent;
 use std::alloc::Global;
 use std::collections::BTreeMap;
 
@@ -32,10 +32,10 @@ impl Pending {
     }
 
     /// One more event pends.
-    pub(crate) fn push(&mut self, event: Event) -> Result<(), Memory>
+    pub(crate) fn push(&mut self, event: ProcessEvent) -> Result<(), Memory>
         ensures { OnOk result (events_in self.new ≡ insert (events_in self.old) event.key event.content) }
     {
-        let Event { key, content } = event;
+        let ProcessEvent { key, content } = event;
         match self.contents.insert(key, content) {
             Ok(_) => Ok(()),
             Err(_) => Err(Memory),
@@ -43,7 +43,7 @@ impl Pending {
     }
 
     /// These events pend too.
-    pub(crate) fn push_all(&mut self, events: Vec<Event>) -> Result<(), Memory>
+    pub(crate) fn push_all(&mut self, events: Vec<ProcessEvent>) -> Result<(), Memory>
         ensures { OnOk result (events_in self.new ≡ with_events (events_in self.old) (map pair_of events.items)) }
     {
         for event in events {

@@ -9,7 +9,7 @@ ghost use Rattle.drive_world.specs.WorldOf.{members_of, Heeds};
 
 use base::{MemberId, Memory};
 use drive_answers::Action;
-use drive_process::{Effects, Event, Phase, Process, heed};
+use drive_process::{Process, ProcessEffects, ProcessEvent, ProcessPhase, heed};
 use links::Links;
 use member::StepError;
 use scenario::Scenario;
@@ -34,7 +34,7 @@ impl Processes {
     }
 
     /// Whether a member has started, runs or is down: `None` where it is none of the scenario.
-    pub(crate) fn phase(&self, member: &MemberId) -> Option<Phase>
+    pub(crate) fn phase(&self, member: &MemberId) -> Option<ProcessPhase>
         ensures { result ≡ option_map (λ p. p.phase) (get (members_of self.now) member.now) }
     {
         let place = member.index();
@@ -51,9 +51,9 @@ impl Processes {
         alloc: Global,
         scenario: &Scenario,
         links: &Links,
-        event: &Event,
+        event: &ProcessEvent,
         actions: Vec<Action>,
-    ) -> Result<Option<Effects>, StepError>
+    ) -> Result<Option<ProcessEffects>, StepError>
         requires setting { IsSoundSetting scenario.now links.now event.now.key }
         requires sound { AreSoundActions scenario.now event.now.key.to actions.items }
         ensures { IfOk result (λ effects. Heeds scenario.now event.now actions.items (members_of self.old) (members_of self.new) effects) }

@@ -25,7 +25,7 @@ use member::StepError;
 use scenario::Scenario;
 use std::alloc::Global;
 
-/// Tells the next event, or where none may be told, takes the next answer: `Some` where the drive halts.
+/// Gives the next event its fate, or where none may be sent, takes the next answer: `Some` where the drive halts.
 pub(crate) fn turn<H: Harness>(
     alloc: Global,
     world: &mut World,
@@ -46,7 +46,7 @@ pub(crate) fn turn<H: Harness>(
     }
 }
 
-/// The next event has its fate, and the harness is told where somebody is.
+/// Gives the next event its fate, and sends the harness its line, where it has one.
 fn tell<H: Harness>(
     alloc: Global,
     world: &mut World,
@@ -72,7 +72,7 @@ fn tell<H: Harness>(
     }
 }
 
-/// The next event has its fate. Gives the line that tells of it: no bytes where nobody is told.
+/// Gives the next event its fate. Returns the line that is to be sent: no bytes where there is none.
 pub(crate) fn advance(
     alloc: Global,
     world: &mut World,
@@ -109,7 +109,7 @@ pub(crate) fn advance(
     }
 }
 
-/// The line that tells of an event that pends.
+/// The line for the harness of an event that pends.
 fn line_of(
     alloc: Global,
     pending: &Pending,
@@ -203,7 +203,7 @@ fn no_answer(
     }
 }
 
-/// How a drive halts whose answer at this place is none. The first event that is told is the first that is answered.
+/// How a drive halts whose answer at this place is none. The first event that is sent is the first that is answered.
 fn stopped(
     alloc: Global,
     world: &World,

@@ -20,7 +20,7 @@ use crate::waiting::Waiting;
 use base::{Key, Memory, Moment};
 use drive_answers::Action;
 use drive_events::Content;
-use drive_process::{Effects, Event, Phase};
+use drive_process::{ProcessEffects, ProcessEvent, ProcessPhase};
 use member::StepError;
 use std::alloc::Global;
 use std::mem::replace;
@@ -39,14 +39,14 @@ pub(crate) struct World {
     pub(crate) rows: Vec<Row>,
     /// Of so many rows those that can be are handed on.
     pub(crate) enough: usize,
-    /// Whether a line was told.
+    /// Whether a line was sent.
     pub(crate) begun: bool,
     /// How many answers were taken.
     pub(crate) answers: u64,
 }
 
 impl World {
-    /// What becomes of an event that pends, if it may be told: `None` where none has the key.
+    /// What becomes of an event that pends, if it may be sent: `None` where none has the key.
     pub(crate) fn fate(&self, key: &Key) -> Option<Fate>
         ensures fate { IfSome result (HasFate self.now key.now) }
         ensures none { IfNone result (get (events_in self.now.pending) key.now ≡ None) }
@@ -127,7 +127,7 @@ impl World {
         let Some(content) = self.pending.take(key) else {
             return Ok(());
         };
-        let event = Event { key: *key, content };
+        let event = ProcessEvent { key: *key, content };
         let made = self
             .processes
             .heed(alloc, setting.scenario, setting.links, &event, actions)?;
@@ -135,7 +135,7 @@ impl World {
     }
 
     /// What an event has made pends, and its rows are kept.
-    fn add(&mut self, made: Option<Effects>) -> Result<(), Memory>
+    fn add(&mut self, made: Option<ProcessEffects>) -> Result<(), Memory>
         ensures added { OnOk result (Adds made self.old self.new) }
         ensures processes { self.new.processes ≡ self.old.processes }
         ensures waiting { self.new.waiting ≡ self.old.waiting }
@@ -145,7 +145,7 @@ impl World {
         let Some(effects) = made else {
             return Ok(());
         };
-        let Effects { events, mut rows } = effects;
+        let ProcessEffects { events, mut rows } = effects;
         self.pending.push_all(events)?;
         self.rows.append(&mut rows)?;
         Ok(())
@@ -153,18 +153,18 @@ impl World {
 }
 
 /// What becomes of an event of a member of this phase.
-fn fate_at(content: &Content, phase: Phase) -> Fate
+fn fate_at(content: &Content, phase: ProcessPhase) -> Fate
     ensures { result ≡ fate_at content.now phase }
 {
     match phase {
-        Phase::Waiting => match content {
+        ProcessPhase::Waiting => match content {
             Content::Start => Fate::Asked,
             _ => Fate::Untold,
         },
-        Phase::Up => match content {
+        ProcessPhase::Up => match content {
             Content::Crash => Fate::Told,
             _ => Fate::Asked,
         },
-        Phase::Down => Fate::Untold,
+        ProcessPhase::Down => Fate::Untold,
     }
 }

@@ -15,7 +15,7 @@ use Rattle.plain_document.specs.Order.{Section, IsOrderedDocument}
 use Rattle.plain_document.specs.declared.document.PlainParts.{PlainParts}
 use Rattle.plain_text.specs.Document.{document_of, expression_of, IsPlainLine}
 use Rattle.plain_text.specs.Lines.{text_of}
-use Rattle.plain_text.specs.declared.line.Line.{Line}
+use Rattle.plain_text.specs.declared.line.PlainLine.{PlainLine}
 use Rattle.written_groups.specs.Groups.{IsExtraIn}
 use Rattle.written_groups.specs.Values.{items_at}
 use Rattle.written_names.specs.Roster.{group_of}
@@ -32,7 +32,7 @@ pub record ArePartsOf (d : Data) (tick : ℕ) (groups : List WrittenGroup) (scri
 pub record IsLaidOut (tick : ℕ) (d : Data) (parts : PlainParts) (text : List ℕ) : Type 0 where
   pub places : Places
   pub sections : List Section
-  pub lines : List Line
+  pub lines : List PlainLine
   pub order : IsOrderedDocument places d sections
   pub plain : AreLinesOf tick d sections parts (map expression_of lines)
   pub whole : text ≡ text_of lines

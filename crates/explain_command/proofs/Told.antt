@@ -1,4 +1,4 @@
--- What was told of a file, or why nothing was.
+-- What was printed of a file, or why nothing was.
 use Rattle.std.proofs.Common.{◌≡◌, ℕ, List, Option, None, Some, sym, subst}
 use Rattle.std.specs.Io.KnownBytes.{Appends}
 use Rattle.files.specs.Files.{KnownFile}
@@ -26,7 +26,7 @@ unread known explain old new (Run cause) h = h
 unread known explain old new (Drive cause) h = h
 unread known explain old new Output h = absurd h
 
--- standard output took less than what was told
+-- standard output took less than the explanation
 pub unprinted : (known : KnownFile) (explain : ExplainWords) (old new : Option (List ℕ)) (failure : Failure)
     → failure ≡ Output → IsExplained known explain → ExplainFails known explain old new failure
 unprinted known explain old new failure is h = subst (ExplainFails known explain old new) (sym is) h

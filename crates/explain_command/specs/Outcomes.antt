@@ -1,4 +1,4 @@
--- What `explain` tells of the scenario of a file, and why it tells nothing.
+-- What `explain` prints of the scenario of a file, and why it prints nothing.
 use Rattle.std.specs.Prelude.{◌≡◌, ℕ, List, Bool, true, false, Option, Some, None, Result, Ok, Err}
 use Rattle.std.specs.Io.KnownBytes.{Appends}
 use Rattle.scenario.specs.Setup.{Setup}
@@ -12,23 +12,23 @@ use Rattle.command_line.specs.declared.failure.Failure.TheVariants.{Mistaken, Ou
 use Rattle.scenario_files.specs.Loading.{HasVerdict}
 use Rattle.scenario_files.specs.Shelves.{IsUnread}
 
--- the text tells the diagnostics of a scenario that is refused by this rule, as a JSON document or in lines
+-- the text has the diagnostics of a scenario that is refused by this rule, as a JSON document or in lines
 abbrev pub TellsDiagnostics : Bool → ℕ → List ℕ → Type 0
 TellsDiagnostics true rule text = TellsDocument rule text
 TellsDiagnostics false rule text = TellsLines rule text
 
--- the text tells what a scenario means that the file of this name says, as a JSON document or in lines
+-- the text says what a scenario means that the file of this name says, as a JSON document or in lines
 abbrev pub TellsSetup : Bool → Setup → List ℕ → List ℕ → Type 0
 TellsSetup true s file text = TellsMeaningDocument s file text
 TellsSetup false s file text = TellsMeaning s (shown_name file) text
 
--- The text tells of a scenario with this verdict: of one that breaks no rule what it means; of another its diagnostics, the
+-- The text explains a scenario with this verdict: of one that breaks no rule what it means; of another its diagnostics, the
 -- least rule among which is the one that it is refused by.
 abbrev pub TellsText : Result Setup ℕ → ExplainWords → Option ℕ → List ℕ → Type 0
 TellsText (Ok s) explain broken text = (broken ≡ None) × TellsSetup explain.json s explain.file.now text
 TellsText (Err rule) explain broken text = (broken ≡ Some rule) × TellsDiagnostics explain.json rule text
 
--- the text tells of the scenario of the file
+-- the text explains the scenario of the file
 abbrev pub TellsOf : KnownFile → ExplainWords → Option ℕ → List ℕ → Type 0
 TellsOf known explain broken text = (answer : Result Setup ℕ) × HasVerdict known answer × TellsText answer explain broken text
 
@@ -36,12 +36,12 @@ TellsOf known explain broken text = (answer : Result Setup ℕ) × HasVerdict kn
 abbrev pub PrintsMeaning : KnownFile → ExplainWords → Option (List ℕ) → Option (List ℕ) → Type 0
 PrintsMeaning known explain old new = (text : List ℕ) × TellsOf known explain None text × Appends old new text
 
--- some text tells of the scenario
+-- some text explains the scenario
 abbrev pub IsExplained : KnownFile → ExplainWords → Type 0
 IsExplained known explain = (broken : Option ℕ) × (text : List ℕ) × TellsOf known explain broken text
 
 -- No scenario's meaning was printed: the text is refused by this rule, and its diagnostics were printed; standard output took
--- less than what is told; or the file was not read.
+-- less than the explanation; or the file was not read.
 abbrev pub ExplainFails : KnownFile → ExplainWords → Option (List ℕ) → Option (List ℕ) → Failure → Type 0
 ExplainFails known explain old new (Mistaken rule) = (text : List ℕ) × TellsOf known explain (Some rule) text × Appends old new text
 ExplainFails known explain old new Output = IsExplained known explain

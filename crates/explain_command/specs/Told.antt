@@ -1,4 +1,4 @@
--- What is told of an accepted scenario.
+-- The explanation of an accepted scenario.
 use Rattle.std.specs.Prelude.{◌≡◌, ◌++◌, List, ℕ, codes, map}
 use Rattle.scenario.specs.Setup.{Setup}
 use Rattle.serde_json.specs.Written.{IsInOrder}

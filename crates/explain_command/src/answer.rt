@@ -23,7 +23,7 @@ pub(crate) struct Explained {
 /// The number of the rule that stands for want of memory.
 const MEMORY_RULE: u8 = 11;
 
-/// What is told of the text that these bytes are.
+/// The explanation of the text that these bytes are.
 pub(crate) fn explained_text(
     alloc: Global,
     words: ExplainWords<'_>,
@@ -38,7 +38,7 @@ pub(crate) fn explained_text(
     }
 }
 
-/// What is told of an accepted text, which says this scenario.
+/// The explanation of an accepted text, which says this scenario.
 fn accepted(
     alloc: Global,
     words: ExplainWords<'_>,
@@ -52,7 +52,7 @@ fn accepted(
     Ok(Explained { text, broken: None })
 }
 
-/// What is told of a text that is refused by this rule.
+/// The explanation of a text that is refused by this rule.
 fn refused(
     alloc: Global,
     words: ExplainWords<'_>,

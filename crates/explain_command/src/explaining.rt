@@ -34,7 +34,7 @@ pub fn explain_file<'a, F: Files, O: Write>(
     }
 }
 
-/// What is told of the scenario of a file.
+/// The explanation of the scenario of a file.
 fn explained<'a, F: Files>(
     alloc: Global,
     words: ExplainWords<'a>,

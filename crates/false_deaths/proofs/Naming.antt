@@ -1,4 +1,4 @@
--- What is told of deaths names members of the cluster.
+-- What is shown of deaths names members of the cluster.
 use Rattle.std.proofs.Common.{◌≡◌, ℕ, zero, suc, ◌+◌, ◌<◌, Bool, true, false, List, [], ◌∷◌, ◌++◌, All, length, Option, Some, None, refl, sym, ap, subst, ◌∙◌, arith, append-nil, append_assoc}
 use Rattle.std.specs.Prelude.{IfSome, filter, flat_map, nat_le, if◌then◌else◌, take, slice_get, slice_index_or}
 use Rattle.std.specs.List.{list_any, last_or}
@@ -85,7 +85,7 @@ cause_is time s death r later refuted heard is_refuted is_heard is_so is =
     ∙ ap (λ n. cause_words time s subject (line_reached r) n (list_any (reaches what.Suspect subject (n + 1)) r.earlier) list last times) is.number
     ∙ sym (ap (λ o. option_map_or (λ who. cause_words time s who (line_reached r) r.row.value (is_later who r) (accusations who r.earlier) (last_refutation who r.earlier) (times_heard who r.earlier)) o []) is.subject)
 
--- a death that is kept can be told of, where its row's names are known
+-- a death that is kept can be shown, where its row's names are known
 pub can_tell : (s : Setup) (slot : Option Death) (r : Option Reached) → IsToldOf slot r → IfSome r (IsNamed s) → IfSome slot (CanTell s)
 can_tell s None r told named = tt
 can_tell s (Some death) (Some r) told named = record { reached = r; is = told; named = named }
@@ -99,7 +99,7 @@ one-told : {X : Type 0} (f : X → List ℕ) (o : Option X) → flat_map f (opti
 one-told f None = refl
 one-told f (Some x) = append-nil (f x)
 
--- what is told of the first so many of a list, and of the next
+-- what is shown of the first so many of a list, and of the next
 pub told_next : {X : Type 0} (f : X → List ℕ) (list : List X) (place : ℕ) (first before after : List ℕ)
     → before ≡ first ++ flat_map f (take place list) → after ≡ before ++ option_map_or f (slice_get list place) []
     → after ≡ first ++ flat_map f (take (place + 1) list)

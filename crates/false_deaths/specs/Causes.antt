@@ -6,8 +6,8 @@ use Rattle.scenario.specs.Setup.{Setup, name_of, member_count}
 use Rattle.trace.specs.Text.{NamesMembers}
 use Rattle.trace.specs.declared.row.What.TheVariants as what
 use Rattle.trace.specs.declared.row.Row.{Row}
-use Rattle.series.specs.declared.lines.Line.{Line}
-use Rattle.series.specs.declared.accusers.Probe.{Probe}
+use Rattle.series.specs.declared.lines.TraceLine.{TraceLine}
+use Rattle.series.specs.declared.accusers.ProbeStory.{ProbeStory}
 use Rattle.series.specs.declared.accusers.Accusation.{Accusation}
 use Rattle.series.specs.declared.answers.Reply.{Reply}
 use Rattle.series.specs.declared.answers.Answers.{Answers}
@@ -63,7 +63,7 @@ abbrev pub answers_told : Option Tick → Bool → Answers → List ℕ
 answers_told time lost a = ack_told time lost a.ack ++ helpers_told a
 
 -- how the ping fared, and what came of the probe, where it is known
-abbrev pub probe_words : Option Tick → Option Probe → Answers → List ℕ
+abbrev pub probe_words : Option Tick → Option ProbeStory → Answers → List ℕ
 probe_words time (Some probe) a = ping_words time probe.ping.at probe.ping.number probe.lost ++ answers_told time probe.lost a
 probe_words time None a = []
 
@@ -71,7 +71,7 @@ probe_words time None a = []
 unfoldable pub claim_of : Option Tick → List ℕ → ℕ → ℕ → List ℕ
 claim_of time name at number = codes "<li>" ++ escaped name ++ codes " accused it at " ++ time_text time at ++ line_words number ++ codes "."
 
-abbrev pub claim_words : Option Tick → Setup → Line → List ℕ
+abbrev pub claim_words : Option Tick → Setup → TraceLine → List ℕ
 claim_words time s claim = claim_of time (name_of s claim.member) claim.at claim.number
 
 -- the same, how its probe fared, and what the accuser was from then on
@@ -99,11 +99,11 @@ unfoldable pub declared_by : List ℕ → ℕ → ℕ → List ℕ
 declared_by name line number =
     codes "<li>" ++ escaped name ++ codes " declared it dead first" ++ line_words line ++ codes ", under incarnation number " ++ grouped number ++ codes "."
 
-abbrev pub declared_words : Setup → Line → ℕ → List ℕ
+abbrev pub declared_words : Setup → TraceLine → ℕ → List ℕ
 declared_words s line number = declared_by (name_of s line.member) line.number number
 
 -- the same, and what that member was
-unfoldable pub declared_item : Option Tick → Setup → Line → ℕ → List ℕ
+unfoldable pub declared_item : Option Tick → Setup → TraceLine → ℕ → List ℕ
 declared_item time s line number = declared_words s line number ++ states time s line.member line.at line.at ++ codes "</li>"
 
 -- what the member itself was from a moment until its death
@@ -139,7 +139,7 @@ unfoldable pub cause_opening : Option Tick → List ℕ → ℕ → List ℕ
 cause_opening time name at = codes "<div class=\"cause\"><h3>" ++ escaped name ++ codes " at " ++ time_text time at ++ codes "</h3><ul>"
 
 -- the death of a member on a line, under a number, after these accusations and its last refutation, of which so many heard
-unfoldable pub cause_words : Option Tick → Setup → ℕ → Line → ℕ → Bool → List Accusation → Option Refutation → ℕ → List ℕ
+unfoldable pub cause_words : Option Tick → Setup → ℕ → TraceLine → ℕ → Bool → List Accusation → Option Refutation → ℕ → List ℕ
 cause_words time s subject line number is_later list refutation heard =
     cause_opening time (name_of s subject) line.at ++ declared_item time s line number ++ own_told time s subject (since_first list line.at) line.at refutation heard
     ++ later_item is_later ++ accusers_told time s list ++ codes "</ul></div>\n"

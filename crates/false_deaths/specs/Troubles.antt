@@ -64,7 +64,7 @@ abbrev pub cut_told : Option Tick → List ℕ → Option Cut → List ℕ
 cut_told time name (Some cut) = cut_sentence time name cut.at cut.until
 cut_told time name None = []
 
--- nothing of all that is told
+-- that the member was well, where it was not slow, not paused and not cut off
 abbrev pub well_told : List ℕ → Option Slow → Option Pause → Option Cut → List ℕ
 well_told name None None None = sentence_opening name (codes " was well.")
 well_told name (Some slow) pause cut = []

@@ -14,11 +14,11 @@ use base::{MemberId, Moment};
 use drawing::{push_escaped, push_grouped, push_timed};
 use member_timelines::by_number;
 use scenario::Scenario;
-use series::{Accusation, Accusers, Answers, Line, Probe};
+use series::{Accusation, Accusers, Answers, ProbeStory, TraceLine};
 use std::alloc::AllocError;
 use ticks::Tick;
 
-/// The most accusers that are told of.
+/// The most accusers that are named.
 const TOLD: usize = 4;
 
 /// Appends the first accusers, and how many more there are.
@@ -99,7 +99,7 @@ fn push_accuser(
 fn push_probe(
     text: &mut String,
     time: Option<Tick>,
-    probe: &Option<Probe>,
+    probe: &Option<ProbeStory>,
     answers: &Answers,
 ) -> Result<(), AllocError>
     ensures { OnOk result (string_bytes text.new ≡ string_bytes text.old ++ probe_words time probe.now answers.now) }
@@ -114,7 +114,7 @@ fn push_probe(
 fn push_fared(
     text: &mut String,
     time: Option<Tick>,
-    probe: &Probe,
+    probe: &ProbeStory,
     answers: &Answers,
 ) -> Result<(), AllocError>
     ensures { OnOk result (string_bytes text.new ≡ string_bytes text.old ++ probe_words time (Some probe.now) answers.now) }
@@ -144,7 +144,7 @@ fn push_claim(
     text: &mut String,
     time: Option<Tick>,
     scenario: &Scenario,
-    claim: &Line,
+    claim: &TraceLine,
 ) -> Result<(), AllocError>
     requires { claim.now.member < member_count scenario.now }
     ensures { OnOk result (string_bytes text.new ≡ string_bytes text.old ++ claim_words time scenario.now claim.now) }

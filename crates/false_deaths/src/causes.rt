@@ -15,7 +15,7 @@ use series::Death;
 use std::alloc::AllocError;
 use ticks::Tick;
 
-/// The most deaths that are told of.
+/// The most deaths that are shown.
 const TOLD: usize = 20;
 
 /// Appends how the first false deaths of the run came about; nothing where there are none.
@@ -66,7 +66,7 @@ fn push_figure(
     Ok(())
 }
 
-/// Appends which deaths are told of.
+/// Appends which deaths are shown.
 #[tactic(auto, unfolding(crate::specs::Causes::intro))]
 fn push_intro(text: &mut String) -> Result<(), AllocError>
     ensures { OnOk result (string_bytes text.new ≡ string_bytes text.old ++ intro) }

@@ -13,7 +13,7 @@ use crate::troubles::push_states;
 use base::{MemberId, Moment};
 use drawing::{push_escaped, push_grouped, push_timed};
 use scenario::Scenario;
-use series::{Accusers, Death, Line, Refutation};
+use series::{Accusers, Death, Refutation, TraceLine};
 use std::alloc::AllocError;
 use ticks::Tick;
 
@@ -60,7 +60,7 @@ fn push_words(
     time: Option<Tick>,
     scenario: &Scenario,
     subject: MemberId,
-    line: &Line,
+    line: &TraceLine,
     number: u64,
     is_later: bool,
     accusers: &Accusers,
@@ -85,7 +85,7 @@ fn push_words(
     Ok(())
 }
 
-/// Begins what is told of the death of a member of that name.
+/// Begins what is shown of the death of a member of that name.
 #[tactic(auto, unfolding(crate::specs::Causes::cause_opening))]
 fn open_cause(text: &mut String, time: Option<Tick>, name: &str, at: u64) -> Result<(), AllocError>
     ensures { OnOk result (string_bytes text.new ≡ string_bytes text.old ++ cause_opening time name.now at) }
@@ -104,7 +104,7 @@ fn push_declared(
     text: &mut String,
     time: Option<Tick>,
     scenario: &Scenario,
-    line: &Line,
+    line: &TraceLine,
     number: u64,
 ) -> Result<(), AllocError>
     requires { line.now.member < member_count scenario.now }

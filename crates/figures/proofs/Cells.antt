@@ -8,7 +8,7 @@ use Rattle.figures.specs.declared.summary.SettingSummary.{SettingSummary}
 use Rattle.figures.specs.Lines.{where_told}
 use Rattle.figures.specs.SettingLines.{padded, cells_aligned, figure_texts, figure_widths}
 
--- the parts of a line, as they were added and as they are told
+-- the parts of a line, as they were added and as the definition has them
 pub parts_joined : {A : Type 0} (keys first revived last : List A) → ((keys ++ first) ++ revived) ++ last ≡ keys ++ (first ++ (revived ++ last))
 parts_joined keys first revived last = simp append_assoc
 

@@ -67,7 +67,7 @@ pub long : (keys : List (List ℕ)) (seed next : List ℕ) (rest more last : Lis
 long keys seed next rest more last =
     omega (arith, length-append (((keys ++ seed ∷ []) ++ next ∷ rest) ++ more) last, length-append ((keys ++ seed ∷ []) ++ next ∷ rest) more, length-append (keys ++ seed ∷ []) (next ∷ rest), length-append keys (seed ∷ []))
 
--- the parts of a line, as they were written and as they are told
+-- the parts of a line, as they were written and as the definition has them
 pub parts_joined : (keys : List (List ℕ)) (seed : List ℕ) (claims revived protocol : List (List ℕ))
     → (((keys ++ seed ∷ []) ++ claims) ++ revived) ++ protocol ≡ keys ++ seed ∷ (claims ++ (revived ++ protocol))
 parts_joined keys seed claims revived protocol = simp append_assoc

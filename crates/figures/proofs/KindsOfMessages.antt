@@ -18,12 +18,12 @@ sums : {X : Type 0} (f g h : X → ℕ) → ((x : X) → f x ≡ g x + h x) → 
 sums f g h same [] = refl
 sums f g h same (x ∷ xs) = omega (arith, sum_by-cons f x xs, sum_by-cons g x xs, sum_by-cons h x xs, same x, sums f g h same xs)
 
--- what is told of no row
+-- without rows the number of messages is 0
 none : (kinds : List What) → sum_by (λ (kind : What). count_of kind []) kinds ≡ 0
 none [] = refl
 none (kind ∷ kinds) = omega (arith, sum_by-cons (λ (kind : What). count_of kind []) kind kinds, none kinds)
 
--- what is told is of one kind of message at most
+-- what a row records is of one kind of message at most
 one_kind : (version : Version) (told : What) → count_by (sameb the_type told) (message_kinds version) ≤ 1
 one_kind One what.Join = lit≤ tt
 one_kind One _ = lit≤ tt

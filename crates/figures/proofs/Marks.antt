@@ -42,7 +42,7 @@ marked test first (mark ∷ marks) same =
     next : (place : ℕ) → first + suc place ≡ (first + 1) + place
     next place = omega arith
 
--- those of whom false confirmations tell are marked among all members, so they are counted
+-- those whom false confirmations are about are marked among all members, so they are counted
 pub all_marked : (s : Setup) (rows : List Row) (before after : List Bool) (claims : List FalsePositive) (count : ℕ)
     → before ≡ replicate (member_count s) false → length after ≡ length before → claims ≡ false_positives_of what.Confirm rows
     → ((member : ℕ) → get_or after member false ≡ (get_or before member false || list_any (is_of member) claims))

@@ -1,4 +1,4 @@
--- What is told of a setting, of what is kept of it.
+-- The summary of a setting, from what is kept of it.
 use Rattle.std.proofs.Common.{◌≡◌, ◌*◌, ◌/◌, ◌==◌, ℕ, List, length, ap, ◌∙◌}
 use Rattle.std.specs.Prelude.{Option, Some, None, if◌then◌else◌}
 use Rattle.std.specs.List.{filter_map}

@@ -18,7 +18,7 @@ use Rattle.csv.specs.Writing.{default_writer, field_text, needs_quotes, quoted}
 use Rattle.csv.specs.Quoting.{needs_byte}
 use Rattle.scenario.specs.Setup.{Setup}
 use Rattle.trace.specs.declared.row.Row.{Row}
-use Rattle.reports.specs.declared.departure.Departure.{Departure}
+use Rattle.reports.specs.declared.departure.DepartureReport.{DepartureReport}
 use Rattle.reports.specs.Departures.{crashes_of, latency_of}
 use Rattle.decimals.specs.Numbers.{IsDecimal}
 use Rattle.sweep_plan.proofs.Words.{Lacks, decimal_lacks, joined_split}
@@ -35,25 +35,25 @@ use Rattle.figures.proofs.SameNotes.{all_joined}
 
 -- ---- a run that was made
 
-times_kept : (f : CrashTimes → Option ℕ) (g : Departure → Option ℕ) → ((crash : Departure) → f (times_of crash) ≡ g crash) → (crashes : List Departure) → filter_map g crashes ≡ filter_map f (map times_of crashes)
+times_kept : (f : CrashTimes → Option ℕ) (g : DepartureReport → Option ℕ) → ((crash : DepartureReport) → f (times_of crash) ≡ g crash) → (crashes : List DepartureReport) → filter_map g crashes ≡ filter_map f (map times_of crashes)
 times_kept f g same [] = refl
 times_kept f g same (crash ∷ crashes) = (λ i. cons_option (sym (same crash) i) (times_kept f g same crashes i))
 
-confirmed_kept : (crash : Departure) → is_confirmed (times_of crash) ≡ is_detected crash
+confirmed_kept : (crash : DepartureReport) → is_confirmed (times_of crash) ≡ is_detected crash
 confirmed_kept crash = by crash.detection.confirm refl
   where
     by : (at : Option ℕ) → crash.detection.confirm ≡ at → is_some (latency_of crash) ≡ is_some crash.detection.confirm
     by None none = cc
     by (Some n) some = cc
 
-counted_kept : (crashes : List Departure) (n : ℕ)
-    → fold (λ (a : ℕ) (crash : Departure). a + cond (is_detected crash) 1 0) n crashes ≡ fold (λ (a : ℕ) (crash : CrashTimes). a + cond (is_confirmed crash) 1 0) n (map times_of crashes)
+counted_kept : (crashes : List DepartureReport) (n : ℕ)
+    → fold (λ (a : ℕ) (crash : DepartureReport). a + cond (is_detected crash) 1 0) n crashes ≡ fold (λ (a : ℕ) (crash : CrashTimes). a + cond (is_confirmed crash) 1 0) n (map times_of crashes)
 counted_kept [] n = refl
 counted_kept (crash ∷ crashes) n =
-    ap (λ b. fold (λ (a : ℕ) (crash : Departure). a + cond (is_detected crash) 1 0) (n + cond b 1 0) crashes) (sym (confirmed_kept crash))
+    ap (λ b. fold (λ (a : ℕ) (crash : DepartureReport). a + cond (is_detected crash) 1 0) (n + cond b 1 0) crashes) (sym (confirmed_kept crash))
     ∙ counted_kept crashes (n + cond (is_confirmed (times_of crash)) 1 0)
 
-found_kept : (crashes : List Departure) → count_by is_detected crashes ≡ count_by is_confirmed (map times_of crashes)
+found_kept : (crashes : List DepartureReport) → count_by is_detected crashes ≡ count_by is_confirmed (map times_of crashes)
 found_kept crashes = counted_kept crashes 0
 
 -- its figures agree with its metadata

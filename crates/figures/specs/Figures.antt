@@ -6,7 +6,7 @@ use Rattle.schema.specs.declared.schema.Version.{Version}
 use Rattle.scenario.specs.Setup.{Setup, member_count}
 use Rattle.trace.specs.declared.row.What.TheVariants as what
 use Rattle.trace.specs.declared.row.Row.{Row}
-use Rattle.reports.specs.declared.departure.Departure.{Departure}
+use Rattle.reports.specs.declared.departure.DepartureReport.{DepartureReport}
 use Rattle.reports.specs.declared.false_positives.FalsePositive.{FalsePositive}
 use Rattle.reports.specs.Rows.{count_of, losses_of, worst_health}
 use Rattle.reports.specs.Departures.{crashes_of, latencies_of}
@@ -17,26 +17,26 @@ use Rattle.reports.specs.Text.{message_kinds}
 use Rattle.figures.specs.declared.run.RunFigures.{RunFigures}
 
 -- how many ticks after a crash the member was first suspected, where it was
-abbrev pub suspected_after : Departure → Option ℕ
+abbrev pub suspected_after : DepartureReport → Option ℕ
 suspected_after crash = option_map (λ at. at - crash.at) crash.detection.suspect
 
 -- how many ticks after a crash it was last confirmed to have failed, where it was
-abbrev pub last_after : Departure → Option ℕ
+abbrev pub last_after : DepartureReport → Option ℕ
 last_after crash = option_map (λ at. at - crash.at) crash.detection.last
 
 -- some member confirmed the crash
-abbrev pub is_detected : Departure → Bool
+abbrev pub is_detected : DepartureReport → Bool
 is_detected crash = is_some crash.detection.confirm
 
 -- the claim is made of the member
 abbrev pub is_of : ℕ → FalsePositive → Bool
 is_of member claim = option_map_or (λ about. about == member) claim.about false
 
--- a member is thrown out: it is confirmed to have failed though it had not departed
+-- a member has a false death: it is confirmed to have failed though it had not departed
 abbrev pub is_thrown_out : List Row → ℕ → Bool
 is_thrown_out rows member = list_any (is_of member) (false_positives_of what.Confirm rows)
 
--- how many members are thrown out
+-- how many members have a false death
 abbrev pub thrown_out : Setup → List Row → ℕ
 thrown_out s rows = count_by (is_thrown_out rows) (range_with_len 0 (member_count s))
 

@@ -5,7 +5,7 @@ use Rattle.figures.specs.declared.setting.SettingFigures.{SettingFigures}
 use Rattle.figures.specs.Notes.{Note}
 use Rattle.figures.specs.Settings.{crashes_in, suspected_in, confirmed_in, last_in, false_suspicions_in, thrown_out_in, revived_in, runs_with, false_deaths_in, death_squares_in, sent_in, member_ticks_in}
 
--- what is kept is what these runs tell
+-- what is kept are the figures of these runs
 pub record AreFiguresOf (setting : SettingFigures) (runs : List Note) : Type 0 where
   pub all : setting.runs ≡ length runs
   pub crashed : setting.crashes ≡ length (crashes_in runs)

@@ -7,7 +7,7 @@ use Rattle.csv.specs.declared.writer.Writer.{Writer}
 use Rattle.trace.specs.Lines.{laid_out}
 use Rattle.figures.specs.declared.run.RunFigures.{RunFigures}
 
--- fields parted by commas, each in quotes where it calls for them
+-- fields separated by commas, each in quotes where it calls for them
 abbrev pub cells_joined : List (List ℕ) → List ℕ
 cells_joined fields = join_with_byte 44 (map (field_text default_writer) fields)
 
@@ -15,7 +15,7 @@ cells_joined fields = join_with_byte 44 (map (field_text default_writer) fields)
 unfoldable pub table_line : List (List ℕ) → List ℕ
 table_line fields = cells_joined fields ++ codes "\n"
 
--- what only some tables tell
+-- a column that only some tables have
 abbrev pub where_told : {A : Type 0} → Bool → List A → List A
 where_told true column = column
 where_told false column = []

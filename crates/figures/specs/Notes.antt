@@ -5,7 +5,7 @@ use Rattle.std.specs.Option.{ForSome}
 use Rattle.scenario.specs.Setup.{Setup, member_count}
 use Rattle.trace.specs.declared.row.What.TheVariants as what
 use Rattle.trace.specs.declared.row.Row.{Row}
-use Rattle.reports.specs.declared.departure.Departure.{Departure}
+use Rattle.reports.specs.declared.departure.DepartureReport.{DepartureReport}
 use Rattle.reports.specs.Departures.{crashes_of, latency_of}
 use Rattle.reports.specs.FalsePositives.{ways_to_depart, false_positives}
 use Rattle.reports.specs.Revivals.{revivals}
@@ -15,8 +15,8 @@ use Rattle.figures.specs.declared.note_words.MetadataFault.{MetadataFault}
 use Rattle.figures.specs.declared.note_words.MetadataFault.TheVariants.{Word, Memory}
 use Rattle.figures.specs.Figures.{suspected_after, last_after, thrown_out, messages_sent}
 
--- How the crashes of a run were detected, in their order; how many suspicions were false positives, how many members were thrown out, how often
--- members were taken for alive again and how many messages were sent; and how long the members last together, in ticks.
+-- How the crashes of a run were detected, in their order; how many suspicions were false positives, how many members had a false death, how
+-- often members were taken for alive again and how many messages were sent; and how long the members last together, in ticks.
 pub record Note : Type 0 where
   pub crashes : List CrashTimes
   pub false_suspect : ℕ
@@ -26,7 +26,7 @@ pub record Note : Type 0 where
   pub member_ticks : ℕ
 
 -- the times until a crash was first suspected, first confirmed and last confirmed, where it was
-abbrev pub times_of : Departure → CrashTimes
+abbrev pub times_of : DepartureReport → CrashTimes
 times_of crash = record { suspected = suspected_after crash; confirmed = latency_of crash; last = last_after crash }
 
 -- what is kept of a run of a scenario that has these rows; each member lasts from moment 0 to the end

@@ -18,7 +18,7 @@ tenths n = decimal (n / 10) ++ codes "." ++ decimal (n % 10)
 abbrev pub hundredths : ℕ → List ℕ
 hundredths n = decimal (n / 100) ++ codes "." ++ decimal (n / 10 % 10) ++ decimal (n % 10)
 
--- the words over the figures, in the order of their columns; only some tables tell of members that were taken for alive again
+-- the words over the figures, in the order of their columns; only some tables have a column of members that were taken for alive again
 abbrev pub first_words : List (List ℕ)
 first_words =
     codes "runs" ∷ codes "suspect_p50" ∷ codes "confirm_p50" ∷ codes "confirm_p99" ∷ codes "confirm_greatest" ∷ codes "last_p50" ∷ codes "last_greatest"
@@ -47,7 +47,7 @@ figure_texts revived setting = first_texts setting ++ (where_told revived (decim
 abbrev pub figure_widths : Bool → List ℕ
 figure_widths revived = map (λ word. max 8 (length word)) (figure_words revived)
 
--- texts in these widths, parted by two spaces
+-- texts in these widths, separated by two spaces
 abbrev pub cells_aligned : List ℕ → List (List ℕ) → List ℕ
 cells_aligned (width ∷ widths) (text ∷ texts) = padded width text ++ flat_map (λ cell. codes "  " ++ padded cell.0 cell.1) (zip widths texts)
 cells_aligned _ _ = []

@@ -40,7 +40,7 @@ percentile percent time crashes = at_rank (rank percent (length crashes)) (filte
 abbrev pub false_suspicions_in : List Note → ℕ
 false_suspicions_in runs = sum_by (λ run. run.false_suspect) runs
 
--- how many members were thrown out, each counted in each run
+-- how many members had a false death, each counted in each run
 abbrev pub thrown_out_in : List Note → ℕ
 thrown_out_in runs = sum_by (λ run. run.thrown_out) runs
 
@@ -48,7 +48,7 @@ thrown_out_in runs = sum_by (λ run. run.thrown_out) runs
 abbrev pub revived_in : List Note → ℕ
 revived_in runs = sum_by (λ run. run.revived) runs
 
--- in how many runs members were thrown out
+-- in how many runs members had a false death
 abbrev pub runs_with : List Note → ℕ
 runs_with runs = count_by (λ run. not (run.thrown_out == 0)) runs
 

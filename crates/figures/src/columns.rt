@@ -24,7 +24,7 @@ const FIRST_WORDS: [&str; 9] = [
 /// The widths of their columns, in bytes.
 const FIRST_WIDTHS: [usize; 9] = [8, 11, 11, 11, 16, 8, 13, 13, 10];
 
-/// The width of the column of those that were taken for alive again, where it is told.
+/// The width of the column of those that were taken for alive again, where there is one.
 const REVIVED_WIDTH: usize = 8;
 
 /// The words over the last figures.
@@ -34,7 +34,7 @@ const LAST_WORDS: [&str; 4] = ["runs_with", "share_low", "share_high", "messages
 const LAST_WIDTHS: [usize; 4] = [9, 9, 10, 8];
 
 /// Adds the header of the lines of settings to a text: the keys that are set, each in a column of its
-/// width in bytes, and the words over the figures, among them `revived` where the lines tell of it.
+/// width in bytes, and the words over the figures, among them `revived` where the lines have that column.
 pub fn push_setting_header(
     alloc: Global,
     text: &mut String,
@@ -84,7 +84,7 @@ fn push_texts(alloc: Global, texts: &mut Vec<String>, more: &[&str]) -> Result<(
     Ok(())
 }
 
-/// Adds the word over those that were taken for alive again to those of a line, where it is told.
+/// Adds the word over those that were taken for alive again to those of a line, where the line has that column.
 fn push_revived_word(
     alloc: Global,
     texts: &mut Vec<String>,
@@ -98,7 +98,7 @@ fn push_revived_word(
     Ok(())
 }
 
-/// Adds how often that was to the texts of a line, where it is told.
+/// Adds how often that was to the texts of a line, where the line has that column.
 fn push_revived(
     alloc: Global,
     texts: &mut Vec<String>,
@@ -176,7 +176,7 @@ fn push_widths(widths: &mut Vec<usize>, revived: bool) -> Result<(), AllocError>
     Ok(())
 }
 
-/// Adds the width of the column of those that were taken for alive again, where it is told.
+/// Adds the width of the column of those that were taken for alive again, where there is one.
 fn push_revived_width(widths: &mut Vec<usize>, revived: bool) -> Result<(), AllocError>
     ensures { OnOk result (widths.new.items ≡ widths.old.items ++ where_told revived (8 ∷ [])) }
 {
@@ -186,7 +186,7 @@ fn push_revived_width(widths: &mut Vec<usize>, revived: bool) -> Result<(), Allo
     Ok(())
 }
 
-/// Adds texts in these widths, parted by two spaces.
+/// Adds texts in these widths, separated by two spaces.
 fn push_cells(text: &mut String, widths: &[usize], texts: &[String]) -> Result<(), AllocError>
     requires { length widths.now ≡ length texts.now }
     ensures { OnOk result (string_bytes text.new ≡ string_bytes text.old ++ cells_aligned widths.now (map string_bytes texts.now)) }

@@ -6,7 +6,7 @@ ghost use Rattle.figures.specs.Figures.{suspected_after, last_after, is_detected
 ghost use Rattle.figures.specs.Notes.{times_of};
 ghost use Rattle.figures.specs.Settings.{suspected_in, confirmed_in, last_in};
 
-use reports::Departure;
+use reports::DepartureReport;
 
 /// How a crash was detected, in ticks since the crash.
 #[derive(Clone, Copy, Debug, PartialEq, Eq)]
@@ -41,7 +41,7 @@ pub(crate) fn last_in(crash: &CrashTimes) -> Option<u64>
 }
 
 /// How a crash was detected.
-pub(crate) fn times_of(crash: &Departure) -> CrashTimes
+pub(crate) fn times_of(crash: &DepartureReport) -> CrashTimes
     ensures { result ≡ times_of crash.now }
 {
     CrashTimes {
@@ -52,7 +52,7 @@ pub(crate) fn times_of(crash: &Departure) -> CrashTimes
 }
 
 /// How many ticks after a crash the member was first suspected, where it was.
-pub(crate) fn suspected_after(crash: &Departure) -> Option<u64>
+pub(crate) fn suspected_after(crash: &DepartureReport) -> Option<u64>
     ensures { result ≡ suspected_after crash.now }
 {
     let suspect = crash.detection.suspect?;
@@ -60,7 +60,7 @@ pub(crate) fn suspected_after(crash: &Departure) -> Option<u64>
 }
 
 /// How many ticks after a crash it was last confirmed to have failed, where it was.
-pub(crate) fn last_after(crash: &Departure) -> Option<u64>
+pub(crate) fn last_after(crash: &DepartureReport) -> Option<u64>
     ensures { result ≡ last_after crash.now }
 {
     let last = crash.detection.last?;
@@ -68,7 +68,7 @@ pub(crate) fn last_after(crash: &Departure) -> Option<u64>
 }
 
 /// How many crashes some member confirmed.
-pub(crate) fn detected(crashes: &[Departure]) -> usize
+pub(crate) fn detected(crashes: &[DepartureReport]) -> usize
     ensures { result ≡ count_by is_detected crashes.now }
 {
     crashes
@@ -77,7 +77,7 @@ pub(crate) fn detected(crashes: &[Departure]) -> usize
         .count()
 }
 
-pub(crate) fn least_suspicion(crashes: &[Departure]) -> Option<u64>
+pub(crate) fn least_suspicion(crashes: &[DepartureReport]) -> Option<u64>
     ensures { result ≡ reduce min (filter_map suspected_after crashes.now) }
 {
     crashes
@@ -86,19 +86,19 @@ pub(crate) fn least_suspicion(crashes: &[Departure]) -> Option<u64>
         .min()
 }
 
-pub(crate) fn least_confirmation(crashes: &[Departure]) -> Option<u64>
+pub(crate) fn least_confirmation(crashes: &[DepartureReport]) -> Option<u64>
     ensures { result ≡ reduce min (latencies_of crashes.now) }
 {
     crashes.iter().filter_map(|crash| crash.latency()).min()
 }
 
-pub(crate) fn greatest_confirmation(crashes: &[Departure]) -> Option<u64>
+pub(crate) fn greatest_confirmation(crashes: &[DepartureReport]) -> Option<u64>
     ensures { result ≡ reduce max (latencies_of crashes.now) }
 {
     crashes.iter().filter_map(|crash| crash.latency()).max()
 }
 
-pub(crate) fn greatest_last(crashes: &[Departure]) -> Option<u64>
+pub(crate) fn greatest_last(crashes: &[DepartureReport]) -> Option<u64>
     ensures { result ≡ reduce max (filter_map last_after crashes.now) }
 {
     crashes.iter().filter_map(|crash| last_after(crash)).max()

@@ -27,8 +27,8 @@ const CLAIM_NAMES: [&str; 12] = [
 /// The names of the figures of the protocol, likewise.
 const PROTOCOL_NAMES: [&str; 6] = ["accuse", "refute", "fail", "health", "sent", "lost"];
 
-/// The first line of a table of runs for which these keys are set; whether it tells of members that
-/// were taken for alive again is given.
+/// The first line of a table of runs for which these keys are set. `revived` says whether it has the column of
+/// members that were taken for alive again.
 pub(crate) fn header_text(alloc: Global, keys: &[&str], revived: bool) -> Result<Vec<u8>, Memory>
     ensures { IfOk result (λ text. text.items ≡ header_line revived (map (λ key. key.now) keys.now)) }
 {
@@ -101,7 +101,7 @@ fn new_writer(alloc: Global) -> Writer<Vec<u8>>
     Writer::from_writer(Vec::new(alloc))
 }
 
-/// Writes the name of the column of those that were taken for alive again, where it is told.
+/// Writes the name of the column of those that were taken for alive again, where the table has it.
 fn write_revived_name(writer: &mut Writer<Vec<u8>>, revived: bool) -> Result<(), Memory>
     ensures { OnOk result ((fields : List (List ℕ)) → HasLaidOut writer.old fields → HasLaidOut writer.new (fields ++ where_told revived (codes "revived" ∷ []))) }
 {
@@ -111,7 +111,7 @@ fn write_revived_name(writer: &mut Writer<Vec<u8>>, revived: bool) -> Result<(),
     Ok(())
 }
 
-/// Writes the figure of that column, where it is told.
+/// Writes the figure of that column, where the table has it.
 fn write_revived(writer: &mut Writer<Vec<u8>>, revived: bool, figure: u64) -> Result<(), Memory>
     ensures { OnOk result ((fields : List (List ℕ)) → HasLaidOut writer.old fields → HasLaidOut writer.new (fields ++ map cell (where_told revived (Some figure ∷ [])))) }
 {

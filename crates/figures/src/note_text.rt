@@ -11,7 +11,7 @@ use std::alloc::Global;
 
 impl RunMetadata {
     /// The note as it is written, `3 0 0 4499 4500000 2840 12840 15399`: how many suspicions were false positives, how
-    /// many members were thrown out, how often members were taken for alive again, how many messages were sent, how
+    /// many members had a false death, how often members were taken for alive again, how many messages were sent, how
     /// long the members last together, and for each crash the times until it was first suspected, first confirmed and
     /// last confirmed, or a dash.
     pub fn text(&self, alloc: Global) -> Result<String, Memory>

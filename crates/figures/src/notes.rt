@@ -7,7 +7,7 @@ ghost use Rattle.figures.specs.Notes.{note_of, times_of};
 use crate::crashes::{CrashTimes, times_of};
 use crate::run::RunFigures;
 use base::Memory;
-use reports::{Departure, Tallies};
+use reports::{DepartureReport, Tallies};
 use scenario::Scenario;
 use std::alloc::Global;
 use std::marker::Model;
@@ -70,7 +70,7 @@ impl RunMetadata {
         self.false_suspect
     }
 
-    /// How many members were thrown out.
+    /// How many members had a false death.
     pub(crate) fn thrown_out(&self) -> u64
         ensures { result ≡ self.now.thrown_out }
     {
@@ -100,7 +100,7 @@ impl RunMetadata {
 }
 
 /// How each of these crashes was detected.
-fn times_of_each(alloc: Global, crashes: &[Departure]) -> Result<Vec<CrashTimes>, Memory>
+fn times_of_each(alloc: Global, crashes: &[DepartureReport]) -> Result<Vec<CrashTimes>, Memory>
     ensures { IfOk result (λ times. times.items ≡ map times_of crashes.now) }
 {
     let mut times = Vec::new(alloc);

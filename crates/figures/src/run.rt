@@ -39,7 +39,7 @@ pub struct RunFigures {
     pub false_confirm: u64,
     /// How many of these were made by healthy members.
     pub false_confirm_healthy: u64,
-    /// How many members were thrown out: confirmed to have failed though they had not departed.
+    /// How many members had a false death: they were confirmed to have failed though they had not departed.
     pub thrown_out: u64,
     /// How often a member took for alive again one that it held to have failed.
     pub revived: u64,

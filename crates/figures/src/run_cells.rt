@@ -21,7 +21,7 @@ use std::str::from_utf8;
 
 /// Whether a text is what the line of a run with this metadata has behind the values of its setting: its seed, its figures
 /// and a line feed. The figures must be those that the metadata says, where it says them; the seed must be the one that is
-/// known, if one is. A number is at most 2^63 - 1. Whether the table tells of members taken for alive again is given.
+/// known, if one is. A number is at most 2^63 - 1. `revived` says whether the table has the column of members taken for alive again.
 pub fn are_cells_of(
     alloc: Global,
     metadata: &RunMetadata,

@@ -29,11 +29,11 @@ pub struct SettingFigures {
     last: Vec<u64>,
     /// How many suspicions were false positives.
     false_suspect: u128,
-    /// How many members were thrown out.
+    /// How many members had a false death.
     thrown_out: u128,
     /// How often members were taken for alive again.
     revived: u128,
-    /// In how many runs members were thrown out.
+    /// In how many runs members had a false death.
     runs_with: u64,
     /// The sum of the false deaths of each run, of which at most 1,000,000 count.
     deaths: u128,
@@ -101,7 +101,7 @@ impl SettingFigures {
         Ok(setting)
     }
 
-    /// What is told of the runs. It brings the times into order, which takes memory for a while, and
+    /// The summary of the runs. It brings the times into order, which takes memory for a while, and
     /// fails where that is refused.
     pub fn summary(self) -> Result<SettingSummary, Memory>
         requires { 0 < runs_kept self }

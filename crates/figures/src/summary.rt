@@ -41,17 +41,17 @@ pub struct SettingSummary {
     pub last_greatest: Option<u64>,
     /// Suspicions a run that were false positives, in hundredths, rounded down.
     pub false_suspect: u128,
-    /// How many members were thrown out, each counted in each run.
+    /// How many members had a false death, each counted in each run.
     pub thrown_out: u128,
     /// How often a member took for alive again one that it held to have failed, in all runs.
     pub revived: u128,
-    /// In how many runs members were thrown out.
+    /// In how many runs members had a false death.
     pub runs_with: u64,
     /// The lower end of the 95 % interval of the share of such runs, by Wilson, in thousandths.
     pub share_low: u128,
     /// Its upper end, likewise.
     pub share_high: u128,
-    /// False deaths per run, that is members that were thrown out, in hundredths, rounded to the
+    /// Members with a false death per run, in hundredths, rounded to the
     /// nearest.
     pub deaths: u128,
     /// The lower end of their 95 % interval, by Poisson's score, in hundredths.

@@ -13,7 +13,7 @@ use std::alloc::Global;
 use trace::{Sink, WriteError, put_all};
 
 /// Puts the first line of a table of runs: the keys that are set for them, the seed, and the names
-/// of the figures, among them `revived` where the table tells of it. Where memory is refused nothing is put, and where
+/// of the figures, among them `revived` where the table has it. Where memory is refused nothing is put, and where
 /// the sink stops it has got a beginning of the line.
 pub fn write_header<S: Sink>(
     alloc: Global,
@@ -32,7 +32,7 @@ pub fn write_header<S: Sink>(
 }
 
 /// Puts the line of a run: the values that the keys had, its seed, and its figures, among them how
-/// often members were taken for alive again where the table tells of it. Where memory is
+/// often members were taken for alive again where the table has that column. Where memory is
 /// refused nothing is put, and where the sink stops it has got a beginning of the line.
 pub fn write_run<S: Sink>(
     alloc: Global,

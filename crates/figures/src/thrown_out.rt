@@ -10,7 +10,7 @@ use scenario::Scenario;
 use std::alloc::Global;
 use trace::What;
 
-/// How many members were thrown out. It takes a byte for each member.
+/// How many members had a false death. It takes a byte for each member.
 pub(crate) fn thrown_out(
     alloc: Global,
     tallies: &Tallies,

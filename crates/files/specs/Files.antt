@@ -1,4 +1,4 @@
--- What files tell of the names that they are asked for.
+-- What is known of the names that files are asked for.
 use Rattle.std.specs.Prelude.{◌≡◌, ◌≢◌, ◌≤◌, ◌⊎◌, ℕ, Bool, true, false, List, [], Option, Some, None, IfSome, length, take}
 
 -- what is known of a name: nothing, that no file has it, or what its file holds
@@ -30,7 +30,7 @@ HoldsAtLeast known count = IfSome known (λ held. count ≤ length (bytes_held h
 abbrev pub HoldsBeginning : KnownFile → KnownFile → ℕ → Type 0
 HoldsBeginning old new count = IfSome old (λ held. new ≡ Some (Some (take count (bytes_held held))))
 
--- a writer that tells what it holds closed, under a name that is known to have a file, which then holds that
+-- a writer closed whose bytes are known, under a name that is known to have a file, which then holds them
 abbrev pub ClosesAs : KnownFile → KnownFile → Option (List ℕ) → Type 0
 ClosesAs old new written = IfSome old (λ held. IfSome held (λ _. IfSome written (λ bytes. new ≡ Some (Some bytes))))
 

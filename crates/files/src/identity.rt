@@ -5,7 +5,7 @@ use std::fs::{Metadata, OpenFile};
 use std::os::unix::fs::{FileTypeExt, MetadataExt};
 use std::rt::Files;
 
-/// What tells a file from all others of the system, whatever names it has.
+/// What distinguishes a file from all others of the system, whatever names it has.
 #[derive(Clone, Copy, Debug, PartialEq, Eq)]
 pub(crate) struct Identity {
     device: u64,
@@ -13,7 +13,7 @@ pub(crate) struct Identity {
 }
 
 impl Identity {
-    /// That of the file of a name, if there is one and the system tells.
+    /// That of the file of a name, if there is one and the system reports it.
     pub(crate) fn of_name<R: Files>(runtime: &R, name: &str) -> Option<Identity> {
         match fs::metadata(runtime, name) {
             Ok(metadata) => Identity::of(&metadata),
@@ -21,7 +21,7 @@ impl Identity {
         }
     }
 
-    /// That of an open file, if the system tells.
+    /// That of an open file, if the system reports it.
     pub(crate) fn of_file<F: OpenFile>(file: &F) -> Option<Identity> {
         match file.metadata() {
             Ok(metadata) => Identity::of(&metadata),

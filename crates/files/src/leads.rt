@@ -134,7 +134,7 @@ fn real_path<R: Files + AllocGlobal>(runtime: &R, path: Path<'_>) -> io::Result<
     }
 }
 
-/// The real folder of a path, or the one that it names, where the real one can't be told.
+/// The real folder of a path, or the one that it names, where the real one can't be known.
 fn real_folder<R: Files + AllocGlobal>(runtime: &R, path: Path<'_>) -> io::Result<PathBuf> {
     let folder = folder_of(path);
     match fs::canonicalize(runtime, folder) {

@@ -195,7 +195,7 @@ impl<'r, R: std::rt::Files + AllocGlobal> SystemFiles<'r, R> {
         options.open(self.runtime, name)
     }
 
-    /// Makes a file that wasn't there, and tells whether it is new: it may be there by now.
+    /// Makes a file that wasn't there, and returns whether it is new: it may be there by now.
     fn open_new(&self, path: &str) -> io::Result<(R::File, bool)> {
         let mut options = OpenOptions::new();
         options.write(true).create_new(true);

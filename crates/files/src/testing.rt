@@ -267,7 +267,7 @@ impl MemoryFiles {
         first != name && self.may_make(source, name)
     }
 
-    /// Tells which of two files can't be made, if one can't.
+    /// Returns which of two files can't be made, if one can't.
     fn may_make_both(&self, source: &str, first: &str, second: &str) -> Result<(), PairFault>
         ensures apart { OnOk result (AreThreeFiles (making_of self.now) source.now first.now second.now) }
         ensures differ { OnOk result (second.now ≢ first.now) }
@@ -284,7 +284,7 @@ impl MemoryFiles {
         Ok(())
     }
 
-    /// Tells which of three files can't be made, if one can't.
+    /// Returns which of three files can't be made, if one can't.
     fn may_make_three(
         &self,
         source: &str,

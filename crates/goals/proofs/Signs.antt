@@ -21,7 +21,7 @@ no_sign FalseSuspect = refl
 no_sign ThrownOut = refl
 no_sign Messages = refl
 
--- it is a number, where the word is parted there
+-- it is a number, where the word is split there
 pub number_behind : (word : List ℕ) (want : Want) → IsWantWord word want → (parted : Option (Bor (List ℕ) × Bor (List ℕ))) (front number : Bor (List ℕ)) → parted ≡ Some (front, number)
     → IsSplitOnceResult 61 word parted → IsNumber number.now want.most
 number_behind word want is parted front number some cut =

@@ -27,7 +27,7 @@ abbrev pub swept_keys_told : List Choice → List ℕ
 swept_keys_told [] = codes "the scenario as it is"
 swept_keys_told (choice ∷ more) = choices_text (choice ∷ more)
 
--- how many more runs would tell, or a dash
+-- how many more runs would show whether the setting meets all, or a dash
 abbrev pub more_text : Option ℕ → List ℕ
 more_text more = codes " more_runs=" ++ option_map_or decimal more (codes "-")
 

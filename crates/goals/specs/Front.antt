@@ -23,7 +23,7 @@ cost crashed setting = if crashed then setting.confirm_p50 else setting.messages
 abbrev pub costs_no_more : Bool → SettingSummary → SettingSummary → Bool
 costs_no_more crashed a b = no_later (cost crashed a) (cost crashed b)
 
--- the share of the runs in which members were thrown out is no greater: fractions, compared by their products
+-- the share of the runs with a false death is no greater: fractions, compared by their products
 abbrev pub is_no_more_often : SettingSummary → SettingSummary → Bool
 is_no_more_often a b = nat_le (a.runs_with * b.runs) (b.runs_with * a.runs)
 

@@ -16,8 +16,8 @@ word_of FalseSuspect = codes "false_suspect"
 word_of ThrownOut = codes "thrown_out"
 word_of Messages = codes "messages"
 
--- The figure of a setting: times in ticks and members as they are, rates in hundredths. `out`, the share of the runs in which members were
--- thrown out, has an interval in place of one.
+-- The figure of a setting: times in ticks and members as they are, rates in hundredths. `out`, the share of the runs with a
+-- false death, has an interval in place of one.
 abbrev pub figure_of : Statistic → SettingSummary → Option ℕ
 figure_of Out setting = None
 figure_of SuspectP50 setting = setting.suspect_p50

@@ -10,7 +10,7 @@ use Rattle.goals.specs.Statistics.{figure_of, parts_of}
 use Rattle.goals.specs.Bounds.{is_up_to, is_past, runs_that_tell}
 use Rattle.goals.specs.Front.{has_crash, is_no_more_often, no_later}
 
--- a setting has at most 1,000,000 runs, and members are thrown out in some of them
+-- a setting has at most 1,000,000 runs, and no more of them with a false death than there are
 pub record HasFewRuns (setting : SettingSummary) : Type 0 where
   pub few : setting.runs ≤ 1000000
   pub within : setting.runs_with ≤ setting.runs
@@ -41,7 +41,7 @@ meets wants setting = not (list_any (λ want. not (shows want.statistic want.mos
 abbrev pub may_meet : List Want → SettingSummary → Bool
 may_meet wants setting = not (meets wants setting) && not (list_any (λ want. refutes want.statistic want.most setting) wants)
 
--- How many more runs would tell, if the share in which members were thrown out stays: for the first that is wanted and not shown.
+-- How many more runs would show it, if the share of runs with a false death stays: for the first that is wanted and not shown.
 abbrev pub more_runs : List Want → SettingSummary → Option ℕ
 more_runs [] setting = None
 more_runs (want ∷ wants) setting =

@@ -49,7 +49,7 @@ fn is_refuted(wants: &[Want], setting: &SettingSummary) -> bool
     false
 }
 
-/// How many more runs would tell whether a setting meets all, if the share of runs in which members were thrown out stays: by the
+/// How many more runs would show whether a setting meets all, if the share of runs with a false death stays: by the
 /// first that isn't shown. None where no number of them would.
 pub fn more_runs(wants: &[Want], setting: &SettingSummary) -> Option<u128>
     requires bounded { All IsBounded wants.now }

@@ -7,7 +7,7 @@ use crate::statistic::ticks;
 use figures::SettingSummary;
 
 /// Whether no setting of all beats this one: none is at most as great in both the median time until a crash was confirmed and
-/// the share of runs in which members were thrown out, and less in one of them. Where no run has a crash, the number of
+/// the share of runs with a false death, and less in one of them. Where no run has a crash, the number of
 /// messages takes the place of that time. Takes two steps for each setting.
 pub fn is_on_front(setting: &SettingSummary, all: &[SettingSummary]) -> bool
     ensures { result ≡ is_on_front setting.now all.now }
@@ -69,7 +69,7 @@ pub(crate) fn no_later(first: Option<u128>, second: Option<u128>) -> bool
     }
 }
 
-/// Whether members were thrown out in no greater a share of the runs of the first.
+/// Whether no greater a share of the runs of the first has a false death.
 pub(crate) fn is_no_more_often(first: &SettingSummary, second: &SettingSummary) -> bool
     ensures { result ≡ is_no_more_often first.now second.now }
 {

@@ -5,8 +5,8 @@ ghost use Rattle.goals.specs.declared.statistic.Statistic.{Statistic as AnyStati
 
 use figures::SettingSummary;
 
-/// A statistic of a setting, with the name of its column among the lines of settings; `out` is the share of the runs in which
-/// members were thrown out, from 0 to 1.
+/// A statistic of a setting, with the name of its column among the lines of settings; `out` is the share of the runs with
+/// a false death, from 0 to 1.
 #[derive(Clone, Copy, Debug, PartialEq, Eq)]
 pub enum Statistic {
     Out,

@@ -172,7 +172,7 @@ fn push_told(
     Ok(())
 }
 
-/// Adds how many more runs would tell.
+/// Adds how many more runs would show whether the setting meets all.
 fn push_more(alloc: Global, text: &mut String, more: Option<u128>) -> Result<(), Memory>
     ensures { OnOk result (string_bytes text.new ≡ string_bytes text.old ++ more_text more) }
 {

@@ -65,7 +65,7 @@ impl Probe {
         self.reached = true;
     }
 
-    /// How much a probe that failed tells against its own member (memberlist's rules): the nacks that
+    /// How much a probe that failed counts against its own member (memberlist's rules): the nacks that
     /// were expected and did not come, or 1 where none was expected.
     pub fn misses(&self) -> u32
         ensures value { result ≡ misses_of self.now }

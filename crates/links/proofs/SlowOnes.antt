@@ -1,12 +1,11 @@
 -- Times that rise: the one that covers a moment is the last that has begun.
 use Rattle.std.proofs.Common.{◌≡◌, ◌<◌, ◌≤◌, ◌-◌, ◌⊎◌, inl, inr, ℕ, zero, suc, List, [], ◌∷◌, ◌++◌, Bool, true, false, ◌&&◌, nat_lt, nat_le, cond, length, get_or, Option, Some, None, refl, ap, sym, ◌∙◌, subst, arith}
 use Rattle.std.specs.List.{find, slice_get}
-use Rattle.std.specs.Bool.{OnTrue}
 use Rattle.std.specs.Option.{option_map_or, unwrap_or}
 use Rattle.std.proofs.lemmas.Option.{slice_get-get_or}
-use Rattle.std.proofs.lemmas.Bool.{cases_lt, cases_eq, and_from, le-leb, lt-ltb}
+use Rattle.std.proofs.lemmas.Bool.{cases_lt, cases_eq, and_from, le-leb, lt-ltb, ltb-true}
 use Rattle.std.proofs.lemmas.Bool.Decides.{nat_tests}
-use Rattle.std.proofs.lemmas.List.{get_or_append_left, get_or_push, length-append}
+use Rattle.std.proofs.lemmas.List.{get_or_append_left, get_or_default, get_or_push, length-append}
 use Rattle.links.specs.Entries.{covers, extra_in}
 use Rattle.links.specs.SlowTimes.{Rise}
 use Rattle.links.specs.declared.spans.times.SlowSpan.{SlowSpan}
@@ -48,6 +47,14 @@ rising xs rise i j d low within = elim (cases_eq i j) as (λ _. (get_or xs i d).
   | inl same ↦ subst (λ n. (get_or xs i d).from ≤ (get_or xs n d).from) same (let e : (get_or xs i d).from ≤ (get_or xs i d).from = omega arith in e)
   | inr other ↦ (let lasts = rise.lasts i d (omega (arith, low, within)) in let after = rise.over i j d (omega (arith, low, other)) within in omega (arith, lasts, after))
 ]
+
+-- where the first begins after a moment, all do
+pub all_to_come : (xs : List SlowSpan) → Rise xs → (at : ℕ) (first : SlowSpan) → nat_lt at (get_or xs 0 first).from ≡ true → (i : ℕ) (d : SlowSpan) → i < length xs → at < (get_or xs i d).from
+all_to_come xs rise at first before i d within =
+    let same : (get_or xs 0 d).from ≡ (get_or xs 0 first).from = ap (λ (x : SlowSpan). x.from) (get_or_default xs 0 d first (omega (arith, within))) in
+    let rises = rising xs rise 0 i d (omega arith) within in
+    let less = ltb-true at (get_or xs 0 first).from before in
+    omega (arith, same, rises, less)
 
 pub none_begun : (t k : ℕ) (xs : List SlowSpan) → k ≡ 0 → ((i : ℕ) (d : SlowSpan) → k ≤ i → i < length xs → t < (get_or xs i d).from) → 0 ≡ extra_in xs t
 none_begun t k xs none later = ap found_extra (sym (find_none (covers t) xs some_span (λ i within. is_not_yet t (get_or xs i some_span) (later i some_span (omega (arith, none)) within))))
@@ -116,7 +123,3 @@ past_by_last xs rise last n found over i d within =
       | inl a ↦ subst (λ m. (get_or xs m d).until ≤ n) (sym a) until
       | inr b ↦ (let ends = rise.over i (length xs - 1) d (omega (arith, within, b)) (omega (arith, within)) in let lasts = rise.lasts (length xs - 1) d (omega (arith, within)) in omega (arith, ends, lasts, until))
     ]
-
-pub on_true : (b : Bool) (P : Type 0) → (b ≡ true → P) → OnTrue b P
-on_true true P so = so refl
-on_true false P so = tt

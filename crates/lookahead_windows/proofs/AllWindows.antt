@@ -109,9 +109,9 @@ pub range_below : (a n m : ℕ) → a + n ≤ m → AllByRecursion (λ (k : ℕ)
 range_below a zero m low = tt
 range_below a (suc n) m low = (omega arith, range_below (a + 1) n m (omega arith))
 
--- ---- windows by the items that tell of them
+-- ---- windows by the items that give them
 
--- items of which each tells of a window of its number
+-- items, each of which gives a window of its number
 module _ {X : Type 0} (number : X → ℕ) (Is : X → Type 0) (window : (x : X) → Is x → Window State EventKind Row) (named : (x : X) (is : Is x) → (window x is).part ≡ number x) where
   abbrev pub windows_in : (xs : List X) → AllByRecursion Is xs → List (Window State EventKind Row)
   windows_in [] all = []

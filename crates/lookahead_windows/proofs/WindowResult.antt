@@ -1,4 +1,4 @@
--- From its own window and what it is told, a part has all that the next round begins with.
+-- From its own window and what it is sent, a part has all that the next round begins with.
 use Rattle.std.proofs.Common.{◌≡◌, ◌≢◌, ◌⊎◌, ℕ, ◌+◌, ◌<◌, ◌≤◌, suc, Bool, true, List, [], ◌∷◌, ◌++◌, map, Option, ap, inl, inr, ◌∙◌, sym, subst, refl, arith}
 use Rattle.std.specs.List.{AllByRecursion}
 use Rattle.std.specs.FinMap.{get}
@@ -75,7 +75,7 @@ module _ (plan : Plan) (is : IsPlan plan) (round : ℕ) (window : Window State E
   abbrev whole : IsWholeCluster plan.setup mine.world
   whole = whole_at plan is round mine.world mine.in_round.world
 
-  -- what went out for the part is what it is told
+  -- what went out for the part is what it is sent
   their_events : (ms : List Message) (all : AllByRecursion Told ms) → for_own owns (all_out (windows_in sender_of Told told_window named ms all)) ≡ all_events ms
   their_events [] all = refl
   their_events (m ∷ ms) all =

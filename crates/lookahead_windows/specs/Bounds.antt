@@ -40,7 +40,7 @@ pub record IsOwnBound (plan : Plan) (round part bound : ℕ) : Type 0 where
   pub no_earlier : (t : ℕ) → ServesAll plan world t → t ≤ bound
   pub is : bound ≡ bound_of plan (Some first) part
 
--- ---- what a gate is told
+-- ---- the calls that a gate gets
 
 -- each part of these rounds may be entered below its own bound; windows count from 1
 abbrev pub AwaitsRounds : (ℕ → ℕ → ℕ → Type 0) → Basis → Type 0
@@ -53,7 +53,7 @@ pub record AreWaysOf (s : Setup) (deal : Deal) (ways : List ℕ) : Type 0 where
   pub count : length ways ≡ deal.parts
   pub ticks : AreRoundWays s table ways
 
--- What a gate is told of the scenario's run by this division: a window is that of a part in a round, below the part's own bound there.
+-- A call that a gate gets in the scenario's run by this division: a window is that of a part in a round, below the part's own bound there.
 pub record IsToldOf (s : Setup) (deal : Deal) (window part bound : ℕ) : Type 0 where
   pub ways : List ℕ
   pub by : AreWaysOf s deal ways
@@ -62,6 +62,6 @@ pub record IsToldOf (s : Setup) (deal : Deal) (window part bound : ℕ) : Type 0
   pub named : part < deal.parts
   pub own : IsOwnBound (plan_of (record { setup = s; deal = deal; ways = ways })) round part bound
 
--- a gate may be told all that
+-- a gate may get all those calls
 abbrev pub AwaitsRun : (ℕ → ℕ → ℕ → Type 0) → Setup → Deal → Type 0
 AwaitsRun awaits s deal = (window part bound : ℕ) → IsToldOf s deal window part bound → awaits window part bound

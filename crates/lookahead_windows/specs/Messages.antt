@@ -1,4 +1,4 @@
--- What the parts of a cluster tell each other in a round.
+-- What the parts of a cluster send each other in a round.
 use Rattle.std.specs.Prelude.{◌≡◌, ◌≢◌, ◌↔◌, ◌⊎◌, ℕ, ◌<◌, ◌≤◌, List, [], ◌∷◌, Option}
 use Rattle.std.specs.List.{AllByRecursion, flat_map}
 use Rattle.base.specs.declared.key.Key.{Key}
@@ -32,7 +32,7 @@ abbrev pub IsLeastAfter : Window State EventKind Row → Option ℕ → Type 0
 IsLeastAfter window least =
     (t : ℕ) → (NoneIsBelow window.after.pending t × AllByRecursion (λ (e : Key × EventKind). t ≤ e.0.at) window.out) ↔ IsUpTo least t
 
--- What one part tells another in a round: of the events that went out of its window those for the other's members, and the
+-- What one part sends another in a round: of the events that went out of its window those for the other's members, and the
 -- least moment after its window. All this is a function of the plan and the round.
 pub record IsMessage (plan : Plan) (from to round : ℕ) (events : List (Key × EventKind)) (least : Option ℕ) : Type 0 where
   pub window : Window State EventKind Row
@@ -66,6 +66,6 @@ pub record AreOfAllOthers (plan : Plan) (part round : ℕ) (messages : List Mess
   pub different : IsRising (λ (m n : Message). m.from ≢ n.from) messages
   pub complete : (other : ℕ) → other < plan.parts → (part ≡ other) ⊎ IsOneOf sender_of messages other
 
--- the least of a part's own least moment and of all that it was told
+-- the least of a part's own least moment and of all that it was sent
 abbrev pub IsLeastOfAll : Option ℕ → List Message → Option ℕ → Type 0
 IsLeastOfAll own messages least = (t : ℕ) → (IsUpTo own t × AllByRecursion (λ (m : Message). IsUpTo m.least t) messages) ↔ IsUpTo least t

@@ -4,8 +4,8 @@ ghost use Rattle.lookahead_windows.specs.Faults.{rank_of, first_fault};
 
 use base::Fault;
 
-/// Of two faults the one that a run answers, whichever came first: want of memory goes before a worn
-/// counter, that before a sink that failed, and that before what threads lost.
+/// Of two faults the one that a run returns, whichever came first: want of memory goes before counter
+/// overflow, that before a sink that failed, and that before what threads lost.
 pub fn first_fault(one: Fault, other: Fault) -> Fault
     ensures { result ≡ first_fault one other }
 {

@@ -4,8 +4,8 @@ ghost use Rattle.std.specs.Prelude.{⊤, ◌≡◌};
 use base::Moment;
 use std::marker::Sync;
 
-/// Whom a worker tells of each part that it has got, and how far that part's window goes. What a gate may be told is
-/// said by its type: whoever hands it to a run must allow for each worker of that, and for each window of a part with
+/// What a worker calls for each part that it has got, with the bound of that part's window. The gate's type says which
+/// calls it may get: whoever hands it to a run must allow for each worker of that, and for each window of a part with
 /// its bound.
 pub trait Gate: Sync {
     ghost use Rattle.std.specs.Prelude.{ℕ};
@@ -23,7 +23,7 @@ pub trait Gate: Sync {
         requires window { awaits window part bound };
 }
 
-/// That a gate was told of a window. `enter` alone makes one, so whoever is handed it comes after the gate.
+/// That a gate was called for a window. `enter` alone makes one, so whoever is handed it comes after the gate.
 #[derive(Clone, Copy)]
 pub struct Entered {
     /// The window's number, from 1.
@@ -39,7 +39,7 @@ pub struct Entered {
 #[derive(Clone, Copy)]
 struct Seal;
 
-/// Tells the gate that the worker has got the part for the window, and is about to run its events of earlier moments
+/// Calls the gate: the worker has got the part for the window, and is about to run its events of earlier moments
 /// than the bound.
 pub fn enter<G: Gate>(gate: &G, worker: usize, window: u64, part: usize, bound: Moment) -> Entered
     requires worker { G.knows worker }
@@ -57,7 +57,7 @@ pub fn enter<G: Gate>(gate: &G, worker: usize, window: u64, part: usize, bound: 
     }
 }
 
-/// A gate at which nobody waits, and which may be told anything.
+/// A gate at which nobody waits, and which may get any call.
 #[derive(Clone, Copy, Debug, Drop)]
 pub struct OpenGate;
 

@@ -87,8 +87,8 @@ pub fn rounds_follow_each_other()
 {}
 
 /// A part begins as its part of the first round's world, is consistent wherever a round begins, and its window
-/// there is that of the round, of which it is to tell; each part has one in each round. A counter that its
-/// window wears out the run wears out.
+/// there is that of the round, which it is to report; each part has one in each round. A counter overflow in
+/// its window is one in the run.
 pub fn a_part_reports_its_window()
     ensures opening { (plan : Plan) (part : ℕ) (w : Cluster) (first : Option ℕ) → IsWorldBefore plan.setup plan.since w
         → IsFirstMoment w first → BeginsRound plan part 0 first (part_of (is_in plan.division part) w) }
@@ -106,7 +106,7 @@ pub fn a_part_reports_its_window()
         → OverflowsInWindow plan.setup (bound_of plan first part) p → CounterOverflows plan.setup }
 {}
 
-/// From its own window and what all other parts tell it in a round, a part has all that the next round
+/// From its own window and the messages of all other parts in a round, a part has all that the next round
 /// begins with: itself, once the events have come, which are new to it and for its members, and the first
 /// moment that pends anywhere. Of some of the others too the events are new to it and for its members.
 pub fn a_part_goes_by_its_messages()

@@ -9,7 +9,7 @@ use Rattle.scenario.specs.Setup.{Setup, member_count, name_of, group_at, start_o
 use Rattle.scenario.specs.declared.settings.Link.{Link}
 use Rattle.scenario.specs.declared.settings.Path.{Path}
 use Rattle.scenario.specs.declared.settings.Gossip.{Gossip}
-use Rattle.scenario.specs.declared.settings.Stream.{Stream}
+use Rattle.scenario.specs.declared.settings.StreamTimes.{StreamTimes}
 use Rattle.serde_json.specs.Data.{Data, null, boolean, number, unsigned, string, array, object, put, no_members}
 use Rattle.serde_json.specs.View.{items_of}
 use Rattle.suspicion.specs.Times.{most_accusers, min_timeout, timeout}
@@ -85,7 +85,7 @@ abbrev pub health_data : Setup → Data
 health_data s = list_of (flat_map (pace_item s) (range_with_len 0 (worst_health s + 1)))
 
 -- how a stream sends again what was lost
-unfoldable pub stream_data : Stream → Data
+unfoldable pub stream_data : StreamTimes → Data
 stream_data t = object (put (codes "again") (whole t.again) (put (codes "connect") (whole t.connect) no_members))
 
 -- these times

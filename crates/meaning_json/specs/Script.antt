@@ -76,7 +76,7 @@ unfoldable pub paused_with : Data → Data → Data → Data → Data → Data
 paused_with crashes leaves slows cuts pauses =
     object (put (codes "pauses") pauses (put (codes "cuts") cuts (put (codes "slows") slows (put (codes "leaves") leaves (put (codes "crashes") crashes no_members)))))
 
--- pauses are told of where there may be some
+-- pauses are listed where there may be some
 abbrev pub script_by : Profile → Setup → Data
 script_by Papers s = script_with (crashes_data s) (leaves_data s) (slows_data s) (cuts_data s)
 script_by Memberlist s = paused_with (crashes_data s) (leaves_data s) (slows_data s) (cuts_data s) (pauses_data s)

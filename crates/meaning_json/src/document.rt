@@ -136,7 +136,7 @@ fn warning_value(
     Ok(warning_object(alloc, kind, message.as_str(), remedy, placed.place)?)
 }
 
-/// The object that tells this of a warning.
+/// The object that says this of a warning.
 #[tactic(auto, unfolding(crate::specs::Document::warning_with))]
 fn warning_object(
     alloc: Global,

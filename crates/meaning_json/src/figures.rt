@@ -14,7 +14,7 @@ use meaning::{
     message_limit, most_accusers, nack_delay, pace_with, suspicion_time, worst_health,
 };
 use meaning_text::{name_of_group, size_of_group};
-use scenario::{Gossip, Link, Path, Scenario, Stream};
+use scenario::{Gossip, Link, Path, Scenario, StreamTimes};
 use serde_json::{Map, Value, put};
 use std::alloc::{AllocError, Global};
 
@@ -243,7 +243,7 @@ fn called_with(
 
 /// How a stream sends again what was lost.
 #[tactic(auto, unfolding(crate::specs::Figures::stream_data))]
-fn stream_value(alloc: Global, stream: Stream) -> Result<Value, AllocError>
+fn stream_value(alloc: Global, stream: StreamTimes) -> Result<Value, AllocError>
     ensures { IfOk result (λ v. view v ≡ stream_data stream) }
 {
     let mut members = Map::new(alloc);

@@ -12,7 +12,7 @@ use Rattle.scenario.specs.declared.settings.Slow.{Slow}
 use Rattle.scenario.specs.declared.settings.Leave.{Leave}
 use Rattle.scenario.specs.declared.settings.Cut.{Cut}
 use Rattle.scenario.specs.declared.settings.Gossip.{Gossip}
-use Rattle.scenario.specs.declared.settings.Stream.{Stream}
+use Rattle.scenario.specs.declared.settings.StreamTimes.{StreamTimes}
 use Rattle.scenario.specs.declared.settings.Pause.{Pause}
 use Rattle.suspicion.specs.Times.{most_accusers, min_timeout, timeout}
 use Rattle.suspicion.specs.Settings.{terms_of}
@@ -119,7 +119,7 @@ unfoldable pub fallback_line : Bool → List ℕ
 fallback_line is_on = line (codes "fallback" ∷ (if is_on then codes "on" else codes "off") ∷ [])
 
 -- how a stream sends again what was lost
-unfoldable pub stream_line : Stream → List ℕ
+unfoldable pub stream_line : StreamTimes → List ℕ
 stream_line t = line (codes "stream" ∷ codes "connect" ∷ decimal t.connect ∷ codes "again" ∷ decimal t.again ∷ [])
 
 -- members call by memberlist's rules alone

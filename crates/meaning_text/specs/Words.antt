@@ -57,7 +57,7 @@ reason_of (warning.PausePastEnd k) = codes "the pause begins after the end"
 reason_of (warning.PauseWhileDown k) = codes "the member is down as its pause begins"
 reason_of (warning.LongPause k) = codes "the pause is longer than the shortest suspicion, so others may declare the member dead"
 
--- what mends what a warning tells of
+-- what fixes what a warning reports
 unfoldable pub remedy_of : Warning → List ℕ
 remedy_of warning.LateAnswer = codes "raise swim.timeout to the greatest round trip, or shorten the links"
 remedy_of warning.LateRelay = codes "raise swim.period to the timeout and two round trips"

@@ -5,7 +5,7 @@ ghost use Rattle.std.specs.String.{string_bytes};
 ghost use Rattle.meaning_text.specs.Lines.{call_lines, fallback_line, stream_line};
 
 use base::Profile;
-use scenario::{Scenario, Stream};
+use scenario::{Scenario, StreamTimes};
 use std::alloc::AllocError;
 
 /// Appends whether members call, and how a stream sends again what was lost, where a version has that.
@@ -35,9 +35,9 @@ fn push_fallback(text: &mut String, is_on: bool) -> Result<(), AllocError>
 
 /// Appends how a stream sends again what was lost.
 #[tactic(auto, unfolding(crate::specs::Lines::stream_line))]
-fn push_stream(text: &mut String, stream: Stream) -> Result<(), AllocError>
+fn push_stream(text: &mut String, stream: StreamTimes) -> Result<(), AllocError>
     ensures { OnOk result (string_bytes text.new ≡ string_bytes text.old ++ stream_line stream) }
 {
-    let Stream { connect, again } = stream;
+    let StreamTimes { connect, again } = stream;
     writeln!(text, "stream connect {connect} again {again}")
 }

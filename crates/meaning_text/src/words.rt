@@ -73,7 +73,7 @@ pub(crate) fn reason_of(warning: Warning) -> &'static str
     }
 }
 
-/// What mends what a warning tells of.
+/// What fixes what a warning reports.
 #[tactic(auto, unfolding(crate::specs::Words::remedy_of))]
 pub fn remedy_of(warning: Warning) -> &'static str
     ensures { result.now ≡ remedy_of warning }

@@ -1,4 +1,4 @@
--- Of which suspicion a ping tells.
+-- Which suspicion a ping carries.
 use Rattle.std.proofs.Common.{◌≡◌, ℕ, Option, Some, None, refl, inl, inr}
 use Rattle.std.proofs.lemmas.Bool.{cases_Bool}
 use Rattle.incarnation.specs.declared.Claim.{Claim}

@@ -47,7 +47,7 @@ not_overflow m overflow =
     let incarnation = m.incarnation_within in
     elim overflow [ inl h ↦ omega arith | inr more ↦ elim more [ inl h ↦ omega arith | inr h ↦ omega arith ] ]
 
--- a part whose refusal is handed on: what it wears is worn by the whole
+-- a part whose refusal is handed on: a counter that overflows in the part overflows in the whole
 pub refused : {here : Here} {old new : Member} {before after : Effects} {change : Effect → Effect} (r : Result (Unit {0}) StepError) (e : StepError) → IsErrAnd r (λ y. y ≡ e)
     → (IsErrOf {T = Unit {0}} (Err e) CounterOverflow → IsOverflowed (change (effect_of old before)).state) → Makes here r old before new after change
 refused (Ok t) e gives wears = absurd gives
@@ -144,7 +144,7 @@ pub kept_push : (s : Setup) (k : Key) (to : ℕ) (o : Effect) → IsOverflowed o
 unfolding push_sent
 kept_push s k to o overflow = kept_posted s k _ _ _ _ _ _ overflow
 
--- messages one after another, of which each leaves worn what is worn
+-- messages one after another: a counter that overflowed before one of them still does after it
 pub kept_each : (send : ℕ → Effect → Effect) → ((to : ℕ) (o : Effect) → IsOverflowed o.state → IsOverflowed (send to o).state) → (others : List ℕ) (o : Effect) → IsOverflowed o.state
     → IsOverflowed (sent_to_each send others o).state
 unfolding sent_to_each
@@ -299,7 +299,7 @@ pub kept_taken : (s : Setup) (k : Key) (initiator seq : ℕ) (o : Effect) → Is
 unfolding ack_taken
 kept_taken s k initiator seq o overflow = kept_choice (nat_eq initiator k.to) _ _ overflow (kept_ack s k initiator initiator seq _ overflow)
 
--- a counter that the ping of a new probe wears
+-- a counter that overflows with the ping of a new probe
 pub overflow_pinged : (s : Setup) (k : Key) (target : ℕ) (o : Effect) (p : Probe) → p ≡ fresh_probe (o.state.sequence + 1) target
     → IsOverflowed (ping_sent s k target k.to (o.state.sequence + 1) (on_state (λ t. record t { sequence = o.state.sequence + 1; probe = Some p }) o)).state
     → IsOverflowed (probe_begun s k target o).state
@@ -375,7 +375,7 @@ kept_in_turn s k next_beat o overflow =
 pub kept_timed_taken : (s : Setup) (k : Key) (initiator seq : ℕ) (o : Effect) → IsOverflowed o.state → IsOverflowed (timed_ack_taken s k initiator seq o).state
 kept_timed_taken s k initiator seq o overflow = kept_choice (nat_eq initiator k.to) _ _ (kept_timed_answered s k seq o overflow) (kept_taken s k initiator seq o overflow)
 
--- a counter that the ping of a new probe wears
+-- a counter that overflows with the ping of a new probe
 pub overflow_timed_pinged : (s : Setup) (k : Key) (next_beat : Option ℕ) (target deadline : ℕ) (o : Effect) (p : Probe) → deadline ≡ k.at + scaled o.state.health s.swim.period
     → p ≡ timed_probe (o.state.sequence + 1) target (option_map_or (λ held. held.1) (get o.state.table target) 0) deadline
     → IsOverflowed (ping_sent s k target k.to (o.state.sequence + 1) (on_state (λ t. record t { sequence = o.state.sequence + 1; probe = Some p }) o)).state

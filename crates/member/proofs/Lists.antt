@@ -31,7 +31,7 @@ module _ (s : Setup) (telling : Announce) (k : Key) where
   applied_next us i u o p q h is so_far next =
       next ∙ ap (applied s telling k u) so_far ∙ sym (one_more (take i us) u o) ∙ ap (λ l. all_applied s telling k l o) (sym (take_item us i u h is))
 
-  -- a counter that is worn by one of the updates is worn by all
+  -- a counter that overflows with one of the updates overflows with all
   pub applied_overflow : (us : List Update) (i : ℕ) (u : Update) (o p : Effect) → i < length us → u ≡ get_or us i u
       → p ≡ all_applied s telling k (take i us) o → IsOverflowed (applied s telling k u p).state → IsOverflowed (all_applied s telling k us o).state
   applied_overflow us i u o p h is so_far overflow =
@@ -47,7 +47,7 @@ module _ (s : Setup) (telling : Announce) (k : Key) where
         next ∙ ap (applied s telling k (f u)) so_far ∙ sym (one_more (map f (take i us)) (f u) o)
         ∙ ap (λ l. all_applied s telling k l o) (sym (map-append f (take i us) (u ∷ [])) ∙ ap (map f) (sym (take_item us i u h is)))
 
-    -- a counter that is worn by one of them is worn by all
+    -- a counter that overflows with one of them overflows with all
     pub turned_overflow : (us : List Update) (i : ℕ) (u : Update) (o p : Effect) → i < length us → u ≡ get_or us i u
         → p ≡ all_applied s telling k (map f (take i us)) o → IsOverflowed (applied s telling k (f u) p).state → IsOverflowed (all_applied s telling k (map f us) o).state
     turned_overflow us i u o p h is so_far overflow =
@@ -71,7 +71,7 @@ module _ (send : ℕ → Effect → Effect) where
   sent_next hs i h o p q lt is so_far next =
       next ∙ ap (send h) so_far ∙ sym (each_one (take i hs) h o) ∙ ap (λ l. sent_to_each send l o) (sym (take_item hs i h lt is))
 
-  -- a counter that is worn by one of the messages is worn by all
+  -- a counter that overflows with one of the messages overflows with all
   pub sent_overflow : ((to : ℕ) (o : Effect) → IsOverflowed o.state → IsOverflowed (send to o).state) → (hs : List ℕ) (i : ℕ) (h : ℕ) (o p : Effect) → i < length hs → h ≡ get_or hs i h
       → p ≡ sent_to_each send (take i hs) o → IsOverflowed (send h p).state → IsOverflowed (sent_to_each send hs o).state
   sent_overflow kept hs i h o p lt is so_far overflow =

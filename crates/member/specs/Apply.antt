@@ -1,5 +1,5 @@
 -- What a member makes of an update that it hears, or of one of its own making (SWIM, section 4.2; Lifeguard's LHA-Suspicion).
--- A quiet application, of an entry that a welcome brought, tells no row about others and passes no update on.
+-- A quiet application, of an entry that a welcome brought, writes no row about others and passes no update on.
 use Rattle.std.specs.Prelude.{ℕ, ◌+◌, ◌-◌, ◌&&◌, ◌||◌, Bool, true, false, not, nat_eq, nat_le, if◌then◌else◌, List, [], ◌∷◌, Option, Some, None}
 use Rattle.std.specs.Option.{option_map}
 use Rattle.std.specs.FinMap.{get, insert, remove}
@@ -41,7 +41,7 @@ gossip_set s k (Some gossip) o =
 unfoldable pub with_put : Setup → Key → Update → Effect → Effect
 with_put s k u o = gossip_set s k s.gossip (on_state (λ t. record t { buffer = insert t.buffer u.subject (u, 0) }) o)
 
--- The health after an event that tells of it, with a row where its counter changed (LHA-Probe).
+-- The health after an event that counts for it, with a row where its counter changed (LHA-Probe).
 unfoldable pub with_health : Key → LocalHealth → Effect → Effect
 with_health k h o =
     let after = on_state (λ t. record t { health = h }) o in
@@ -71,7 +71,7 @@ refuted s k number o =
 unfoldable pub heard_dead : Key → ℕ → Effect → Effect
 heard_dead k number o = with_row k what.Dead (Some k.to) number false (on_state (λ t. record t { heard_dead = true }) o)
 
--- whether a claim about itself that a member doesn't refute tells it that it is dead: by the papers' rules the first Confirm
+-- whether a claim about itself that a member doesn't refute reports its own death: by the papers' rules the first Confirm
 abbrev pub is_own_death : Profile → Claim → Bool → Bool
 is_own_death Papers Alive heard = false
 is_own_death Papers Suspect heard = false
@@ -124,7 +124,7 @@ alive_heard telling k u o = with_told telling k what.Alive u.subject u.inc (on_s
 abbrev pub suspicion_begun : Setup → Key → Update → State → HeldSuspicion
 suspicion_begun s k u t = started_of (terms_of s) u.accuser (live_count t.table) k.at t.next_number
 
--- Suspect starts a suspicion anew, and sets its timer. The timer's number tells it from older ones.
+-- Suspect starts a suspicion anew, and sets its timer. The timer's number distinguishes it from older ones.
 unfoldable pub suspect_heard : Setup → Announce → Key → Update → Effect → Effect
 suspect_heard s telling k u o =
     let due = k.at + timeout (terms_of s) (live_count o.state.table) 0 in

@@ -35,8 +35,8 @@ pub record IsMade {T A : Type 0} (result : Result T StepError) (made wanted : A)
   pub ok : OnOk result (made ≡ wanted)
   pub memory : IfErr result (λ e. e ≡ Memory)
 
--- A part makes a change, and the receiver still knows members of the scenario alone; or it is refused, for want of memory or as
--- worn: then the change would bring a counter past its limit.
+-- A part makes a change, and the receiver still knows members of the scenario alone; or it is refused, for want of memory or for
+-- counter overflow: then the change would bring a counter past its limit.
 pub record Makes (here : Here) (result : Result (Unit {0}) StepError) (old : Member) (before : Effects) (new : Member) (after : Effects) (change : Effect → Effect) : Type 0 where
   pub ok : OnOk result (effect_of new after ≡ change (effect_of old before))
   pub overflow : IsErrOf result CounterOverflow → IsOverflowed (change (effect_of old before)).state

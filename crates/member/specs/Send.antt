@@ -26,7 +26,7 @@ abbrev pub sent_off : Setup → Key → ℕ → EventKind → Option ℕ → Eff
 sent_off s k to content None o = on_state with_number o
 sent_off s k to content (Some at) o = with_event s k at to content o
 
--- a message whose arrival is decided: a row tells of it
+-- a message whose arrival is decided: a row records it
 abbrev pub told_of : Setup → Key → What → ℕ → ℕ → EventKind → Option ℕ → Effect → Effect
 told_of s k tells to value content arrival o = sent_off s k to content arrival (with_row k tells (Some to) value (is_none arrival) o)
 
@@ -50,7 +50,7 @@ carried s buddy t = picked t.buffer s.swim.carry (limit_of s t) buddy
 abbrev pub with_picks : Setup → Option Update → State → State
 with_picks s buddy t = record t { buffer = left_by_pick t.buffer s.swim.carry (limit_of s t) buddy }
 
--- the suspicion of a member, if the table holds it as suspected, as its first accuser told it
+-- the suspicion of a member, if the table holds it as suspected, as its first accuser raised it
 abbrev pub suspicion_told : State → ℕ → Option (Claim × ℕ) → Option Update
 suspicion_told t to None = None
 suspicion_told t to (Some held) =
@@ -58,7 +58,7 @@ suspicion_told t to (Some held) =
     then option_map (λ first. record { subject = to; claim = Suspect; inc = held.1; accuser = first }) (first_accuser_of t.suspicions to)
     else None
 
--- Lifeguard's Buddy System: a ping to a member that is suspected tells it so.
+-- Lifeguard's Buddy System: a ping to a member that is suspected carries the suspicion.
 unfoldable pub buddy_of : Setup → ℕ → State → Option Update
 buddy_of s to t = if s.lifeguard.buddy then suspicion_told t to (get t.table to) else None
 
@@ -76,7 +76,7 @@ ping_req_sent s k target seq to o = sent s k what.PingReq to seq (PingReq target
 unfoldable pub ack_sent : Setup → Key → ℕ → ℕ → ℕ → Effect → Effect
 ack_sent s k to initiator seq o = sent s k what.Ack to seq (Ack initiator seq (carried s None o.state)) (on_state (with_picks s None) o)
 
--- A helper tells that the target has not answered in time (LHA-Probe). Nothing rides on it.
+-- A helper's nack: the target has not answered in time (LHA-Probe). Nothing rides on it.
 unfoldable pub nack_sent : Setup → Key → ℕ → ℕ → Effect → Effect
 nack_sent s k to seq o = sent s k what.Nack to seq (Nack seq) o
 

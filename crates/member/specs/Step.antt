@@ -46,7 +46,7 @@ use Rattle.member.specs.Apply.{with_health, gossip_set, applied, all_applied}
 abbrev pub doublings_to : ℕ → ℕ
 doublings_to n = count_by (λ m. nat_lt (32 * 2 ^ m) n) (range_with_len 0 n)
 
--- how often all that is known is told to another member, in a cluster of n: one period longer for each doubling of more than 32 members
+-- how often all that is known is sent to another member, in a cluster of n: one period longer for each doubling of more than 32 members
 abbrev pub push_period : ℕ → ℕ → ℕ
 push_period push n = push * (1 + doublings_to n)
 
@@ -103,7 +103,7 @@ started s k o =
 unfoldable pub crashed : Key → Effect → Effect
 crashed k o = with_row k what.Crash None 0 false (on_state (λ t. record t { phase = Down }) o)
 
--- A member that asks to join is alive at number 0, and is told all that one knows.
+-- A member that asks to join is alive at number 0, and is sent all that one knows.
 unfoldable pub join_handled : Setup → Key → Effect → Effect
 join_handled s k o =
     welcome_sent s k k.from (applied s Aloud k (record { subject = k.from; claim = Alive; inc = 0; accuser = k.to }) o)
@@ -112,7 +112,7 @@ join_handled s k o =
 abbrev pub about_others : ℕ → List Update → List Update
 about_others me entries = filter (λ e. not (nat_eq e.subject me)) entries
 
--- A member that is welcomed runs. It takes over what it is told, quietly.
+-- A member that is welcomed runs. It takes over what it is sent, quietly.
 unfoldable pub joined : Setup → Key → List Update → Effect → Effect
 joined s k entries o =
     let running = on_state (λ t. record t { phase = Running }) o in
@@ -257,7 +257,7 @@ suspicion_over s k subject o =
 abbrev pub downed : State → State
 downed t = record t { phase = Down }
 
--- A member that joins leaves. It knows nobody whom it could tell.
+-- A member that joins leaves. It knows nobody to whom it could send a bye.
 unfoldable pub withdrawn : Key → Effect → Effect
 withdrawn k o = on_state downed (with_row k what.Leave None 0 false o)
 
@@ -313,7 +313,7 @@ deadline_set s k next_beat seq deadline o =
 abbrev pub probe_timers_set : Setup → Key → Option ℕ → ℕ → ℕ → ℕ → Effect → Effect
 probe_timers_set s k next_beat seq timeout deadline o = deadline_set s k next_beat seq deadline (with_timer s k timeout (TimeoutTimer seq) o)
 
--- A new probe: a ping, the time for a direct answer, and a period as long as health makes it. The next beat is told where its
+-- A new probe: a ping, the time for a direct answer, and a period as long as health makes it. The next beat is given where its
 -- timer is set already.
 unfoldable pub timed_probe_begun : Setup → Key → Option ℕ → ℕ → Effect → Effect
 timed_probe_begun s k next_beat target o =
@@ -437,7 +437,7 @@ abbrev pub gossip_due : Setup → Key → Option settings.Gossip → Effect → 
 gossip_due s k None o = o
 gossip_due s k (Some gossip) o = gossip_round s k gossip (on_state (λ t. record t { gossips = false }) o)
 
--- what a stream tells of somebody: a death is not believed, it is suspected
+-- what a stream says of somebody: a death is not believed, it is suspected
 abbrev pub merged_claim : ℕ → Update → Update
 merged_claim me u = if is_alive u.claim then u else record u { claim = Suspect; accuser = me }
 

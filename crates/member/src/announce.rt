@@ -2,7 +2,7 @@
 ghost use Rattle.std.specs.Prelude.{◌≡◌};
 ghost use Rattle.member.specs.Announce.{is_aloud};
 
-/// How an update is applied: whether what it changes is told of by rows and passed on.
+/// How an update is applied: whether what it changes is written as rows and passed on.
 #[derive(Clone, Copy, Debug, PartialEq, Eq)]
 pub enum Announce {
     /// With rows about others, and the update goes on: heard in a message, or of one's own making.
@@ -11,7 +11,7 @@ pub enum Announce {
     Quietly,
 }
 
-/// Whether what an update changes is told of and passed on.
+/// Whether what an update changes is written as rows and passed on.
 pub(crate) fn is_aloud(telling: Announce) -> bool
     ensures { result ≡ is_aloud telling }
 {

@@ -19,7 +19,7 @@ use membership::{does_override, is_suspect};
 use trace::What;
 
 impl Member {
-    /// Takes over a health, and tells of it where its counter changed (LHA-Probe).
+    /// Takes over a health, and writes a row where its counter changed (LHA-Probe).
     #[tactic(auto, unfolding(crate::specs::Apply::with_health))]
     pub(crate) fn set_health(
         &mut self,
@@ -224,7 +224,7 @@ fn is_heeded(profile: Profile, telling: Announce, claim: Claim) -> bool
     }
 }
 
-// Whether a claim about oneself that isn't refuted tells of one's death: by the papers' rules the first
+// Whether a claim about oneself that isn't refuted reports one's death: by the papers' rules the first
 // Confirm.
 fn is_own_death(profile: Profile, claim: Claim, heard: bool) -> bool
     ensures { result ≡ is_own_death profile claim heard }

@@ -31,7 +31,7 @@ pub enum EventKind {
     },
     /// The sender asks to join.
     Join,
-    /// The sender lets the receiver join, and tells all that it knows.
+    /// The sender lets the receiver join, and sends all that it knows.
     Welcome {
         entries: Updates,
     },
@@ -79,7 +79,7 @@ pub enum EventKind {
     Gossip {
         updates: Updates,
     },
-    /// All that the sender knows; it wants to be told too.
+    /// All that the sender knows; it wants all that the receiver knows in return.
     Push {
         entries: Updates,
     },

@@ -115,7 +115,7 @@ impl Member {
         self.write_row(effects, here, What::Crash, None, 0, false)
     }
 
-    /// A member that asks to join is alive, and is told all that one knows.
+    /// A member that asks to join is alive, and is sent all that one knows.
     #[tactic(auto, unfolding(crate::specs::Step::join_handled))]
     pub(crate) fn hear_join(&mut self, effects: &mut Effects, here: &Here) -> Result<(), StepError>
         requires { KnowsMembers here.now self.old }
@@ -131,7 +131,7 @@ impl Member {
         self.send_welcome(effects, here, here.key.from)
     }
 
-    /// A member that is welcomed runs, and takes over what it is told, quietly.
+    /// A member that is welcomed runs, and takes over what it is sent, quietly.
     #[tactic(auto, unfolding(crate::specs::Step::joined))]
     pub(crate) fn join(
         &mut self,

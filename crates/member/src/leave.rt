@@ -12,7 +12,7 @@ use base::MemberId;
 use trace::What;
 
 impl Member {
-    /// A member that joins leaves, for good. Nobody has to be told.
+    /// A member that joins leaves, for good. It sends no message.
     #[tactic(auto, unfolding(crate::specs::Step::withdrawn))]
     pub(crate) fn withdraw(&mut self, effects: &mut Effects, here: &Here) -> Result<(), StepError>
         requires { KnowsMembers here.now self.old }

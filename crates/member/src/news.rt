@@ -271,7 +271,7 @@ impl Member {
         self.pass_on(effects, here, telling, update)
     }
 
-    /// Tells of an accusation that counts, sets the suspicion's timer again, and passes it on.
+    /// Reports an accusation that counts, sets the suspicion's timer again, and passes it on.
     fn count_accusation(
         &mut self,
         effects: &mut Effects,

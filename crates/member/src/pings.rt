@@ -72,7 +72,7 @@ impl Member {
         }
     }
 
-    /// Tells an initiator, if an answer is still owed, that the target has not answered in time (LHA-Probe).
+    /// Sends an initiator a nack, if an answer is still owed: the target has not answered in time (LHA-Probe).
     #[tactic(auto, unfolding(crate::specs::Step::nack_due))]
     pub(crate) fn end_relay(
         &mut self,

@@ -156,7 +156,7 @@ impl Member {
         self.begin_push(effects, here, beat, gossip.push)
     }
 
-    /// Tells one who is chosen all that is known, and again after a push period.
+    /// Sends all that is known to one who is chosen, and again after a push period.
     #[tactic(auto, unfolding(crate::specs::Step::pushed))]
     fn push(&mut self, effects: &mut Effects, here: &Here, push: u64) -> Result<(), StepError>
         requires short { push ≤ 2 ^ 24 }
@@ -168,7 +168,7 @@ impl Member {
         self.push_on(effects, here, period, &them)
     }
 
-    /// Sets the next push timer, and tells members all that is known.
+    /// Sets the next push timer, and sends members all that is known.
     fn push_on(
         &mut self,
         effects: &mut Effects,

@@ -51,7 +51,7 @@ impl Member {
         }
     }
 
-    /// Tells of a message, which arrives or is lost.
+    /// Writes the row of a message, which arrives or is lost.
     #[inline(always)]
     pub(crate) fn post(
         &mut self,
@@ -128,7 +128,7 @@ impl Member {
         Ok(Updates::of(updates))
     }
 
-    /// The suspicion of which a ping tells its receiver (Lifeguard's Buddy System).
+    /// The suspicion that a ping carries to its receiver (Lifeguard's Buddy System).
     #[tactic(auto, using(crate::proofs::Buddies::none_told), unfolding(crate::specs::Send::buddy_of))]
     fn buddy(&self, here: &Here, to: MemberId) -> Option<Update>
         ensures { result ≡ buddy_of here.now.scenario.now to (state_of self.now) }
@@ -220,7 +220,7 @@ impl Member {
         self.send(effects, here, What::Ack, to, seq, ack)
     }
 
-    /// Tells an initiator that the target has not answered in time (LHA-Probe).
+    /// Sends an initiator a nack: the target has not answered in time (LHA-Probe).
     #[tactic(auto, unfolding(crate::specs::Send::nack_sent))]
     pub(crate) fn send_nack(
         &mut self,
@@ -262,7 +262,7 @@ impl Member {
         Ok(Updates::of(entries))
     }
 
-    /// Tells a member that joins all that one knows.
+    /// Sends a member that joins all that one knows.
     #[tactic(auto, unfolding(crate::specs::Send::welcome_sent))]
     pub(crate) fn send_welcome(
         &mut self,

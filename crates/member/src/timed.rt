@@ -92,7 +92,7 @@ impl Member {
         self.set_health(effects, here, health)
     }
 
-    /// Probes a target: a ping, the timer for a direct answer, and the deadline. The next beat is told
+    /// Probes a target: a ping, the timer for a direct answer, and the deadline. The next beat is given
     /// where its timer is set already. CounterOverflow where the sequence number stands at its limit.
     #[tactic(auto, unfolding(crate::specs::Step::timed_probe_begun))]
     fn begin_timed_probe(

@@ -68,7 +68,7 @@ Whatever phase number health table = Unit {0}
 abbrev AllStay : Effect → Type 0
 AllStay o = AllByRecursion (λ e. Stays e.1) o.events
 
--- a row that tells of neither
+-- a row that records neither
 abbrev TellsOfNone : What → Type 0
 TellsOfNone what.Leave = ⊥
 TellsOfNone what.Bye = ⊥
@@ -130,7 +130,7 @@ module _ (s : Setup) (k : Key) where
     state = λ t o same h. h;
   }
 
-  -- and no row tells of one
+  -- and no row records one
   tells_step : (c : EventKind) (t : State) → Stays c → AllByRecursion (λ row. TellsOfNone row.what) (step s k c t).rows
   tells_step c t stays =
       by_step s k Anyone (FactOf Whatever) news (keeps_moves s k Whatever own_moves) ⊥ TellsOfNone may_tell (carries_anyone s k (FactOf Whatever))

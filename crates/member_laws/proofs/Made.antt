@@ -52,7 +52,7 @@ use Rattle.member_laws.proofs.Walk.{AllNamed, on_row, on_health, on_applied, on_
 
 -- ---- the parts
 
--- a row of neither of Lifeguard's mechanisms, which tells of a leave or a bye only where some members leave
+-- a row of neither of Lifeguard's mechanisms, which records a leave or a bye only where some members leave
 abbrev pub IsPlain : Type 0 → What → Type 0
 IsPlain SomeLeave what.Accuse = ⊥
 IsPlain SomeLeave what.Nack = ⊥

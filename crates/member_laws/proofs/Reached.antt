@@ -53,7 +53,7 @@ use Rattle.member_laws.proofs.Runs.{IsKept, run_kept, run_rows, opened}
 abbrev pub Below : Setup → ℕ → Type 0
 Below s q = q < member_count s
 
--- what a ping to a suspect tells
+-- the suspicion that a ping to a suspect carries
 abbrev told_by : ℕ → ℕ → ℕ → Update
 told_by to inc first = record { subject = to; claim = Suspect; inc = inc; accuser = first }
 

@@ -132,7 +132,7 @@ pub fn what_is_off_is_not_done()
         → buddy_of s to t ≡ None }
 {}
 
-/// What a welcome holds, and a push and a pull, is told in the sender's own name: the sender is the
+/// What a welcome holds, and a push and a pull, is sent in the sender's own name: the sender is the
 /// accuser of each entry. The entries come in the order of the members' numbers, one for a member.
 pub fn a_whole_table_is_sent_in_ones_own_name()
     ensures accuser { (me incarnation : ℕ) (table : Known)
@@ -183,7 +183,7 @@ pub fn a_run_names_members()
         → Run (step s) s.end (opening s) keys rows w → All (NamesMembers s) rows }
 {}
 
-/// No row of a run tells of a mechanism of Lifeguard that is switched off.
+/// No row of a run is about a mechanism of Lifeguard that is switched off.
 pub fn a_run_has_rows_only_of_what_is_on()
     ensures { (s : Setup) (keys : List Key) (rows : List Row) (w : Cluster) → IsSound s
         → Run (step s) s.end (opening s) keys rows w → All (λ (row : Row). IsOn s row.what) rows }
@@ -203,7 +203,7 @@ pub fn a_run_keeps_moments_in_range()
 {}
 
 /// Where nobody leaves, as in each scenario of the format's first version, no run has a leave or a bye
-/// among its events, and no row tells of one. By the papers' rules the step on all other events is that of
+/// among its events, and no row records one. By the papers' rules the step on all other events is that of
 /// the first version, and so the runs are the same.
 pub fn where_nobody_leaves_runs_are_plain()
     ensures step { (s : Setup) → profile_of s ≡ Papers → (k : Key) (c : EventKind) (t : State) → c ≢ Leave → c ≢ Bye

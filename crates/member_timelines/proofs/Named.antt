@@ -5,10 +5,10 @@ use Rattle.std.proofs.lemmas.List.Elements.{All-nil, All-cons, All-head, All-tai
 use Rattle.scenario.specs.Setup.{Setup, member_count}
 use Rattle.trace.specs.Text.{NamesMembers}
 use Rattle.trace.specs.declared.row.Row.{Row}
-use Rattle.series.specs.declared.lines.Line.{Line}
+use Rattle.series.specs.declared.lines.TraceLine.{TraceLine}
 use Rattle.series.specs.Lines.{line_at, lines_from, lines_of}
 
-abbrev IsNamed : Setup → Line → Type 0
+abbrev IsNamed : Setup → TraceLine → Type 0
 IsNamed s line = line.member < member_count s
 
 named_from : (s : Setup) (number : ℕ) (test : Row → Bool) (rows : List Row) → All (NamesMembers s) rows → All (IsNamed s) (lines_from number test rows)
@@ -16,11 +16,11 @@ named_from s number test [] named = All-nil (IsNamed s)
 named_from s number test (row ∷ rows) named =
     one (test row) (lines_from (number + 1) test rows) (All-head (NamesMembers s) row rows named).member (named_from s (number + 1) test rows (All-tail (NamesMembers s) row rows named))
   where
-    one : (keep : Bool) (lines : List Line) → row.member < member_count s → All (IsNamed s) lines → All (IsNamed s) (cond keep (line_at number row ∷ lines) lines)
+    one : (keep : Bool) (lines : List TraceLine) → row.member < member_count s → All (IsNamed s) lines → All (IsNamed s) (cond keep (line_at number row ∷ lines) lines)
     one true lines here later = All-cons (IsNamed s) (line_at number row) lines here later
     one false lines here later = later
 
-first_is : (s : Setup) (lines : List Line) → All (IsNamed s) lines → IfSome (slice_get lines 0) (λ line. line.member < member_count s)
+first_is : (s : Setup) (lines : List TraceLine) → All (IsNamed s) lines → IfSome (slice_get lines 0) (λ line. line.member < member_count s)
 first_is s [] all = tt
 first_is s (line ∷ lines) all = All-head (IsNamed s) line lines all
 

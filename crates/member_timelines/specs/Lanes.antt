@@ -93,7 +93,7 @@ marks s rows member =
     start_rule s (start_of s member) ++ departure_rule (codes "crash") s (crash_of s member) ++ departure_rule (codes "leave") s (leave_of s member)
     ++ flat_map (back_rule s rows member) (range_with_len 0 (span_count s)) ++ flat_map (refute_dot s rows member) (range_with_len 0 (span_count s))
 
--- what a screen reader is told of a lane
+-- the description of a lane for a screen reader
 abbrev pub lane_description : List ℕ
 lane_description = codes "Over time, how many other members suspect it and how many have declared it dead."
 

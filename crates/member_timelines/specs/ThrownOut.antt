@@ -4,7 +4,7 @@ use Rattle.scenario.specs.Setup.{Setup, name_of}
 use Rattle.trace.specs.declared.row.What.TheVariants as what
 use Rattle.trace.specs.declared.row.Row.{Row}
 use Rattle.reports.specs.Rows.{tells_of}
-use Rattle.series.specs.declared.lines.Line.{Line}
+use Rattle.series.specs.declared.lines.TraceLine.{TraceLine}
 use Rattle.drawing.specs.Numbers.{grouped}
 use Rattle.drawing.specs.Escaped.{escaped}
 use Rattle.drawing.specs.Shapes.{figure_opening, figure_end}
@@ -15,7 +15,7 @@ use Rattle.drawing.specs.Lengths.{time_alone}
 use Rattle.ticks.specs.declared.tick.Tick.{Tick}
 
 -- when a claim was made, by whom, and on which line it stands
-unfoldable pub claim_cells : Option Tick → Setup → Option Line → List ℕ
+unfoldable pub claim_cells : Option Tick → Setup → Option TraceLine → List ℕ
 claim_cells time s None = codes "<td>-<td>-<td>-"
 claim_cells time s (Some line) = codes "<td>" ++ time_alone time line.at ++ codes "<td>" ++ escaped (name_of s line.member) ++ codes "<td>" ++ decimal line.number
 
@@ -24,7 +24,7 @@ abbrev pub cell : ℕ → List ℕ
 cell number = codes "<td>" ++ grouped number
 
 -- the first cells of a row: of whom it is, and who first declared it dead
-unfoldable pub first_cells : Option Tick → Setup → ℕ → Option Line → List ℕ
+unfoldable pub first_cells : Option Tick → Setup → ℕ → Option TraceLine → List ℕ
 first_cells time s member first = codes "<tr><td>" ++ escaped (name_of s member) ++ claim_cells time s first
 
 -- the row of a member with so many false deaths

@@ -6,7 +6,7 @@ use Rattle.scenario.specs.Setup.{Setup, leave_of}
 use Rattle.trace.specs.declared.row.Row.{Row}
 use Rattle.trace.specs.declared.row.What.TheVariants as what
 use Rattle.reports.specs.Rows.{rows_in_place, tells_of}
-use Rattle.series.specs.declared.lines.Line.{Line}
+use Rattle.series.specs.declared.lines.TraceLine.{TraceLine}
 use Rattle.series.specs.Spans.{span_count}
 use Rattle.series.specs.Lines.{lines_of}
 use Rattle.series.specs.Stories.{revives_in}
@@ -17,7 +17,7 @@ use Rattle.drawing.specs.Lengths.{time_text}
 use Rattle.ticks.specs.declared.tick.Tick.{Tick}
 
 -- when the member was first declared dead, after some words
-abbrev pub from_first : Option Tick → List ℕ → Option Line → List ℕ
+abbrev pub from_first : Option Tick → List ℕ → Option TraceLine → List ℕ
 from_first time words first = option_map_or (λ line. words ++ time_text time line.at) first []
 
 -- how often others declared the member alive again, as far as 64 bits hold it
@@ -37,7 +37,7 @@ unfoldable pub death_words : ℕ → List ℕ
 death_words times = codes "<b>" ++ grouped times ++ by_number times (codes " false death</b>") (codes " false deaths</b>")
 
 -- the same, when they first did, and how often they declared it alive again
-unfoldable pub wrongly_words : Option Tick → ℕ → ℕ → Option Line → List ℕ
+unfoldable pub wrongly_words : Option Tick → ℕ → ℕ → Option TraceLine → List ℕ
 wrongly_words time times back first = death_words times ++ from_first time (codes ", first at ") first ++ back_words back
 
 -- how and when it departed, after other words or alone
@@ -49,31 +49,31 @@ unfoldable pub found_at : Option Tick → ℕ → List ℕ
 found_at time at = codes ", first declared dead at " ++ time_text time at
 
 -- the same, where they did
-abbrev pub found_words : Option Tick → Option Line → List ℕ
+abbrev pub found_words : Option Tick → Option TraceLine → List ℕ
 found_words time (Some line) = found_at time line.at
 found_words time None = codes ", never declared dead"
 
 -- what became of a member that neither departed nor has a false death
-unfoldable pub unharmed_words : Option Line → List ℕ
+unfoldable pub unharmed_words : Option TraceLine → List ℕ
 unharmed_words (Some line) = codes "suspected, and refuted it"
 unharmed_words None = codes "never declared dead"
 
 -- its false deaths, where it has some
-abbrev pub out_words : Option Tick → ℕ → ℕ → Option Line → List ℕ
+abbrev pub out_words : Option Tick → ℕ → ℕ → Option TraceLine → List ℕ
 out_words time times back first = if nat_lt 0 times then wrongly_words time times back first else []
 
 -- how it departed and when others declared it dead, after other words or alone; what became of it where it did neither crash nor leave
-unfoldable pub departed_words : Option Tick → Bool → Option Line → Option Line → Option ℕ → Option ℕ → List ℕ
+unfoldable pub departed_words : Option Tick → Bool → Option TraceLine → Option TraceLine → Option ℕ → Option ℕ → List ℕ
 departed_words time out first last (Some at) leave = departure_words time out (codes "crashed at ") at ++ found_words time first
 departed_words time out first last None (Some at) = departure_words time out (codes "left at ") at ++ found_words time first
 departed_words time true first last None None = []
 departed_words time false first last None None = unharmed_words last
 
 -- the first row that confirms that the member failed, and the last by which it refuted what was said of it
-abbrev pub first_confirm : List Row → ℕ → Option Line
+abbrev pub first_confirm : List Row → ℕ → Option TraceLine
 first_confirm rows member = slice_get (lines_of (tells_of what.Confirm member) rows) 0
 
-abbrev pub last_refute : List Row → ℕ → Option Line
+abbrev pub last_refute : List Row → ℕ → Option TraceLine
 last_refute rows member = last_or None (lines_of (tells_of what.Refute member) rows)
 
 -- what happened by the end to a member with so many false deaths

@@ -11,7 +11,7 @@ use crate::counts::heights;
 use base::{MemberId, Memory, Moment};
 use reports::Tallies;
 use scenario::Scenario;
-use series::{Line, Series, Story};
+use series::{Series, Story, TraceLine};
 use std::alloc::Global;
 use ticks::Tick;
 
@@ -103,7 +103,7 @@ impl<'a> Run<'a> {
         count as usize
     }
 
-    /// What is told of a member.
+    /// The story of a member.
     pub fn story(&self, member: MemberId) -> &'a Story
         requires told { IsTold self.now }
         requires within { member < member_count self.now.scenario.now }
@@ -115,7 +115,7 @@ impl<'a> Run<'a> {
     }
 
     /// The first row that confirms that the member failed.
-    pub fn first_confirm(&self, member: MemberId) -> Option<Line>
+    pub fn first_confirm(&self, member: MemberId) -> Option<TraceLine>
         requires told { IsTold self.now }
         requires within { member < member_count self.now.scenario.now }
         ensures value { result ≡ first_confirm self.now.tallies.now member }
@@ -125,7 +125,7 @@ impl<'a> Run<'a> {
     }
 
     /// The last row by which the member refuted what was said of it.
-    pub fn last_refute(&self, member: MemberId) -> Option<Line>
+    pub fn last_refute(&self, member: MemberId) -> Option<TraceLine>
         requires told { IsTold self.now }
         requires within { member < member_count self.now.scenario.now }
         ensures { result ≡ last_refute self.now.tallies.now member }

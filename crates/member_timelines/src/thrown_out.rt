@@ -10,7 +10,7 @@ use crate::run::Run;
 use crate::told::times_back;
 use base::MemberId;
 use drawing::{close_figure, open_figure, push_escaped, push_grouped, push_time_alone};
-use series::Line;
+use series::TraceLine;
 use std::alloc::AllocError;
 use ticks::Tick;
 
@@ -95,7 +95,7 @@ fn push_first_cells(
     text: &mut String,
     run: &Run,
     member: MemberId,
-    first: Option<Line>,
+    first: Option<TraceLine>,
 ) -> Result<(), AllocError>
     requires within { member < member_count run.now.scenario.now }
     requires named { IfSome first (λ line. line.member < member_count run.now.scenario.now) }
@@ -116,7 +116,7 @@ fn push_cell(text: &mut String, number: u64) -> Result<(), AllocError>
 
 /// Appends when a claim was made, by whom, and where it stands.
 #[tactic(auto, unfolding(crate::specs::ThrownOut::claim_cells))]
-fn push_claim(text: &mut String, run: &Run, claim: Option<Line>) -> Result<(), AllocError>
+fn push_claim(text: &mut String, run: &Run, claim: Option<TraceLine>) -> Result<(), AllocError>
     requires { IfSome claim (λ line. line.member < member_count run.now.scenario.now) }
     ensures { OnOk result (string_bytes text.new ≡ string_bytes text.old ++ claim_cells run.now.tick run.now.scenario.now claim) }
 {

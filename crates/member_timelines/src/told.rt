@@ -14,7 +14,7 @@ use crate::numbers::by_number;
 use crate::run::Run;
 use base::{MemberId, Moment};
 use drawing::{push_grouped, push_timed};
-use series::Line;
+use series::TraceLine;
 use std::alloc::AllocError;
 use ticks::Tick;
 
@@ -72,7 +72,7 @@ fn push_out(
     time: Option<Tick>,
     times: u64,
     back: u64,
-    first: Option<Line>,
+    first: Option<TraceLine>,
 ) -> Result<(), AllocError>
     ensures { OnOk result (string_bytes text.new ≡ string_bytes text.old ++ out_words time times back first) }
 {
@@ -89,8 +89,8 @@ fn push_departed(
     text: &mut String,
     time: Option<Tick>,
     is_out: bool,
-    first: Option<Line>,
-    last: Option<Line>,
+    first: Option<TraceLine>,
+    last: Option<TraceLine>,
     crash: Option<Moment>,
     leave: Option<Moment>,
 ) -> Result<(), AllocError>
@@ -118,7 +118,7 @@ fn push_wrongly(
     time: Option<Tick>,
     times: u64,
     back: u64,
-    first: Option<Line>,
+    first: Option<TraceLine>,
 ) -> Result<(), AllocError>
     ensures { OnOk result (string_bytes text.new ≡ string_bytes text.old ++ wrongly_words time times back first) }
 {
@@ -139,7 +139,11 @@ fn push_deaths(text: &mut String, times: u64) -> Result<(), AllocError>
 }
 
 /// Appends when the member was first declared dead, where it was.
-fn push_first(text: &mut String, time: Option<Tick>, first: Option<Line>) -> Result<(), AllocError>
+fn push_first(
+    text: &mut String,
+    time: Option<Tick>,
+    first: Option<TraceLine>,
+) -> Result<(), AllocError>
     ensures { OnOk result (string_bytes text.new ≡ string_bytes text.old ++ from_first time (codes ", first at ") first) }
 {
     match first {
@@ -191,7 +195,11 @@ fn push_departure(
 }
 
 /// Appends when others first declared a member dead that crashed or left.
-fn push_found(text: &mut String, time: Option<Tick>, first: Option<Line>) -> Result<(), AllocError>
+fn push_found(
+    text: &mut String,
+    time: Option<Tick>,
+    first: Option<TraceLine>,
+) -> Result<(), AllocError>
     ensures { OnOk result (string_bytes text.new ≡ string_bytes text.old ++ found_words time first) }
 {
     match first {
@@ -212,7 +220,7 @@ fn push_found_at(text: &mut String, time: Option<Tick>, at: u64) -> Result<(), A
 
 /// Appends what became of a member that neither departed nor has a false death.
 #[tactic(auto, unfolding(crate::specs::Told::unharmed_words))]
-fn push_unharmed(text: &mut String, last: Option<Line>) -> Result<(), AllocError>
+fn push_unharmed(text: &mut String, last: Option<TraceLine>) -> Result<(), AllocError>
     ensures { OnOk result (string_bytes text.new ≡ string_bytes text.old ++ unharmed_words last) }
 {
     match last {

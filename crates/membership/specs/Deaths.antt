@@ -2,7 +2,7 @@
 use Rattle.std.specs.Prelude.{ℕ, nat_eq, if◌then◌else◌, slice_index}
 use Rattle.membership.specs.declared.deaths.Deaths.{Deaths}
 
--- the moment of the last Confirm of each, which tells something of those alone that the table holds so
+-- the moment of the last Confirm of each, which means something for those alone that the table holds so
 abbrev pub Since : Type 0
 Since = ℕ → ℕ
 

@@ -1,5 +1,5 @@
 //! The candidates from which a member draws some others, and the rule by which each may be taken: who is held alive, or
-//! anybody but those who have been held dead for some time (memberlist's rules).
+//! anybody but those who were declared dead some time ago (memberlist's rules).
 ghost use Rattle.std.specs.Prelude.{◌≡◌, ◌^◌, ◌+◌, ◌<◌, ◌≤◌, ◌++◌, ℕ, List, map, length, nat_le, OnOk};
 ghost use Rattle.membership.specs.Columns.{entries_from};
 ghost use Rattle.membership.specs.Deaths.{since_of};

@@ -25,7 +25,7 @@ module _ (s : Setup) (rows tallied : List Row) (held_old held_new : Option (List
       (λ is. elim (first_either own fault) [ inl e ↦ ap Err (sym e ∙ is) | inr e ↦ absurd (may.1 (sym e ∙ is)) ])
       (λ is. ap (λ f. sink_failures {T = Unit {0}} (Err f)) (first_relay own fault is).0)
 
--- what was gathered is what all rows tell
+-- what was gathered is what all rows report
 pub gathers : (gathered : List Row → Type 0) (outcome : Result (Unit {0}) Fault) (tallied : List Row) (result : Result (List Row) Fault) → OnOk outcome (gathered tallied)
     → IfOk result (λ all. (outcome ≡ Ok tt) × (all ≡ tallied)) → IfOk result gathered
 gathers gathered outcome tallied (Ok all) has ok = subst gathered (sym ok.1) (subst (λ o. OnOk o (gathered tallied)) ok.0 has)

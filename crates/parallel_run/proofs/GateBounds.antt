@@ -1,4 +1,4 @@
--- What a gate is told of a run's windows, by what it goes by.
+-- A gate that allows for all windows of a scenario's run allows for those of its rounds.
 use Rattle.std.proofs.Common.{◌≡◌, ℕ, ◌+◌, List, length, sym, subst, refl}
 use Rattle.scenario.specs.Setup.{Setup}
 use Rattle.scenario.specs.Division.{Deal}

@@ -59,7 +59,7 @@ least_more own first next ms m so_far lesser t = (
       (old.0, all_append (λ (n : Message). IsUpTo n.least t) ms (m ∷ []) old.1 (two.1, tt)),
 )
 
--- the word that a peer told is a message of its part
+-- the message that a peer sent is one of its part
 word_here : (basis : Basis) (word : WindowMessage) (from to round : ℕ) → IsWord basis word → (word.from ≡ from) × (word.to ≡ to) × (word.round ≡ round)
     → IsMessage (plan_of basis) from to round (map pair_of word.events.items) word.least
 word_here basis word from to round is place =
@@ -71,7 +71,7 @@ word_here basis word from to round is place =
 
 module _ {Q : Type 0} (set : Q → FinMap key_cmp Event) (basis : Basis) (own round : ℕ) (told : Option ℕ) (numbers : List ℕ) where
   -- Of the others with these numbers all have been heard but those that are left: the part is as its window left it, with all
-  -- that came, and this is the least moment of all that was told.
+  -- that came, and this is the least moment of all that was sent.
   pub record HasHeard (left : List ℕ) (part : Part Q) (first : Option ℕ) : Type 0 where
     pub window : Window State EventKind Row
     pub named : window.part ≡ own

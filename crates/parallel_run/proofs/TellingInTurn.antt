@@ -1,4 +1,4 @@
--- Peers that are told, or heard, one after the other.
+-- Peers to which messages are sent, or which are heard, one after the other.
 use Rattle.std.proofs.Common.{◌≡◌, ◌≢◌, ℕ, ◌+◌, ◌<◌, ◌≤◌, List, [], ◌∷◌, ◌++◌, map, length, get_or, take, drop, slice_set, ap, ◌∙◌, sym, subst, refl}
 use Rattle.std.specs.List.{AllByRecursion, slice_get}
 use Rattle.std.proofs.Math.ListN.{drop_of_length-le}

@@ -25,7 +25,7 @@ dealt_pairs None es is = absurd (false≢true (ap is_some is))
 dealt_pairs (Some list) es is = same_Some (map pair_of list) es is
 
 module _ {Q : Type 0} (set : Q → FinMap key_cmp Event) (basis : Basis) (own round : ℕ) (ran : Ran Q) (has : HasRanRound set basis own round ran) where
-  -- each list of the window is what the other part may be told
+  -- each list of the window is what may be sent to the other part
   pub can_tell : CanTell basis own round ran.least (map (λ list. list.items) ran.out.items)
   can_tell to low other = record {
     window = has.window;
@@ -40,7 +40,7 @@ module _ {Q : Type 0} (set : Q → FinMap key_cmp Event) (basis : Basis) (own ro
   pub after_window : AfterWindow set basis own round ran.least ran.part
   after_window = record { window = has.window; own = has.own; runs = has.runs; after = has.after; least_is = has.least }
 
--- the list of the next one to be told, which still stands as it was, goes to that one
+-- the list for the next peer, which still stands as it was, is sent to that one
 pub next_told : {A V : Type 0} (number : A → ℕ) (items : V → List Event) (basis : Basis) (own round : ℕ) (least : Option ℕ) (before lists : List V) (peers : List A) (numbers : List ℕ) (i : ℕ) (d : A)
     → CanTell basis own round least (map items before) → AreOthers basis.deal.parts own numbers → map number peers ≡ numbers → i < length peers
     → (IsRising (λ m n. m ≢ n) numbers → AreUntouched before lists (drop i numbers))

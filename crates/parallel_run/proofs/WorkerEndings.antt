@@ -32,7 +32,7 @@ ends_by_relay basis = (λ is. absurd (overflow≢relay (sym is)), λ is. write�
 pub ends_by_memory : (basis : Basis) → MayEndBy basis fault.Memory
 ends_by_memory basis = (λ is. absurd (memory≢overflow is), memory≢write)
 
--- the fault of a window, where a counter that it wears out the run wears out
+-- the fault of a window, where a counter that overflows in it overflows in the run
 pub ends_by_window : (basis : Basis) (f : Fault) (Wears : Type 0) → (Wears → CounterOverflows basis.setup) → (f ≡ fault.Memory) ⊎ ((f ≡ fault.CounterOverflow) × Wears) → MayEndBy basis f
 ends_by_window basis f Wears so (inl is) = subst (MayEndBy basis) (sym is) (ends_by_memory basis)
 ends_by_window basis f Wears so (inr overflow) = (λ is. so overflow.1, λ write. overflow≢write (sym overflow.0 ∙ write))

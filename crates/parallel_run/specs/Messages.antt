@@ -12,7 +12,7 @@ use Rattle.parallel_run.specs.declared.row_batch.RowBatch.{RowBatch}
 use Rattle.parallel_run.specs.declared.row_batch.Delivery.{Delivery}
 use Rattle.lookahead_windows.specs.Basis.{Basis, division_of, plan_of}
 
--- a fault by which a worker may end: it tells of a worn counter only where the run wears one out, and writes nothing
+-- a fault by which a worker may end: it is a counter overflow only where the run has one, and it is no failed write
 abbrev pub MayEndBy : Basis → Fault → Type 0
 MayEndBy basis f = (f ≡ fault.CounterOverflow → CounterOverflows basis.setup) × (f ≢ fault.Write)
 
@@ -20,7 +20,7 @@ MayEndBy basis f = (f ≡ fault.CounterOverflow → CounterOverflows basis.setup
 abbrev pub IsWord : Basis → WindowMessage → Type 0
 IsWord basis w = IsMessage (plan_of basis) w.from w.to w.round (map pair_of w.events.items) w.least
 
--- one worker may tell this another
+-- one worker may send this to another
 abbrev pub IsTold : Basis → PeerMessage → Type 0
 IsTold basis (PeerMessage.WindowMessage w) = IsWord basis w
 IsTold basis (PeerMessage.Ended f) = MayEndBy basis f

@@ -23,7 +23,7 @@ module _ {K Q : Type 0} {G : Ghosts K} (set : Q → FinMap key_cmp Event) (basis
     pub gathered : GathersSoFar basis process.lines.number process.round process.gathered
     pub lines : AreLines basis process.lines
 
-  -- The process has run its window of a round and told the others of it.
+  -- The process has run its window of a round and sent the others its messages.
   pub record IsWaiting (process : Waiting K Q G) : Type 0 where
     pub from : process.told.from ≡ process.lines.number
     pub next : process.next ≡ process.told.round + 1

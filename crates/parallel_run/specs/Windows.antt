@@ -45,7 +45,7 @@ module _ {Q : Type 0} (set : Q → FinMap key_cmp Event) where
   abbrev pub Begins : Basis → ℕ → ℕ → Option ℕ → Part Q → Type 0
   Begins basis number round first part = BeginsRound (plan_of basis) number round first (world_of set part)
 
--- what a worker tells each other of the round: the list of its events, and the least moment
+-- what a worker sends each other one in the round: the list of its events, and the least moment
 abbrev pub CanTell : Basis → ℕ → ℕ → Option ℕ → List (List Event) → Type 0
 CanTell basis own round least lists = (to : ℕ) → to < basis.deal.parts → to ≢ own
     → IsMessage (plan_of basis) own to round (map pair_of (unwrap_or (slice_get lists to) [])) least

@@ -19,7 +19,7 @@ HasComeTo basis t rows = AreRowsBefore basis.setup t rows
 abbrev pub GoesAsFar : RowBatch → MergedBatch → Type 0
 GoesAsFar lot turn = (lot.until ≡ turn.until) × (lot.round ≡ turn.round) × (lot.last ≡ turn.last)
 
--- The turn's rows are the next of the run, from that moment on; where it is the last, they are the rest, and no counter was worn out.
+-- The turn's rows are the next of the run, from that moment on; where it is the last, they are the rest, and there was no counter overflow.
 pub record IsNextTurn (basis : Basis) (since : ℕ) (turn : MergedBatch) : Type 0 where
   pub next : (before : List Row) → HasComeTo basis since before → HasComeTo basis turn.until (before ++ turn.rows.items)
   pub whole : OnTrue turn.last ((before : List Row) → HasComeTo basis since before → IsRunOf basis.setup (before ++ turn.rows.items))

@@ -55,7 +55,7 @@ impl<'b, K: OfRun> BatchReceiver<'b, K> {
         self.is_open
     }
 
-    /// Nothing more is to come: its part has ended, and has told it in another way.
+    /// Nothing more is to come: its part has ended, and has reported that in another way.
     pub(crate) fn give_up(&mut self) {
         self.is_open = false;
     }

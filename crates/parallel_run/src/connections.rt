@@ -31,10 +31,10 @@ pub struct Connections<'b, K: OfRun> {
 }
 
 impl<'b, K: OfRun> Connections<'b, K> {
-    /// Tells the others what the window gave, and how often the worker has slept: the part, and what
-    /// was told.
+    /// Sends the others what the window gave, and how often the worker has slept. Returns the part, and what
+    /// was sent.
     ///
-    /// Faults: `Memory`; `ThreadLost` where another can't be told.
+    /// Faults: `Memory`; `ThreadLost` where a message can't be sent.
     pub(crate) fn tell<Q: EventQueue<Event> + Drop>(
         &mut self,
         alloc: Global,
@@ -99,7 +99,7 @@ impl<'b, K: OfRun> Connections<'b, K> {
         Err(Fault::ThreadLost)
     }
 
-    /// Tells the other processes that this one has ended by the fault.
+    /// Reports to the other processes that this one has ended by the fault.
     pub(crate) fn tell_others(&mut self, fault: Fault)
         requires { (basis : Basis) → K.basis ≡ Some basis → MayEndBy basis fault }
     {
@@ -108,7 +108,7 @@ impl<'b, K: OfRun> Connections<'b, K> {
         }
     }
 
-    /// Tells all that this process has ended by the fault, who writes too.
+    /// Reports to all, also to who writes, that this process has ended by the fault.
     pub(crate) fn tell_end(&mut self, rt: &impl Wait, fault: Fault)
         requires { (basis : Basis) → K.basis ≡ Some basis → MayEndBy basis fault }
     {

@@ -24,7 +24,7 @@ use std::sync::Wait;
 use windows::Part;
 use worker_queue::EventQueue;
 
-/// What a process knows once all have told of a round.
+/// What a process knows once the messages of all others in a round have come.
 #[derive(Drop)]
 pub(crate) struct WindowResult {
     /// The first moment that pends anywhere.
@@ -35,7 +35,7 @@ pub(crate) struct WindowResult {
     pub(crate) slept: u64,
 }
 
-/// Tells each other process of a round.
+/// Sends each other process its message of a round.
 pub(crate) fn tell_all<'b, K: OfRun>(
     alloc: Global,
     peers: &mut Vec<Peer<'b, K>>,

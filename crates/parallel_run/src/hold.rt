@@ -95,7 +95,7 @@ impl<'b, K: OfRun, Q: EventQueue<Event> + Drop> Hold<'b, K, Q> {
     /// Runs a round of all that it holds: those that come to the end leave. What all did in it.
     ///
     /// Faults: `Memory`; `CounterOverflow` where a counter would pass 2^63; those by which others ended; `ThreadLost`
-    /// where something is lost. Who met one has told it.
+    /// where something is lost. Who met one has sent it to the others.
     pub(crate) fn run_round<'p, J: Site, G: Gate>(
         &mut self,
         rt: &impl Wait,
@@ -119,7 +119,7 @@ impl<'b, K: OfRun, Q: EventQueue<Event> + Drop> Hold<'b, K, Q> {
         self.hear(rt, patience, rounds)
     }
 
-    /// Lets each process run its window, and tell the others of it. One of them tells how often the
+    /// Lets each process run its window, and send the others what it gave. One of them also sends how often the
     /// worker has slept.
     fn run_windows<'p, J: Site, G: Gate>(
         &mut self,
@@ -173,7 +173,7 @@ impl<'b, K: OfRun, Q: EventQueue<Event> + Drop> Hold<'b, K, Q> {
         Ok(counts)
     }
 
-    /// Tells all others that what it holds has ended by the fault.
+    /// Reports to all others that what it holds has ended by the fault.
     pub(crate) fn tell_end(&mut self, rt: &impl Wait, fault: Fault)
         requires { (basis : Basis) → K.basis ≡ Some basis → MayEndBy basis fault }
     {
@@ -186,8 +186,8 @@ impl<'b, K: OfRun, Q: EventQueue<Event> + Drop> Hold<'b, K, Q> {
     }
 }
 
-/// Tells the gate of the process and how far its window goes, runs that window, and lets it tell the
-/// others. Where nothing is left up to the end it sends its last rows instead, and its lines go to the
+/// Calls the gate with the process and how far its window goes, runs that window, and lets it send the
+/// others its messages. Where nothing is left up to the end it sends its last rows instead, and its lines go to the
 /// board: then nothing waits.
 fn run_process<'p, 'b, K: OfRun, Q: EventQueue<Event> + Drop, J: Site, G: Gate>(
     rt: &impl Wait,
@@ -238,7 +238,7 @@ pub(crate) fn deal<'p, 'b, K: OfRun, Q: EventQueue<Event> + Drop, J: Site>(
     }
 }
 
-/// Tells all that a process which could not be dealt has ended.
+/// Reports to all that a process which could not be dealt has ended.
 fn tell_lost<'b, K: OfRun, Q: EventQueue<Event> + Drop>(rt: &impl Wait, item: BoardItem<'b, K, Q>) {
     match item {
         BoardItem::Process(process) => {

@@ -34,7 +34,7 @@ pub(crate) struct Peer<'b, K: OfRun> {
     spent: Vec<Event>,
 }
 
-/// What a process tells each other of its round.
+/// What a process sends each other one about its round.
 #[derive(Drop)]
 pub(crate) struct WindowSummary {
     pub(crate) from: usize,
@@ -96,7 +96,7 @@ fn joined_peers<'b, K: OfRun>(
 }
 
 impl<'b, K: OfRun> Peer<'b, K> {
-    /// Tells the other process of a round. False where it can't be told.
+    /// Sends the other process its message of a round. False where it can't be sent.
     pub(crate) fn tell(
         &mut self,
         alloc: Global,
@@ -130,7 +130,7 @@ impl<'b, K: OfRun> Peer<'b, K> {
         self.spent = spent;
     }
 
-    /// Tells the other process that this one has ended by the fault.
+    /// Reports to the other process that this one has ended by the fault.
     pub(crate) fn tell_end(&mut self, fault: Fault)
         requires { (basis : Basis) → K.basis ≡ Some basis → MayEndBy basis fault }
         ensures number { self.new.number ≡ self.old.number }
@@ -138,9 +138,9 @@ impl<'b, K: OfRun> Peer<'b, K> {
         let _ = self.to.send_at_once(PeerMessage::Ended(fault));
     }
 
-    /// What the other process tells of the round.
+    /// What the other process sends in the round.
     ///
-    /// Faults: that by which it ended, `ThreadLost` where it tells of anything else.
+    /// Faults: that by which it ended, `ThreadLost` where anything else or nothing comes.
     pub(crate) fn hear(
         &mut self,
         rt: &impl Wait,

@@ -34,7 +34,7 @@ pub struct Process<'b, K: OfRun, Q: EventQueue<Event>> {
     pub(crate) lines: Connections<'b, K>,
 }
 
-/// A process that has run its window of a round and told the others of it, and is to hear from them.
+/// A process that has run its window of a round and sent the others its messages, and is to hear from them.
 #[derive(Drop)]
 pub struct Waiting<'b, K: OfRun, Q: EventQueue<Event>> {
     part: Part<Q>,
@@ -79,10 +79,10 @@ impl<'b, K: OfRun, Q: EventQueue<Event> + Drop> Process<'b, K, Q> {
     }
 
     /// Runs the window of its part in the round, in which this is the first moment that pends, up to the
-    /// bound of which a gate was told, and tells the others, also how often its worker has slept.
+    /// bound that a gate got. Then it sends the others its messages, with how often its worker has slept.
     ///
-    /// Faults: `Memory`; `CounterOverflow` where a counter of the window would pass 2^63; `ThreadLost` where another
-    /// can't be told. All others are told of the fault.
+    /// Faults: `Memory`; `CounterOverflow` where a counter of the window would pass 2^63; `ThreadLost` where a message
+    /// can't be sent. The fault is sent to all others.
     pub(crate) fn run(
         self,
         rt: &impl Wait,
@@ -132,7 +132,7 @@ impl<'b, K: OfRun, Q: EventQueue<Event> + Drop> Process<'b, K, Q> {
 
     /// Sends the last rows, where nothing is left up to the end: its lines.
     ///
-    /// Faults: `Memory`; `ThreadLost` where nobody takes the rows. All others are told of the fault.
+    /// Faults: `Memory`; `ThreadLost` where nobody takes the rows. The fault is sent to all others.
     pub(crate) fn end(self, rt: &impl Wait, rounds: &Rounds) -> Result<Connections<'b, K>, Fault>
         requires rounds { GoBy rounds.now }
         requires run { K.basis ≡ Some (basis_of rounds.now) }
@@ -179,7 +179,7 @@ struct Window {
     slept: u64,
 }
 
-/// Runs the window of the part, and tells the others of it: the part then, and what was told.
+/// Runs the window of the part, and sends the others what it gave. Returns the part then, and what was sent.
 fn told<'b, K: OfRun, Q: EventQueue<Event> + Drop>(
     alloc: Global,
     part: Part<Q>,
@@ -209,8 +209,8 @@ impl<'b, K: OfRun, Q: EventQueue<Event> + Drop> Waiting<'b, K, Q> {
     /// Hears from the others, and sends rows where that is due: the process as it begins the next
     /// round, and what all did in this one.
     ///
-    /// Faults: `Memory`, those by which others ended, and `ThreadLost` where they tell of anything else or
-    /// nobody takes the rows. All others are told of the fault.
+    /// Faults: `Memory`, those by which others ended, and `ThreadLost` where anything else comes from them or
+    /// nobody takes the rows. The fault is sent to all others.
     pub(crate) fn hear(
         self,
         rt: &impl Wait,
@@ -260,7 +260,7 @@ impl<'b, K: OfRun, Q: EventQueue<Event> + Drop> Waiting<'b, K, Q> {
         }
     }
 
-    /// Tells all others that the process has ended by the fault.
+    /// Reports to all others that the process has ended by the fault.
     pub(crate) fn tell_end(&mut self, rt: &impl Wait, fault: Fault)
         requires { (basis : _) → K.basis ≡ Some basis → MayEndBy basis fault }
     {
@@ -277,7 +277,7 @@ struct Due {
     common: Moment,
 }
 
-/// Hears from the others of the round of which they were told, and sends a lot where one is due.
+/// Receives the others' messages of the round in which it sent its own, and sends a batch where one is due.
 fn heard<'b, K: OfRun, Q: EventQueue<Event> + Drop>(
     rt: &impl Wait,
     patience: &mut SpinPolicy,

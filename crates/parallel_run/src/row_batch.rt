@@ -26,7 +26,7 @@ pub struct RowBatch {
 #[derive(Drop)]
 pub enum Delivery {
     RowBatch(RowBatch),
-    /// The worker has ended, since it found this fault or was told of it.
+    /// The worker has ended, since it found this fault or received it.
     Ended(Fault),
 }
 

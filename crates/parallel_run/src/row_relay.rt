@@ -6,7 +6,7 @@ ghost use Rattle.parallel_run.specs.Relays.{AreNewSeats, IsMadeFor};
 
 use crate::row_batch::Delivery;
 use base::Memory;
-use relay::{ItemRule, Relay, SendSeat, TakeSeat};
+use relay::{BatchRule, Relay, SendSeat, TakeSeat};
 use scenario::{Division, Scenario};
 use std::alloc::Global;
 use std::snapshot::Snapshot;
@@ -36,7 +36,7 @@ impl RunBasis {
 /// after the fault by which it ends.
 pub struct RowItems;
 
-impl ItemRule<Delivery, Delivery, RunBasis> for RowItems {
+impl BatchRule<Delivery, Delivery, RunBasis> for RowItems {
     ghost use Rattle.parallel_run.specs.Relaying.{basis_in, is_end};
     ghost use Rattle.parallel_run.specs.Messages.{IsDelivered};
 

@@ -59,8 +59,8 @@ use worker_queue::{EventQueue, WheelQueue};
 /// as are asked for, but no more than there are parts. It writes what `run_one` writes, whatever the
 /// division and the number of workers are: the trace, and once that is whole and its sink flushed the
 /// report, whose sink is flushed too. After a fault the sinks have got a beginning of that. An observer
-/// gathers of the rows what it does, as they come. Each worker tells the gate of each of its parts
-/// before it runs it in a round, and below which bound: its own, no later than the moment before which
+/// gathers of the rows what it does, as they come. Each worker calls the gate for each of its parts
+/// before it runs it in a round, with the bound of its window: its own, no later than the moment before which
 /// nothing can come to the part, and no earlier than one that would serve all parts. The sinks and the
 /// observer stay on the calling thread. It waits for its threads. `account` gets the relays of the run,
 /// as they were closed, and what was dealt and taken on its board. Returns the tallies of the rows.
@@ -91,7 +91,7 @@ pub fn run_by_rings<A: Sink, B: Sink, C: RowObserver, G: Gate, R: Threads + Wait
     // The sinks get exactly the trace of the scenario's run, and the report on it; after a fault a beginning of that.
     ensures promise { KeepsPromise A.held A.failed B.held B.failed scenario.now place.old.trace place.new.trace report.old report.new (summed result) }
 
-    // The rows of the run are tallied, and what was gathered is what they tell.
+    // The rows of the run are tallied, and what was gathered is what they report.
     ensures run { IfOk result (IsRunOf scenario.now) }
     ensures named { IfOk result (All (NamesMembers scenario.now)) }
     ensures gathered { IfOk result (C.has place.new.gathered scenario.now) }

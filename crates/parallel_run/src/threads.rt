@@ -148,7 +148,7 @@ fn call_off<'p, 'b, 'c, K: OfRun, Q: EventQueue<Event> + Drop, J: Site>(
     let _ = drained(rt, takers, fault);
 }
 
-/// Takes what lies on the board: the others are told that it has ended by the fault, and nothing more
+/// Takes what lies on the board. The others learn that it has ended by the fault, and nothing more
 /// comes from it. Its relay may be full, so nothing is sent over that.
 fn clear_own<'p, 'b, 'c, K: OfRun, Q: EventQueue<Event> + Drop, J: Site>(
     rt: &impl Wait,

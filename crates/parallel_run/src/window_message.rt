@@ -6,9 +6,9 @@ use member::Event;
 /// What one process sends another at the end of a round.
 #[derive(Drop)]
 pub struct WindowMessage {
-    /// The part of the process that tells it.
+    /// The part of the process that sends it.
     pub from: usize,
-    /// The part of the one that is told.
+    /// The part of the process that it is sent to.
     pub to: usize,
     /// The round, from 0.
     pub round: u64,
@@ -20,7 +20,7 @@ pub struct WindowMessage {
     pub least: Option<Moment>,
     /// How many rows the window wrote.
     pub rows: u64,
-    /// How often the worker that tells it has slept since its word before, while it waited for others.
+    /// How often the worker that sends it has slept since its message before, while it waited for others.
     pub slept: u64,
 }
 
@@ -28,6 +28,6 @@ pub struct WindowMessage {
 #[derive(Drop)]
 pub enum PeerMessage {
     WindowMessage(WindowMessage),
-    /// The process has ended, since its worker found this fault or was told of it.
+    /// The process has ended, since its worker found this fault or received it.
     Ended(Fault),
 }

@@ -60,7 +60,7 @@ pub(crate) fn work<'p, 'b, K: OfRun, Q: EventQueue<Event> + Drop, J: Site, G: Ga
     post
 }
 
-/// Takes what lies on the board of a run that has failed, and tells all that it has ended by the fault.
+/// Takes what lies on the board of a run that has failed, and reports to all that it has ended by the fault.
 fn clear<'p, 'b, K: OfRun, Q: EventQueue<Event> + Drop, J: Site>(
     rt: &impl Wait,
     post: &mut RunPost<'p, 'b, K, Q, J>,
@@ -84,7 +84,7 @@ fn clear<'p, 'b, K: OfRun, Q: EventQueue<Event> + Drop, J: Site>(
     unreachable!()
 }
 
-/// Runs the worker's share up to the end. Where it meets a fault all that it holds has told it.
+/// Runs the worker's share up to the end. After a fault, all that it holds has reported it to the others.
 fn run_share<'p, 'b, K: OfRun, Q: EventQueue<Event> + Drop, J: Site, G: Gate>(
     rt: &impl Wait,
     alloc: Global,

@@ -5,7 +5,7 @@ use Rattle.scenario.specs.Division.{Deal}
 use Rattle.partitioning.specs.Parts.{IsFolded, PutsTogether}
 use Rattle.partitioning.specs.Rounds.{IsLongRound, IsLeastWalkOf}
 
--- the share of each word in so many ticks, where each of so many parts tells each other one
+-- the share of each message in so many ticks, where each of so many parts sends each other one
 abbrev pub ticks_of_a_word : ℕ → ℕ → ℕ
 ticks_of_a_word ticks parts = ticks / parts / (parts - 1)
 

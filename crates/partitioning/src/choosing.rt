@@ -69,7 +69,7 @@ fn parts_that_pay(
     Ok(chosen.parts)
 }
 
-/// The parts that were asked for, where a round of theirs is long enough for each word that they tell
+/// The parts that were asked for, where a round of theirs is long enough for each message that they send
 /// each other in it; else fewer, each of which joins some of them.
 fn parts_as_asked(
     alloc: Global,

@@ -10,8 +10,8 @@ use scenario::{Division, Scenario};
 use std::alloc::Global;
 use windows::Cluster;
 
-/// How many events a round must have to be worth it: with fewer, telling each other what went out
-/// costs more time than several workers save (docs/PERFORMANCE.md).
+/// How many events a round must have to be worth it: with fewer, the messages on what went out
+/// cost more time than several workers save (docs/PERFORMANCE.md).
 const WORTH_TELLING: u64 = 6;
 
 /// How many ticks a round must have for so many events, where each member pings another one each

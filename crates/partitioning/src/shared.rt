@@ -51,7 +51,7 @@ pub fn run_shared<A: Sink, B: Sink, C: RowObserver, R: Threads + Wait + Sync>(
     // The sinks get exactly the trace of the scenario's run, and the report on it; after a fault a beginning of that.
     ensures promise { KeepsPromise A.held A.failed B.held B.failed scenario.now place.old.trace place.new.trace report.old report.new (summed result) }
 
-    // The rows of the run are tallied, and what was gathered is what they tell.
+    // The rows of the run are tallied, and what was gathered is what they report.
     ensures run { IfOk result (IsRunOf scenario.now) }
     ensures named { IfOk result (All (NamesMembers scenario.now)) }
     ensures gathered { IfOk result (C.has place.new.gathered scenario.now) }

@@ -197,7 +197,7 @@ all_get P [] i d h lt = absurd (omega arith)
 all_get P (x ∷ these) zero d h lt = h.0
 all_get P (x ∷ these) (suc i) d h lt = all_get P these i d h.1 (omega arith)
 
--- where an entry has its place, those before it are parted from the others
+-- where an entry has its place, those before it are separated from the others
 pub partitioned : (e : Counted) (these : List Counted) → IsInOrder these → IsPartitionedBy (λ it. not (goes_before e it)) these
 partitioned e [] h i j d le lt passes = absurd (omega arith)
 partitioned e (x ∷ these) h zero zero d le lt passes = passes

@@ -19,7 +19,7 @@ use Rattle.plain_document.specs.Keys.{kind_of, read_key}
 use Rattle.plain_document.specs.Order.{item_at, AreItemsOrdered, AreKeysOrdered}
 use Rattle.plain_document.specs.Pairs.{goes_both_ways, AddsPairs, AddsValue, AddsWay}
 use Rattle.plain_document.specs.Tree.{ways_of, ArePlainItems, IsPlainAt, IsPlainKey, IsPlainTable}
-use Rattle.plain_document.specs.declared.keys.ValueKind.{ValueKind}
+use Rattle.plain_document.specs.declared.keys.KeyKind.{KeyKind}
 use Rattle.plain_document.specs.declared.keys.Way.{Way}
 use Rattle.plain_document.specs.declared.keys.Way.TheVariants.{Straight, Turned}
 
@@ -65,7 +65,7 @@ has_key key d keys same = sym (list_any-IsPermutation (same_key key) (keys_of d)
 
 -- ---- the lines of keys in a row
 
-abbrev pub GivenIf : (tick : ℕ) → ValueKind → Bool → (read plain : Option Data) → Type 0
+abbrev pub GivenIf : (tick : ℕ) → KeyKind → Bool → (read plain : Option Data) → Type 0
 GivenIf tick kind true read plain = IsPlainAt tick kind read plain
 GivenIf tick kind false read plain = plain ≡ None
 
@@ -155,7 +155,7 @@ abbrev pub GivesTable : (tick : ℕ) → (section : List ℕ) → Way → Data �
 GivesTable tick section way d pairs =
     (key : List ℕ) → IsPlainKey tick (kind_of section key) (get key d) (get (read_key way key) d) (found key pairs)
 
-as_key : (tick : ℕ) (kind : ValueKind) (own read plain : Option Data) → GivenIf tick kind (is_some own) read plain → IsPlainKey tick kind own read plain
+as_key : (tick : ℕ) (kind : KeyKind) (own read plain : Option Data) → GivenIf tick kind (is_some own) read plain → IsPlainKey tick kind own read plain
 as_key tick kind None read plain given = given
 as_key tick kind (Some d) read plain given = given
 

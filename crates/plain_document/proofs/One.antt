@@ -9,14 +9,14 @@ use Rattle.plain_document.specs.Keys.{kind_of, read_key}
 use Rattle.plain_document.specs.Order.{Section}
 use Rattle.plain_document.specs.Pairs.{AddsItem, AddsPairs, AddsValue, AddsWay, goes_both_ways}
 use Rattle.plain_document.specs.declared.document.PlainParts.{PlainParts}
-use Rattle.plain_document.specs.declared.keys.ValueKind.{ValueKind}
+use Rattle.plain_document.specs.declared.keys.KeyKind.{KeyKind}
 use Rattle.plain_document.specs.declared.keys.Way.{Way}
 use Rattle.plain_document.specs.declared.keys.Way.TheVariants.{Straight, Turned}
 use Rattle.plain_document.proofs.Plain.{plain_is_one}
 
 -- ---- the lines of keys
 
-one_value : (tick : ℕ) (kind : ValueKind) (key : List ℕ) (d : Option Data) (before a b : List Expression) → 1 ≤ tick
+one_value : (tick : ℕ) (kind : KeyKind) (key : List ℕ) (d : Option Data) (before a b : List Expression) → 1 ≤ tick
     → AddsValue tick kind key d before a → AddsValue tick kind key d before b → a ≡ b
 one_value tick kind key None before a b some first second = first ∙ sym second
 one_value tick kind key (Some d) before a b some (inl x) (inl y) =

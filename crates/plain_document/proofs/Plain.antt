@@ -10,9 +10,9 @@ use Rattle.written_values.specs.declared.fault.ValueFault.TheVariants.{WrongKind
 use Rattle.written_values.proofs.Unique.{same_ticks}
 use Rattle.plain_document.specs.Pairs.{AddsPair, AddsPairs, AddsValue}
 use Rattle.plain_document.specs.Values.{IsNumber, IsOther, IsPlainOf}
-use Rattle.plain_document.specs.declared.keys.ValueKind.{ValueKind}
+use Rattle.plain_document.specs.declared.keys.KeyKind.{KeyKind}
 use Rattle.plain_document.specs.declared.keys.Way.{Way}
-use Rattle.plain_document.specs.declared.keys.ValueKind.TheVariants.{Ticks, Share, Plain, Gone}
+use Rattle.plain_document.specs.declared.keys.KeyKind.TheVariants.{Ticks, Share, Plain, Gone}
 
 -- ---- numbers
 
@@ -71,7 +71,7 @@ other_stays (datetime dt) plain again is more = absurd is
 other_stays (array ds) plain again is more = absurd is
 other_stays (table ms) plain again is more = absurd is
 
-pub plain_stays : (tick other : ℕ) (kind : ValueKind) (d plain again : Data) → IsPlainOf tick kind d plain → IsPlainOf other kind plain again → again ≡ plain
+pub plain_stays : (tick other : ℕ) (kind : KeyKind) (d plain again : Data) → IsPlainOf tick kind d plain → IsPlainOf other kind plain again → again ≡ plain
 plain_stays tick other Ticks d plain again is more = numbered_stays is.0 9223372036854775807 other plain again is.3 more
 plain_stays tick other Share d plain again is more = shared_stays is.0 1000000 plain again is.3 more
 plain_stays tick other Plain d plain again is more = other_stays d plain again is more
@@ -109,7 +109,7 @@ one_other (datetime dt) one other first second = absurd first
 one_other (array ds) one other first second = absurd first
 one_other (table ms) one other first second = absurd first
 
-pub plain_is_one : (tick : ℕ) (kind : ValueKind) (d one other : Data) → 1 ≤ tick → IsPlainOf tick kind d one → IsPlainOf tick kind d other → one ≡ other
+pub plain_is_one : (tick : ℕ) (kind : KeyKind) (d one other : Data) → 1 ≤ tick → IsPlainOf tick kind d one → IsPlainOf tick kind d other → one ≡ other
 plain_is_one tick Ticks d one other some first second =
     first.3 ∙ ap (λ n. integer (pos n)) (one_count tick d first.0 second.0 some first.1 second.1) ∙ sym second.3
 plain_is_one tick Share d one other some first second = first.3 ∙ ap (λ n. integer (pos n)) (one_share d first.0 second.0 first.1 second.1) ∙ sym second.3
@@ -119,16 +119,16 @@ plain_is_one tick Gone d one other some first second = absurd first
 -- ---- lines
 
 -- a key that isn't there adds nothing
-pub none_there : (tick : ℕ) (kind : ValueKind) (key : List ℕ) (d : Option Data) (lines : List Expression) → d ≡ None → AddsValue tick kind key d lines lines
+pub none_there : (tick : ℕ) (kind : KeyKind) (key : List ℕ) (d : Option Data) (lines : List Expression) → d ≡ None → AddsValue tick kind key d lines lines
 none_there tick kind key d lines is = subst (λ (d : Option Data). AddsValue tick kind key d lines lines) (sym is) refl
 
 -- a value that has no plain one adds nothing
-pub none_plain : (tick : ℕ) (kind : ValueKind) (key : List ℕ) (d : Option Data) (value : Data) (lines : List Expression) → d ≡ Some value
+pub none_plain : (tick : ℕ) (kind : KeyKind) (key : List ℕ) (d : Option Data) (value : Data) (lines : List Expression) → d ≡ Some value
     → ((plain : Data) → ¬ (IsPlainOf tick kind value plain)) → AddsValue tick kind key d lines lines
 none_plain tick kind key d value lines is none = subst (λ (d : Option Data). AddsValue tick kind key d lines lines) (sym is) (inr (none, refl))
 
 -- a value that has one adds its line
-pub one_plain : (tick : ℕ) (kind : ValueKind) (key : List ℕ) (d : Option Data) (value plain : Data) (before after : List Expression) → d ≡ Some value
+pub one_plain : (tick : ℕ) (kind : KeyKind) (key : List ℕ) (d : Option Data) (value plain : Data) (before after : List Expression) → d ≡ Some value
     → IsPlainOf tick kind value plain → after ≡ before ++ (([], key), key_value plain) ∷ [] → AddsValue tick kind key d before after
 one_plain tick kind key d value plain before after is made adds =
     subst (λ (d : Option Data). AddsValue tick kind key d before after) (sym is) (inl (plain, made, adds))

@@ -12,8 +12,8 @@ use Rattle.plain_document.specs.Pairs.{AddsPairs, AddsValue, AddsWay, goes_both_
 use Rattle.plain_document.specs.Stays.{own_below, own_document, own_items, own_line, own_pairs, own_part, own_sections, IsPlainDocument, ItemsStay, SectionStays, StayIn, StaysAt, StaysBelow}
 use Rattle.plain_document.specs.Values.{IsPlainOf}
 use Rattle.plain_document.specs.declared.document.PlainParts.{PlainParts}
-use Rattle.plain_document.specs.declared.keys.ValueKind.{ValueKind}
-use Rattle.plain_document.specs.declared.keys.ValueKind.TheVariants.{Ticks, Share, Plain, Gone}
+use Rattle.plain_document.specs.declared.keys.KeyKind.{KeyKind}
+use Rattle.plain_document.specs.declared.keys.KeyKind.TheVariants.{Ticks, Share, Plain, Gone}
 use Rattle.plain_document.specs.declared.keys.Way.TheVariants.{Straight, Turned}
 use Rattle.plain_document.proofs.Plain.{plain_stays}
 
@@ -22,31 +22,31 @@ use Rattle.plain_document.proofs.Plain.{plain_stays}
 nothing : (before : List Expression) → before ≡ before ++ []
 nothing before = sym (append-nil before)
 
-pub no_table : (tick : ℕ) (kind : ValueKind) (ms : Members) (plain : Data) → ¬ (IsPlainOf tick kind (table ms) plain)
+pub no_table : (tick : ℕ) (kind : KeyKind) (ms : Members) (plain : Data) → ¬ (IsPlainOf tick kind (table ms) plain)
 no_table tick Ticks ms plain is = absurd is.1
 no_table tick Share ms plain is = absurd is.1
 no_table tick Plain ms plain is = absurd is
 no_table tick Gone ms plain is = absurd is
 
 -- a value that stands for itself adds the key's own line
-own_by : (tick : ℕ) (kind : ValueKind) (key : List ℕ) (d : Data) (before after : List Expression) → ((t : ℕ) → IsPlainOf t kind d d)
+own_by : (tick : ℕ) (kind : KeyKind) (key : List ℕ) (d : Data) (before after : List Expression) → ((t : ℕ) → IsPlainOf t kind d d)
     → AddsValue tick kind key (Some d) before after → after ≡ before ++ (([], key), key_value d) ∷ []
 own_by tick kind key d before after stays (inl x) =
     x.2 ∙ ap (λ (plain : Data). before ++ (([], key), key_value plain) ∷ []) (plain_stays tick tick kind d d x.0 (stays tick) x.1)
 own_by tick kind key d before after stays (inr x) = absurd (x.0 d (stays tick))
 
-pub no_array : (tick : ℕ) (kind : ValueKind) (ds : Items) (plain : Data) → ¬ (IsPlainOf tick kind (array ds) plain)
+pub no_array : (tick : ℕ) (kind : KeyKind) (ds : Items) (plain : Data) → ¬ (IsPlainOf tick kind (array ds) plain)
 no_array tick Ticks ds plain is = absurd is.1
 no_array tick Share ds plain is = absurd is.1
 no_array tick Plain ds plain is = absurd is
 no_array tick Gone ds plain is = absurd is
 
-none_by : (tick : ℕ) (kind : ValueKind) (key : List ℕ) (d : Data) (before after : List Expression) → ((plain : Data) → ¬ (IsPlainOf tick kind d plain))
+none_by : (tick : ℕ) (kind : KeyKind) (key : List ℕ) (d : Data) (before after : List Expression) → ((plain : Data) → ¬ (IsPlainOf tick kind d plain))
     → AddsValue tick kind key (Some d) before after → after ≡ before ++ []
 none_by tick kind key d before after none (inl x) = absurd (none x.0 x.1)
 none_by tick kind key d before after none (inr x) = x.1 ∙ nothing before
 
-own_value : (tick : ℕ) (kind : ValueKind) (key : List ℕ) (d : Option Data) (before after : List Expression) → StaysAt kind d
+own_value : (tick : ℕ) (kind : KeyKind) (key : List ℕ) (d : Option Data) (before after : List Expression) → StaysAt kind d
     → AddsValue tick kind key d before after → after ≡ before ++ own_line key d
 own_value tick kind key None before after stays adds = adds ∙ nothing before
 own_value tick kind key (Some (array ds)) before after stays adds = none_by tick kind key (array ds) before after (no_array tick kind ds) adds

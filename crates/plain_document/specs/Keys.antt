@@ -1,7 +1,7 @@
 -- Which keys count ticks, and which are shares. The six lists about members aren't here: specs/Entries has their lines.
 use Rattle.std.specs.Prelude.{ℕ, Bool, false, ◌&&◌, ◌||◌, if◌then◌else◌, List, codes, bytes_eq}
-use Rattle.plain_document.specs.declared.keys.ValueKind.{ValueKind}
-use Rattle.plain_document.specs.declared.keys.ValueKind.TheVariants.{Ticks, Share, Plain, Gone}
+use Rattle.plain_document.specs.declared.keys.KeyKind.{KeyKind}
+use Rattle.plain_document.specs.declared.keys.KeyKind.TheVariants.{Ticks, Share, Plain, Gone}
 use Rattle.plain_document.specs.declared.keys.Way.{Way}
 use Rattle.plain_document.specs.declared.keys.Way.TheVariants.{Straight, Turned}
 
@@ -27,7 +27,7 @@ is_gone section key =
     (bytes_eq section (codes "") && bytes_eq key (codes "tick"))
     || ((bytes_eq section (codes "path") || bytes_eq section (codes "cut")) && bytes_eq key (codes "both"))
 
-abbrev pub kind_of : (section key : List ℕ) → ValueKind
+abbrev pub kind_of : (section key : List ℕ) → KeyKind
 kind_of section key = if is_gone section key then Gone else if bytes_eq key (codes "loss") then Share else if counts_ticks section key then Ticks else Plain
 
 -- the other end of a path or cut

@@ -5,12 +5,12 @@ use Rattle.toml.specs.Data.{Data, as_str, boolean, get}
 use Rattle.toml.specs.Tables.{Expression, array_table, key_value, std_table}
 use Rattle.plain_document.specs.Keys.{kind_of, read_key}
 use Rattle.plain_document.specs.Values.{IsPlainOf}
-use Rattle.plain_document.specs.declared.keys.ValueKind.{ValueKind}
+use Rattle.plain_document.specs.declared.keys.KeyKind.{KeyKind}
 use Rattle.plain_document.specs.declared.keys.Way.{Way}
 use Rattle.plain_document.specs.declared.keys.Way.TheVariants.{Straight, Turned}
 
 -- a value that has a plain one gives its line; another gives none
-abbrev pub AddsValue : (tick : ℕ) → ValueKind → List ℕ → Option Data → (before after : List Expression) → Type 0
+abbrev pub AddsValue : (tick : ℕ) → KeyKind → List ℕ → Option Data → (before after : List Expression) → Type 0
 AddsValue tick kind key None before after = after ≡ before
 AddsValue tick kind key (Some d) before after =
     ((plain : Data) × IsPlainOf tick kind d plain × (after ≡ before ++ (([], key), key_value plain) ∷ []))

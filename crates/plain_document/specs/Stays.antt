@@ -11,10 +11,10 @@ use Rattle.plain_document.specs.Order.{names_of, Section}
 use Rattle.plain_document.specs.Pairs.{goes_both_ways}
 use Rattle.plain_document.specs.Values.{IsPlainOf}
 use Rattle.plain_document.specs.declared.document.PlainParts.{PlainParts}
-use Rattle.plain_document.specs.declared.keys.ValueKind.{ValueKind}
+use Rattle.plain_document.specs.declared.keys.KeyKind.{KeyKind}
 
 -- a value that is there stands for itself, however long a tick is; tables and lists aren't values
-abbrev pub StaysAt : ValueKind → Option Data → Type 0
+abbrev pub StaysAt : KeyKind → Option Data → Type 0
 StaysAt kind None = Unit {0}
 StaysAt kind (Some (array ds)) = Unit {0}
 StaysAt kind (Some (table ms)) = Unit {0}

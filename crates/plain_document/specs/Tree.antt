@@ -9,20 +9,20 @@ use Rattle.plain_document.specs.Keys.{kind_of, read_key}
 use Rattle.plain_document.specs.Pairs.{goes_both_ways}
 use Rattle.plain_document.specs.Values.{IsPlainOf}
 use Rattle.plain_document.specs.declared.document.PlainParts.{PlainParts}
-use Rattle.plain_document.specs.declared.keys.ValueKind.{ValueKind}
+use Rattle.plain_document.specs.declared.keys.KeyKind.{KeyKind}
 use Rattle.plain_document.specs.declared.keys.Way.{Way}
 use Rattle.plain_document.specs.declared.keys.Way.TheVariants.{Straight, Turned}
 
 -- ---- tables
 
 -- the plain value of what is written, if it has one
-abbrev pub IsPlainAt : (tick : ℕ) → ValueKind → (written plain : Option Data) → Type 0
+abbrev pub IsPlainAt : (tick : ℕ) → KeyKind → (written plain : Option Data) → Type 0
 IsPlainAt tick kind None plain = plain ≡ None
 IsPlainAt tick kind (Some d) plain =
     ((value : Data) × IsPlainOf tick kind d value × (plain ≡ Some value)) ⊎ (((value : Data) → ¬ IsPlainOf tick kind d value) × (plain ≡ None))
 
 -- the same where the table has the key; the value is that of the key that is read
-abbrev pub IsPlainKey : (tick : ℕ) → ValueKind → (own read plain : Option Data) → Type 0
+abbrev pub IsPlainKey : (tick : ℕ) → KeyKind → (own read plain : Option Data) → Type 0
 IsPlainKey tick kind None read plain = plain ≡ None
 IsPlainKey tick kind (Some d) read plain = IsPlainAt tick kind read plain
 

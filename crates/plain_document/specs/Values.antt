@@ -2,8 +2,8 @@
 use Rattle.std.specs.Prelude.{◌≡◌, ◌≤◌, ℕ, pos}
 use Rattle.toml.specs.Data.{Data, boolean, integer, string}
 use Rattle.written_values.specs.Values.{AreTicksIn, IsShareIn}
-use Rattle.plain_document.specs.declared.keys.ValueKind.{ValueKind}
-use Rattle.plain_document.specs.declared.keys.ValueKind.TheVariants.{Ticks, Share, Plain, Gone}
+use Rattle.plain_document.specs.declared.keys.KeyKind.{KeyKind}
+use Rattle.plain_document.specs.declared.keys.KeyKind.TheVariants.{Ticks, Share, Plain, Gone}
 
 -- a number from 0 on, a switch or a name
 abbrev pub IsOther : Data → Data → Type 0
@@ -17,7 +17,7 @@ abbrev pub IsNumber : (ℕ → Type 0) → ℕ → Data → Type 0
 IsNumber is most plain = (number : ℕ) × is number × (number ≤ most) × (plain ≡ integer (pos number))
 
 -- a tick has so many microseconds
-abbrev pub IsPlainOf : (tick : ℕ) → ValueKind → Data → Data → Type 0
+abbrev pub IsPlainOf : (tick : ℕ) → KeyKind → Data → Data → Type 0
 IsPlainOf tick Ticks d plain = IsNumber (AreTicksIn tick d) 9223372036854775807 plain
 IsPlainOf tick Share d plain = IsNumber (IsShareIn d) 1000000 plain
 IsPlainOf tick Plain d plain = IsOther d plain

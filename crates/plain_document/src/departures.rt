@@ -6,7 +6,7 @@ ghost use Rattle.plain_document.specs.Entries.{departure_lines};
 use crate::head::{add_head, add_whole};
 use base::Memory;
 use plain_entries::{Departure, Plain};
-use plain_text::Line;
+use plain_text::PlainLine;
 
 /// Adds the lines of plain crashes, or leaves, of the list of that name. `names` has each member's name, by its number.
 ///
@@ -14,7 +14,7 @@ use plain_text::Line;
 ///
 /// Memory was refused.
 pub(crate) fn add_departures<'a>(
-    lines: &mut Vec<Line<'a>>,
+    lines: &mut Vec<PlainLine<'a>>,
     list: &'a str,
     names: &'a [String],
     entries: &[Plain<Departure>],
@@ -29,7 +29,7 @@ pub(crate) fn add_departures<'a>(
 
 /// Adds the lines of one.
 fn add_departure<'a>(
-    lines: &mut Vec<Line<'a>>,
+    lines: &mut Vec<PlainLine<'a>>,
     list: &'a str,
     names: &'a [String],
     it: &Plain<Departure>,

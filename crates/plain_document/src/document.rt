@@ -17,7 +17,7 @@ use crate::restarts::add_restarts;
 use crate::spells::{add_slows, add_spells};
 use base::Memory;
 use plain_entries::PlainScript;
-use plain_text::Line;
+use plain_text::PlainLine;
 use std::alloc::Global;
 use toml::Value;
 
@@ -42,7 +42,7 @@ pub fn plain_lines<'a>(
     order: &'a DocumentOrder,
     parts: &PlainParts<'a>,
     tick: u64,
-) -> Result<Vec<Line<'a>>, Memory>
+) -> Result<Vec<PlainLine<'a>>, Memory>
     requires { IsTick tick }
     ensures { IfOk result (λ made. AreLinesOf tick (view document.now) (sections_of order.now) parts.now (map expression_of made.items)) }
 {
@@ -56,7 +56,7 @@ pub fn plain_lines<'a>(
 
 /// Adds the lines of the top's keys.
 fn add_top<'a>(
-    lines: &mut Vec<Line<'a>>,
+    lines: &mut Vec<PlainLine<'a>>,
     sections: &'a [SectionOrder],
     document: &'a Value,
     tick: u64,
@@ -79,7 +79,7 @@ fn add_top<'a>(
 
 /// Adds the lines of the sections.
 fn add_sections<'a>(
-    lines: &mut Vec<Line<'a>>,
+    lines: &mut Vec<PlainLine<'a>>,
     sections: &'a [SectionOrder],
     document: &'a Value,
     parts: &PlainParts<'a>,
@@ -96,7 +96,7 @@ fn add_sections<'a>(
 
 /// Adds the lines of one of the six lists, else of what stands at a key of the top.
 fn add_section<'a>(
-    lines: &mut Vec<Line<'a>>,
+    lines: &mut Vec<PlainLine<'a>>,
     section: &'a SectionOrder,
     document: &'a Value,
     parts: &PlainParts<'a>,
@@ -120,7 +120,7 @@ fn add_section<'a>(
 
 /// Adds the lines of a value at a key of the top, if there is one.
 fn add_value_below<'a>(
-    lines: &mut Vec<Line<'a>>,
+    lines: &mut Vec<PlainLine<'a>>,
     section: &'a SectionOrder,
     value: Option<&'a Value>,
     tick: u64,
@@ -136,7 +136,7 @@ fn add_value_below<'a>(
 
 /// Adds the lines of a list's items, or of a table.
 fn add_value<'a>(
-    lines: &mut Vec<Line<'a>>,
+    lines: &mut Vec<PlainLine<'a>>,
     section: &'a SectionOrder,
     value: &'a Value,
     tick: u64,
@@ -158,7 +158,7 @@ fn add_value<'a>(
 
 /// Adds the lines of the items of a list.
 fn add_items<'a>(
-    lines: &mut Vec<Line<'a>>,
+    lines: &mut Vec<PlainLine<'a>>,
     name: &'a str,
     key_lists: &'a [Vec<String>],
     items: &'a [Value],
@@ -177,7 +177,7 @@ fn add_items<'a>(
 
 /// Adds the lines of restarts, where the document has no such list.
 fn add_last<'a>(
-    lines: &mut Vec<Line<'a>>,
+    lines: &mut Vec<PlainLine<'a>>,
     document: &Value,
     parts: &PlainParts<'a>,
 ) -> Result<(), Memory>

@@ -8,7 +8,7 @@ ghost use Rattle.plain_document.specs.Pairs.{end_at, goes_both_ways, is_on, Adds
 use crate::keys::Way;
 use crate::pairs::add_pairs;
 use base::Memory;
-use plain_text::Line;
+use plain_text::PlainLine;
 use toml::Value;
 
 /// Adds the lines of a table of this name, with these keys in this order. A tick has so many microseconds.
@@ -17,7 +17,7 @@ use toml::Value;
 ///
 /// Memory was refused.
 pub fn add_table<'a>(
-    lines: &mut Vec<Line<'a>>,
+    lines: &mut Vec<PlainLine<'a>>,
     section: &'a str,
     keys: &'a [String],
     table: &'a Value,
@@ -26,7 +26,7 @@ pub fn add_table<'a>(
     requires { IsTick tick }
     ensures { OnOk result (AddsTable tick section.now (view table.now) (map string_bytes keys.now) (map expression_of lines.old.items) (map expression_of lines.new.items)) }
 {
-    lines.push(Line::Table(section))?;
+    lines.push(PlainLine::Table(section))?;
     add_pairs(lines, section, Way::Straight, keys, table, tick)
 }
 
@@ -37,7 +37,7 @@ pub fn add_table<'a>(
 ///
 /// Memory was refused.
 pub fn add_item<'a>(
-    lines: &mut Vec<Line<'a>>,
+    lines: &mut Vec<PlainLine<'a>>,
     section: &'a str,
     keys: &'a [String],
     item: &'a Value,
@@ -56,7 +56,7 @@ pub fn add_item<'a>(
 
 /// Adds the lines of an item, one way.
 fn add_way<'a>(
-    lines: &mut Vec<Line<'a>>,
+    lines: &mut Vec<PlainLine<'a>>,
     section: &'a str,
     way: Way,
     keys: &'a [String],
@@ -66,7 +66,7 @@ fn add_way<'a>(
     requires { IsTick tick }
     ensures { OnOk result (AddsWay tick section.now way (view item.now) (map string_bytes keys.now) (map expression_of lines.old.items) (map expression_of lines.new.items)) }
 {
-    lines.push(Line::Item(section))?;
+    lines.push(PlainLine::Item(section))?;
     add_pairs(lines, section, way, keys, item, tick)
 }
 

@@ -4,7 +4,7 @@ ghost use Rattle.plain_document.specs.Keys.{counts_in_addition, counts_ticks, is
 
 /// What a key's value is beside a whole number, a switch or a name.
 #[derive(Clone, Copy)]
-pub enum ValueKind {
+pub enum KeyKind {
     /// A length.
     Ticks,
     /// A share.
@@ -25,17 +25,17 @@ pub enum Way {
 }
 
 /// The kind of a key of a table, or of the top, whose section is empty.
-pub fn kind_of(section: &str, key: &str) -> ValueKind
+pub fn kind_of(section: &str, key: &str) -> KeyKind
     ensures { result ≡ kind_of section.now key.now }
 {
     if is_gone(section, key) {
-        ValueKind::Gone
+        KeyKind::Gone
     } else if key == "loss" {
-        ValueKind::Share
+        KeyKind::Share
     } else if counts_ticks(section, key) {
-        ValueKind::Ticks
+        KeyKind::Ticks
     } else {
-        ValueKind::Plain
+        KeyKind::Plain
     }
 }
 

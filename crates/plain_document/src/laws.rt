@@ -5,7 +5,7 @@ ghost use Rattle.toml.specs.Tables.{Expression};
 ghost use Rattle.toml_places.specs.declared.places.Places.{Places};
 ghost use Rattle.plain_text.specs.Document.{document_of};
 ghost use Rattle.plain_document.specs.declared.document.PlainParts.{PlainParts};
-ghost use Rattle.plain_document.specs.declared.keys.ValueKind.{ValueKind};
+ghost use Rattle.plain_document.specs.declared.keys.KeyKind.{KeyKind};
 ghost use Rattle.plain_document.specs.Document.{AreLinesOf};
 ghost use Rattle.plain_document.specs.Order.{IsOrderedDocument, Section};
 ghost use Rattle.plain_document.specs.Stays.{own_document, IsPlainDocument};
@@ -14,12 +14,12 @@ ghost use Rattle.plain_document.specs.Values.{IsPlainOf};
 
 /// A value that is plain stands for itself, however long a tick is.
 pub fn plain_values_stay()
-    ensures { (tick other : ℕ) (kind : ValueKind) (d plain again : Data) → IsPlainOf tick kind d plain → IsPlainOf other kind plain again → again ≡ plain }
+    ensures { (tick other : ℕ) (kind : KeyKind) (d plain again : Data) → IsPlainOf tick kind d plain → IsPlainOf other kind plain again → again ≡ plain }
 {}
 
 /// A value is one in the plain text.
 pub fn plain_values_are_one()
-    ensures { (tick : ℕ) (kind : ValueKind) (d one other : Data) → 1 ≤ tick → IsPlainOf tick kind d one → IsPlainOf tick kind d other → one ≡ other }
+    ensures { (tick : ℕ) (kind : KeyKind) (d one other : Data) → 1 ≤ tick → IsPlainOf tick kind d one → IsPlainOf tick kind d other → one ≡ other }
 {}
 
 /// A document has one plain text.

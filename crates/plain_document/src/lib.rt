@@ -15,7 +15,7 @@ mod values;
 
 pub use document::{PlainParts, plain_lines};
 pub use items::{add_item, add_table};
-pub use keys::{ValueKind, Way, kind_of};
+pub use keys::{KeyKind, Way, kind_of};
 pub use order::{DocumentOrder, SectionOrder};
 pub use pairs::add_pairs;
 pub use values::plain_value;

@@ -8,7 +8,7 @@ ghost use Rattle.plain_document.specs.Pairs.{AddsPair, AddsPairs};
 use crate::keys::{Way, kind_of, read_key};
 use crate::values::plain_value;
 use base::Memory;
-use plain_text::Line;
+use plain_text::PlainLine;
 use toml::Value;
 
 /// Adds the lines of these keys of a table of the section, in this order, but for those that have no plain value. Turned, a
@@ -18,7 +18,7 @@ use toml::Value;
 ///
 /// Memory was refused.
 pub fn add_pairs<'a>(
-    lines: &mut Vec<Line<'a>>,
+    lines: &mut Vec<PlainLine<'a>>,
     section: &str,
     way: Way,
     keys: &'a [String],
@@ -36,7 +36,7 @@ pub fn add_pairs<'a>(
 
 /// Adds the line of one key.
 pub(crate) fn add_pair<'a>(
-    lines: &mut Vec<Line<'a>>,
+    lines: &mut Vec<PlainLine<'a>>,
     section: &str,
     way: Way,
     key: &'a str,
@@ -52,6 +52,6 @@ pub(crate) fn add_pair<'a>(
     let Some(value) = plain_value(kind_of(section, key), value, tick) else {
         return Ok(());
     };
-    lines.push(Line::Pair { key, value })?;
+    lines.push(PlainLine::Pair { key, value })?;
     Ok(())
 }

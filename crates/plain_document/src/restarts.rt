@@ -6,7 +6,7 @@ ghost use Rattle.plain_document.specs.Entries.{contact_lines, restart_lines};
 use crate::head::{add_head, add_name, add_whole, name_at};
 use base::{MemberId, Memory};
 use plain_entries::{Plain, Restart};
-use plain_text::Line;
+use plain_text::PlainLine;
 
 /// Adds the lines of plain restarts. `names` has each member's name, by its number.
 ///
@@ -14,7 +14,7 @@ use plain_text::Line;
 ///
 /// Memory was refused.
 pub(crate) fn add_restarts<'a>(
-    lines: &mut Vec<Line<'a>>,
+    lines: &mut Vec<PlainLine<'a>>,
     names: &'a [String],
     entries: &[Plain<Restart>],
 ) -> Result<(), Memory>
@@ -28,7 +28,7 @@ pub(crate) fn add_restarts<'a>(
 
 /// Adds the lines of one.
 fn add_restart<'a>(
-    lines: &mut Vec<Line<'a>>,
+    lines: &mut Vec<PlainLine<'a>>,
     names: &'a [String],
     it: &Plain<Restart>,
 ) -> Result<(), Memory>
@@ -41,7 +41,7 @@ fn add_restart<'a>(
 
 /// Adds whom it asks, where it says so.
 fn add_contact<'a>(
-    lines: &mut Vec<Line<'a>>,
+    lines: &mut Vec<PlainLine<'a>>,
     names: &'a [String],
     contact: Option<MemberId>,
 ) -> Result<(), Memory>

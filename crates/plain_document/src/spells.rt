@@ -6,7 +6,7 @@ ghost use Rattle.plain_document.specs.Entries.{extra_at, slow_lines, span_lines,
 use crate::head::{add_head, add_whole};
 use base::Memory;
 use plain_entries::Plain;
-use plain_text::Line;
+use plain_text::PlainLine;
 use scenario::Spell;
 
 /// Adds the lines of plain pauses, or blocks, of the list of that name. `names` has each member's name, by its number.
@@ -15,7 +15,7 @@ use scenario::Spell;
 ///
 /// Memory was refused.
 pub(crate) fn add_spells<'a>(
-    lines: &mut Vec<Line<'a>>,
+    lines: &mut Vec<PlainLine<'a>>,
     list: &'a str,
     names: &'a [String],
     entries: &[Plain<Spell>],
@@ -34,7 +34,7 @@ pub(crate) fn add_spells<'a>(
 ///
 /// Memory was refused.
 pub(crate) fn add_slows<'a>(
-    lines: &mut Vec<Line<'a>>,
+    lines: &mut Vec<PlainLine<'a>>,
     extras: &[u64],
     names: &'a [String],
     entries: &[Plain<Spell>],
@@ -49,7 +49,7 @@ pub(crate) fn add_slows<'a>(
 
 /// Adds the lines of one slow time.
 fn add_slow<'a>(
-    lines: &mut Vec<Line<'a>>,
+    lines: &mut Vec<PlainLine<'a>>,
     extras: &[u64],
     names: &'a [String],
     it: &Plain<Spell>,
@@ -72,7 +72,7 @@ fn extra_at(extras: &[u64], entry: usize) -> u64
 
 /// Adds the lines of one pause or block, or of a slow time but for its last.
 fn add_spell<'a>(
-    lines: &mut Vec<Line<'a>>,
+    lines: &mut Vec<PlainLine<'a>>,
     list: &'a str,
     names: &'a [String],
     it: &Plain<Spell>,
@@ -84,7 +84,7 @@ fn add_spell<'a>(
 }
 
 /// Adds when it begins and ends.
-fn add_span(lines: &mut Vec<Line>, time: Spell) -> Result<(), Memory>
+fn add_span(lines: &mut Vec<PlainLine>, time: Spell) -> Result<(), Memory>
     ensures { OnOk result (map expression_of lines.new.items ≡ map expression_of lines.old.items ++ span_lines time) }
 {
     add_whole(lines, "from", time.from)?;

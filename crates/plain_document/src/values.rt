@@ -4,10 +4,10 @@ ghost use Rattle.lengths.specs.Lengths.{IsTick};
 ghost use Rattle.plain_text.specs.Document.{data_of};
 ghost use Rattle.toml.specs.Data.{Data, integer};
 ghost use Rattle.toml.specs.View.{view};
-ghost use Rattle.plain_document.specs.declared.keys.ValueKind.TheVariants as kind;
+ghost use Rattle.plain_document.specs.declared.keys.KeyKind.TheVariants as kind;
 ghost use Rattle.plain_document.specs.Values.{IsPlainOf};
 
-use crate::keys::ValueKind;
+use crate::keys::KeyKind;
 use plain_text::PlainValue;
 use toml::Value;
 use written_values::{share_in, ticks_in};
@@ -16,16 +16,16 @@ use written_values::{share_in, ticks_in};
 const MOST: u64 = 0x7fff_ffff_ffff_ffff;
 
 /// The value in the plain text. A tick has so many microseconds. None where the value is of another kind or out of range.
-pub fn plain_value<'a>(kind: ValueKind, value: &'a Value, tick: u64) -> Option<PlainValue<'a>>
+pub fn plain_value<'a>(kind: KeyKind, value: &'a Value, tick: u64) -> Option<PlainValue<'a>>
     requires { IsTick tick }
     ensures made { IfSome result (λ made. IsPlainOf tick kind (view value.now) (data_of made)) }
     ensures none { IfNone result ((plain : Data) → ¬ IsPlainOf tick kind (view value.now) plain) }
 {
     match kind {
-        ValueKind::Ticks => ticks_of(value, tick),
-        ValueKind::Share => share_of(value),
-        ValueKind::Plain => other_of(value),
-        ValueKind::Gone => None,
+        KeyKind::Ticks => ticks_of(value, tick),
+        KeyKind::Share => share_of(value),
+        KeyKind::Plain => other_of(value),
+        KeyKind::Gone => None,
     }
 }
 

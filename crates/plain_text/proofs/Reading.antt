@@ -14,8 +14,8 @@ use Rattle.toml.specs.Text.{IsLineText, IsValueText}
 use Rattle.toml.proofs.Turns.{lines_end, lines_more, lines_refused, document_some, document_none}
 use Rattle.toml.proofs.Blanks.{skip_newline, skip_within}
 use Rattle.toml.proofs.ReadLines.{IsPrinted, line_turn}
-use Rattle.plain_text.specs.declared.line.Line.{Line}
-use Rattle.plain_text.specs.declared.line.Line.TheVariants.{Pair, Table, Item}
+use Rattle.plain_text.specs.declared.line.PlainLine.{PlainLine}
+use Rattle.plain_text.specs.declared.line.PlainLine.TheVariants.{Pair, Table, Item}
 use Rattle.plain_text.specs.declared.line.PlainValue.{PlainValue}
 use Rattle.plain_text.specs.declared.line.PlainValue.TheVariants.{Whole, Switch, Name}
 use Rattle.plain_text.specs.Lines.{line_text, text_of, value_text}
@@ -30,12 +30,12 @@ value_is (Switch true) plain = refl
 value_is (Switch false) plain = refl
 value_is (Name name) plain = sym (bare_string name.now plain)
 
-line_is : (l : Line) → IsPlainLine l → IsLineText false false (expression_of l).0 (expression_of l).1 (line_text l)
+line_is : (l : PlainLine) → IsPlainLine l → IsLineText false false (expression_of l).0 (expression_of l).1 (line_text l)
 line_is (Pair key value) plain = (value_text value, rw (bare_key key.now plain.0) (simp append_assoc refl), value_is value plain.1)
 line_is (Table name) plain = rw (bare_key name.now plain) (simp append_assoc refl)
 line_is (Item name) plain = rw (bare_key name.now plain) (simp append_assoc refl)
 
-is_printed : (l : Line) → IsPrinted (expression_of l).0 (expression_of l).1
+is_printed : (l : PlainLine) → IsPrinted (expression_of l).0 (expression_of l).1
 is_printed (Pair key (Whole number)) = (refl, omega arith, refl)
 is_printed (Pair key (Switch on)) = (refl, omega arith, refl)
 is_printed (Pair key (Name name)) = (refl, omega arith, refl)
@@ -49,7 +49,7 @@ read_step : (m : ℕ) (doc : Document) (x : List ℕ) (e : Expression) (after : 
 read_step m doc x e after ls None same some other read more = lines_refused m doc x e after some other read (sym same)
 read_step m doc x e after ls (Some next) same some other read more = lines_more m doc next x e after some other read (sym same) ∙ more next
 
-read_lines : (ls : List Line) (x : List ℕ) (doc : Document) (m : ℕ) → AllByRecursion IsPlainLine ls → skip_blank x ≡ skip_blank (text_of ls) → length x < m → lines m doc x ≡ defined doc (map expression_of ls)
+read_lines : (ls : List PlainLine) (x : List ℕ) (doc : Document) (m : ℕ) → AllByRecursion IsPlainLine ls → skip_blank x ≡ skip_blank (text_of ls) → length x < m → lines m doc x ≡ defined doc (map expression_of ls)
 read_lines [] x doc m plain skip room = lines_end m doc x (omega arith) (rw (skip, skip_from-nil true false) refl)
 read_lines (l ∷ ls) x doc m plain skip room =
     let e = expression_of l in
@@ -63,7 +63,7 @@ read_lines (l ∷ ls) x doc m plain skip room =
 
 -- ---- the whole text
 
-no_mark : (ls : List Line) → AllByRecursion IsPlainLine ls → (first (text_of ls) == 239) ≡ false
+no_mark : (ls : List PlainLine) → AllByRecursion IsPlainLine ls → (first (text_of ls) == 239) ≡ false
 no_mark [] plain = refl
 no_mark (l ∷ ls) plain =
     let e = expression_of l in
@@ -78,7 +78,7 @@ whole : (text : List ℕ) (found : Option Document) → lines (suc (length text)
 whole text None none = document_none text none
 whole text (Some doc) some = document_some text doc some
 
-pub reads_as : (ls : List Line) → All IsPlainLine ls → parse_document (text_of ls) ≡ document_of (map expression_of ls)
+pub reads_as : (ls : List PlainLine) → All IsPlainLine ls → parse_document (text_of ls) ≡ document_of (map expression_of ls)
 reads_as ls all =
     let plain = recursion_from_All IsPlainLine ls all in
     let skipped = no_skip (text_of ls) (no_mark ls plain) in

@@ -4,8 +4,8 @@ use Rattle.std.specs.List.{list_all}
 use Rattle.toml_parser.specs.Lexical.{is_bare}
 use Rattle.toml.specs.Data.{Data, string, integer, boolean, Members}
 use Rattle.toml.specs.Tables.{Document, Expression, no_nodes, close, define, key_value, std_table, array_table}
-use Rattle.plain_text.specs.declared.line.Line.{Line}
-use Rattle.plain_text.specs.declared.line.Line.TheVariants.{Pair, Table, Item}
+use Rattle.plain_text.specs.declared.line.PlainLine.{PlainLine}
+use Rattle.plain_text.specs.declared.line.PlainLine.TheVariants.{Pair, Table, Item}
 use Rattle.plain_text.specs.declared.line.PlainValue.{PlainValue}
 use Rattle.plain_text.specs.declared.line.PlainValue.TheVariants.{Whole, Switch, Name}
 
@@ -16,7 +16,7 @@ data_of (Switch on) = boolean on
 data_of (Name name) = string name.now
 
 -- what a line defines
-abbrev pub expression_of : Line → Expression
+abbrev pub expression_of : PlainLine → Expression
 expression_of (Pair key value) = (([], key.now), key_value (data_of value))
 expression_of (Table name) = (([], name.now), std_table)
 expression_of (Item name) = (([], name.now), array_table)
@@ -38,7 +38,7 @@ IsPlainValue (Whole number) = number < 2 ^ 63
 IsPlainValue (Switch on) = Unit {0}
 IsPlainValue (Name name) = is_plain_name name.now ≡ true
 
-abbrev pub IsPlainLine : Line → Type 0
+abbrev pub IsPlainLine : PlainLine → Type 0
 IsPlainLine (Pair key value) = (is_plain_name key.now ≡ true) × IsPlainValue value
 IsPlainLine (Table name) = is_plain_name name.now ≡ true
 IsPlainLine (Item name) = is_plain_name name.now ≡ true

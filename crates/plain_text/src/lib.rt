@@ -5,5 +5,5 @@ pub mod laws;
 mod line;
 mod text;
 
-pub use line::{Line, PlainValue};
+pub use line::{PlainLine, PlainValue};
 pub use text::plain_text;

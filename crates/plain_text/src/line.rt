@@ -18,7 +18,7 @@ pub enum PlainValue<'a> {
 
 /// A line of a plain text. Keys and names are of letters, digits, `-` and `_`.
 #[derive(Clone, Copy, Debug)]
-pub enum Line<'a> {
+pub enum PlainLine<'a> {
     /// A key and its value.
     Pair { key: &'a str, value: PlainValue<'a> },
     /// The header of a table.
@@ -28,17 +28,17 @@ pub enum Line<'a> {
 }
 
 /// Appends a line.
-pub(crate) fn push_line(text: &mut String, line: &Line) -> Result<(), AllocError>
+pub(crate) fn push_line(text: &mut String, line: &PlainLine) -> Result<(), AllocError>
     ensures { OnOk result (string_bytes text.new ≡ string_bytes text.old ++ line_text line.now) }
 {
     match line {
-        Line::Pair { key, value } => {
+        PlainLine::Pair { key, value } => {
             write!(text, "{key} = ")?;
             push_value(text, value)?;
             text.push_str("\n")
         }
-        Line::Table(name) => writeln!(text, "[{name}]"),
-        Line::Item(name) => writeln!(text, "[[{name}]]"),
+        PlainLine::Table(name) => writeln!(text, "[{name}]"),
+        PlainLine::Item(name) => writeln!(text, "[[{name}]]"),
     }
 }
 

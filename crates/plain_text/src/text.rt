@@ -4,7 +4,7 @@ ghost use Rattle.toml.specs.Parse.{parse_document};
 ghost use Rattle.plain_text.specs.Lines.{text_of};
 ghost use Rattle.plain_text.specs.Document.{document_of, expression_of, IsPlainLine};
 
-use crate::line::{Line, push_line};
+use crate::line::{PlainLine, push_line};
 use std::alloc::{AllocError, Global};
 
 /// The text of these lines. Where they are plain it is the document, as TOML, that they define.
@@ -12,7 +12,7 @@ use std::alloc::{AllocError, Global};
 /// # Errors
 ///
 /// Memory was refused.
-pub fn plain_text(alloc: Global, lines: &[Line]) -> Result<String, AllocError>
+pub fn plain_text(alloc: Global, lines: &[PlainLine]) -> Result<String, AllocError>
     ensures text { IfOk result (λ made. string_bytes made ≡ text_of lines.now) }
     ensures read { IfOk result (λ made. All IsPlainLine lines.now → parse_document (string_bytes made) ≡ document_of (map expression_of lines.now)) }
 {
@@ -26,23 +26,23 @@ pub fn plain_text(alloc: Global, lines: &[Line]) -> Result<String, AllocError>
 #[cfg(test)]
 mod tests {
     use super::plain_text;
-    use crate::line::{Line, PlainValue};
+    use crate::line::{PlainLine, PlainValue};
 
     /// Each kind of line, in the order in which they are given.
     #[test]
     fn lines_stand_in_their_order(rt: HostRuntime) {
         let lines = [
-            Line::Pair {
+            PlainLine::Pair {
                 key: "version",
                 value: PlainValue::Whole(4),
             },
-            Line::Table("swim"),
-            Line::Pair {
+            PlainLine::Table("swim"),
+            PlainLine::Pair {
                 key: "fallback",
                 value: PlainValue::Switch(true),
             },
-            Line::Item("group"),
-            Line::Pair {
+            PlainLine::Item("group"),
+            PlainLine::Pair {
                 key: "name",
                 value: PlainValue::Name("dc-1"),
             },

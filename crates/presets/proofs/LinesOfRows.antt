@@ -39,7 +39,7 @@ all_on_line preset (row ∷ rows) h =
     let parts = and_parts (is_on_line (words_of row)) (list_all (λ r. is_on_line (words_of r)) rows) h in
     one_on_line (setting_in preset row) (words_of row) (filter_map (line_in preset) rows) parts.0 (all_on_line preset rows parts.1)
 
--- the lines of rows tell their settings
+-- the lines of rows state their settings
 told_rows : (preset : Preset) (of : Preset → List (List ℕ)) (rows : List Row) → AreRows of rows → TellsSettings (of preset) (flat_map (row_text preset) rows)
 told_rows preset of rows are =
     record {
@@ -49,7 +49,7 @@ told_rows preset of rows are =
       written = all_told preset rows;
     }
 
--- one text after another tells the settings of both
+-- one text after another states the settings of both
 told_both : (some more : List (List ℕ)) (a b : List ℕ) → TellsSettings some a → TellsSettings more b → TellsSettings (some ++ more) (a ++ b)
 told_both some more a b first second =
     record {
@@ -62,20 +62,20 @@ told_both some more a b first second =
       written = ap₂ ◌++◌ first.written second.written ∙ sym (flat_map-append told first.lines second.lines);
     }
 
--- rows more tell their settings more
+-- further rows state further settings
 pub tells_more : (preset : Preset) (of : Preset → List (List ℕ)) (rows : List Row) (some : List (List ℕ)) (before text : List ℕ)
     → text ≡ before ++ flat_map (row_text preset) rows → AreRows of rows → TellsSettings some before → TellsSettings (some ++ of preset) text
 tells_more preset of rows some before text is are so_far =
     subst (TellsSettings (some ++ of preset)) (sym is)
     (told_both some (of preset) before (flat_map (row_text preset) rows) so_far (told_rows preset of rows are))
 
--- comments more tell no settings more
+-- further comments state no further settings
 pub tells_comments : (preset : Preset) (rows : List Row) (some : List (List ℕ)) (before text : List ℕ)
     → text ≡ before ++ flat_map (row_text preset) rows → AreRows no_settings rows → TellsSettings some before → TellsSettings some text
 tells_comments preset rows some before text is are so_far =
     subst (λ settings. TellsSettings settings text) (append-nil some) (tells_more preset no_settings rows some before text is are so_far)
 
--- the text that is empty tells none
+-- the text that is empty states none
 pub tells_none : (text : List ℕ) → text ≡ [] → TellsSettings [] text
 tells_none text is = record { lines = []; on_line = refl; same = refl; written = is }
 

@@ -1,8 +1,11 @@
--- A probe order as it is stored: with the member at the mark beside it.
-use Rattle.std.specs.Prelude.{◌≡◌, ℕ, ◌<◌, List, length, slice_get, Some}
+-- A probe order as it is stored: with the members from the mark on beside it.
+use Rattle.std.specs.Prelude.{◌≡◌, ℕ, ◌<◌, ◌≤◌, ◌/◌, ◌%◌, List, length, slice_get, slice_index_or, Some}
 use Rattle.probing.specs.ProbeOrder.{IsSoundOrder}
 
-pub record IsStored (members : List ℕ) (mark member : ℕ) : Type 0 where
+-- the members from a place on, up to the next one that sixteen divides, each at its place modulo sixteen
+abbrev pub AreAhead : List ℕ → ℕ → List ℕ → Type 0
+AreAhead members from ahead = (place other : ℕ) → from ≤ place → place / 16 ≡ from / 16 → place < length members → slice_get members place ≡ Some (slice_index_or ahead (place % 16) other)
+
+pub record IsStored (members : List ℕ) (mark : ℕ) (sixteen : List ℕ) : Type 0 where
   pub sound : IsSoundOrder (record { members = members; mark = mark })
-  -- the one at the mark, where the round isn't over
-  pub ahead : mark < length members → slice_get members mark ≡ Some member
+  pub ahead : AreAhead members mark sixteen

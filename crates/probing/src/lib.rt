@@ -1,8 +1,9 @@
 //! Which member is probed next (SWIM, section 4.3), and which members help (section 3.1).
 #![tactic(auto)]
 
-ghost use Rattle.std.specs.Prelude.{◌≡◌, ◌==◌, Some, IfOk, OnOk, OnErr, ◌+◌, ◌-◌, ◌<◌, ◌≤◌, ◌^◌, nat_lt, if◌then◌else◌, length, slice_get, All, position};
+ghost use Rattle.std.specs.Prelude.{◌≡◌, ℕ, ◌==◌, Some, IfOk, OnOk, OnErr, ◌+◌, ◌-◌, ◌<◌, ◌≤◌, ◌^◌, nat_lt, if◌then◌else◌, length, slice_get, All, position};
 ghost use Rattle.streams.specs.Draw.{words_of};
+ghost use Rattle.probing.specs.Ahead.{AreAhead};
 ghost use Rattle.probing.specs.ProbeOrder.{NoRepeats, IsSoundOrder, times_in, round_over, next_of, insert_of, remove_of, helpers_of};
 
 pub mod laws;
@@ -13,15 +14,18 @@ pub use samples::sample;
 use std::marker::Model;
 use streams::Stream;
 
+/// How many members are read at once.
+const SIXTEEN: usize = 16;
+
 /// The members that a member probes, in the order of its present round, and a mark before the one
 /// that is next: round-robin probing (SWIM, section 4.3). No member is there twice.
 #[derive(Debug, Drop)]
 pub struct Rota {
     members: Vec<MemberId>,
     mark: usize,
-    /// The member at the mark. It is read when the mark is set, a period before it is needed, so that no probe waits
-    /// for memory.
-    ahead: MemberId,
+    /// The members from the mark on, up to the next place that sixteen divides, each at its place modulo sixteen. They
+    /// are read together, so that few probes wait for memory.
+    ahead: [MemberId; SIXTEEN],
 }
 
 impl Model for Rota {
@@ -45,7 +49,7 @@ impl Rota {
     {
         see_numbers(&members);
         let mark = members.len();
-        let ahead = MemberId(0);
+        let ahead = [MemberId(0); SIXTEEN];
         Ok(Rota {
             members,
             mark,
@@ -67,11 +71,11 @@ impl Rota {
         if self.mark == self.members.len() {
             stream.shuffle(&mut self.members);
             self.mark = 0;
-            self.ahead = member_at(&self.members, 0);
+            self.ahead = sixteen_from(&self.members, 0);
         }
-        let member = self.ahead;
+        let member = self.ahead[self.mark % SIXTEEN];
         self.mark += 1;
-        self.ahead = member_at(&self.members, self.mark);
+        self.ahead = sixteen_at(&self.members, self.mark, self.ahead);
         Some(member)
     }
 
@@ -93,7 +97,7 @@ impl Rota {
         let place = stream.below(self.members.len() as u32 + 1) as usize;
         self.members.insert(place, member).unwrap();
         self.mark = mark_with(self.mark, place);
-        self.ahead = member_at(&self.members, self.mark);
+        self.ahead = sixteen_from(&self.members, self.mark);
         Ok(())
     }
 
@@ -108,7 +112,7 @@ impl Rota {
         };
         self.members.remove(place);
         self.mark = mark_without(self.mark, place);
-        self.ahead = member_at(&self.members, self.mark);
+        self.ahead = sixteen_from(&self.members, self.mark);
     }
 }
 
@@ -141,6 +145,43 @@ fn mark_without(mark: usize, place: usize) -> usize
     ensures { result ≡ (if nat_lt place mark then mark - 1 else mark) }
 {
     if place < mark { mark - 1 } else { mark }
+}
+
+/// The members from a place on, up to the next one that sixteen divides.
+fn sixteen_from(members: &[MemberId], place: usize) -> [MemberId; SIXTEEN]
+    ensures { AreAhead members.now place result }
+{
+    let first = place - place % SIXTEEN;
+    [
+        member_at(members, first),
+        member_at(members, first + 1),
+        member_at(members, first + 2),
+        member_at(members, first + 3),
+        member_at(members, first + 4),
+        member_at(members, first + 5),
+        member_at(members, first + 6),
+        member_at(members, first + 7),
+        member_at(members, first + 8),
+        member_at(members, first + 9),
+        member_at(members, first + 10),
+        member_at(members, first + 11),
+        member_at(members, first + 12),
+        member_at(members, first + 13),
+        member_at(members, first + 14),
+        member_at(members, first + 15),
+    ]
+}
+
+/// The same, where those from the place before are at hand.
+#[inline(always)]
+fn sixteen_at(members: &[MemberId], place: usize, ahead: [MemberId; SIXTEEN]) -> [MemberId; SIXTEEN]
+    ensures { (before : ℕ) → before + 1 ≡ place → AreAhead members.now before ahead → AreAhead members.now place result }
+{
+    if place % SIXTEEN == 0 {
+        sixteen_from(members, place)
+    } else {
+        ahead
+    }
 }
 
 /// The member at a place: any one past the end.

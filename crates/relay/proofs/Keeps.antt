@@ -1,4 +1,4 @@
--- Each step of a relay keeps its rule, and what the rule tells.
+-- Each step of a relay keeps its rule, and what follows from the rule.
 use Rattle.std.proofs.Common.{◌≡◌, ◌≢◌, ℕ, zero, suc, Bool, true, false, true≢false, ◌||◌, List, [], ◌∷◌, ◌++◌, length, map, set, All, Option, Some, None, IfSome, sym, refl, ap, ◌∙◌, subst, ⊎_elim, append_assoc, append-nil}
 use Rattle.std.proofs.lemmas.List.{map-append}
 use Rattle.std.proofs.lemmas.List.Elements.{All-nil, All-head, All-tail, All-push, All-same}

@@ -9,7 +9,7 @@ use Rattle.atomic_table.proofs.shared.Shared.TheSendSync as shared
 use Rattle.atomic_table.proofs.send_lease.SendLease.TheSendSync as lease
 use Rattle.crossbeam_channel.proofs.flavors.array.Rows.TheSendSync as rows
 use Rattle.crossbeam_channel.proofs.flavors.array.ruled.Both.TheSendSync as both
-use Rattle.relay.specs.declared.item.ItemRule as item_rule
+use Rattle.relay.specs.declared.item.BatchRule as batch_rule
 use Rattle.relay.specs.contracts.relay.Relay as relay
 use Rattle.relay.specs.contracts.relay.SendSeat as send_seat
 use Rattle.relay.specs.contracts.relay.TakeSeat as take_seat
@@ -20,5 +20,5 @@ send_seat_send T L G s = search (seat.the_send, badge.the_send, crosses, sendabl
 pub take_seat_send : (T L G : RattleType) → IsSend T → IsSend (take_seat.the_field T L G).row
 take_seat_send T L G s = search (seat.the_send, badge.the_send, crosses, sendable) depth 60
 
-pub relay_sync : (T L G S : RattleType) (g : item_rule.Ghosts S.Denot T.Denot L.Denot G.Denot) → IsSend T → IsSync (relay.the_row T L G S g)
+pub relay_sync : (T L G S : RattleType) (g : batch_rule.Ghosts S.Denot T.Denot L.Denot G.Denot) → IsSend T → IsSync (relay.the_row T L G S g)
 relay_sync T L G S g s = search (both.the_send, both.the_sync, rows.the_send, rows.the_sync, lease.the_send, lease.the_sync, shared.the_send, shared.the_sync, badge.the_send, heap.the_send, heap.the_sync, crosses, sendable) depth 60 fits 20000

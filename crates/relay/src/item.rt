@@ -2,7 +2,7 @@
 
 /// What the items `T` of a relay are: what each stands for in the record of a seat, after which of them none comes,
 /// and which belong to a relay that was made for a value of `G`. A type stands for it of which no value is made.
-pub trait ItemRule<T, L, G> {
+pub trait BatchRule<T, L, G> {
     ghost use Rattle.std.specs.Prelude.{Bool};
 
     /// What an item stands for in the record of a seat.

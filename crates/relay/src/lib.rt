@@ -1,7 +1,7 @@
 //! A relay: items go over it in order, from one thread that sends to one that receives.
 //!
 //! A relay is made for a value, together with its two seats ([`Relay::new`]). Each seat keeps account, in proofs alone,
-//! of what was sent or received over it: a list of what the items stand for ([`ItemRule`]). Nothing is sent after the
+//! of what was sent or received over it: a list of what the items stand for ([`BatchRule`]). Nothing is sent after the
 //! last item. When both seats are together again, [`close`] says that what was sent is what was received and then what
 //! still lies in the relay; so where the last item was received, all were.
 //!
@@ -16,5 +16,5 @@ mod relay;
 mod roles;
 mod rule;
 
-pub use item::ItemRule;
+pub use item::BatchRule;
 pub use relay::{Relay, SendSeat, TakeSeat, close};

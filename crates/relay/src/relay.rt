@@ -5,7 +5,7 @@ ghost use Rattle.crossbeam_channel.specs.Ends.{sends_on, receives_on};
 
 mod closing;
 
-use crate::item::ItemRule;
+use crate::item::BatchRule;
 use crate::roles::part;
 use crate::rule::{InOrder, Log, Sent, Taken};
 use base::Memory;
@@ -19,7 +19,7 @@ use std::sync::Wait;
 
 /// Carries items in order from the one that sends to the one that receives, each in a thread of its own.
 #[derive(Drop)]
-pub struct Relay<T: Drop, L, G, S: ItemRule<T, L, G>> {
+pub struct Relay<T: Drop, L, G, S: BatchRule<T, L, G>> {
     sender: RuledSender<T, Log<L, G>, InOrder<S>>,
     taker: RuledReceiver<T, Log<L, G>, InOrder<S>>,
     given: Snapshot<G>,
@@ -38,7 +38,7 @@ pub struct TakeSeat<T, L, G> {
     pass: Pass<T, Log<L, G>>,
 }
 
-impl<T: Drop, L, G, S: ItemRule<T, L, G>> Relay<T, L, G, S> {
+impl<T: Drop, L, G, S: BatchRule<T, L, G>> Relay<T, L, G, S> {
     ghost use Rattle.relay.specs.Lots.{has_last};
     ghost use Rattle.relay.specs.Seats.{given_of, room_of, sent_by, taken_by, IsSender, IsTaker};
 

@@ -1,10 +1,10 @@
-//! How the one right over the relay's channel is parted into a sending and a receiving one, and joined at the end.
+//! How the one right over the relay's channel is split into a sending and a receiving one, and joined at the end.
 ghost use Rattle.std.specs.Prelude.{◌≡◌, [], true, false, Some, None};
 ghost use Rattle.crossbeam_channel.specs.Claims.{view, IsSeatAt};
 ghost use Rattle.crossbeam_channel.specs.Ends.{sends_on};
 ghost use Rattle.relay.specs.Rule.{log};
 
-use crate::item::ItemRule;
+use crate::item::BatchRule;
 use crate::rule::{InOrder, Log};
 use crossbeam_channel::protocol::{Join, Split};
 use crossbeam_channel::{Pass, RuledSender};
@@ -48,7 +48,7 @@ impl<L, G> Join<Log<L, G>> for Both {
 }
 
 /// Parts the pass of a new channel into one that sends and one that receives, which both know the value.
-pub(crate) fn part<T: Drop, L, G, S: ItemRule<T, L, G>, J: Given<G>>(
+pub(crate) fn part<T: Drop, L, G, S: BatchRule<T, L, G>, J: Given<G>>(
     sender: &RuledSender<T, Log<L, G>, InOrder<S>>,
     pass: &mut Pass<T, Log<L, G>>,
     given: &G,

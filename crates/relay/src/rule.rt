@@ -1,6 +1,6 @@
 //! The relay's protocol for the proofs: items come out in the order in which they went in, and each send and each
 //! take says what it adds to the log of its side. These types are for the proofs alone.
-use crate::item::ItemRule;
+use crate::item::BatchRule;
 use crossbeam_channel::protocol::{Lesson, Outcome, Protocol};
 use std::collections::LinkedList;
 use std::marker::PhantomData;
@@ -17,7 +17,7 @@ pub struct Log<L, G> {
 /// What was sent is what was taken and then what lies in the channel.
 pub struct InOrder<S>(PhantomData<S>);
 
-impl<T, L, G, S: ItemRule<T, L, G>> Protocol<T, Log<L, G>> for InOrder<S> {
+impl<T, L, G, S: BatchRule<T, L, G>> Protocol<T, Log<L, G>> for InOrder<S> {
     ghost use Rattle.std.specs.Prelude.{true, [], None};
     ghost use Rattle.relay.specs.Rule.{log, Relayed};
 
@@ -29,14 +29,14 @@ impl<T, L, G, S: ItemRule<T, L, G>> Protocol<T, Log<L, G>> for InOrder<S> {
 /// An item was sent.
 pub struct Sent<S>(PhantomData<S>);
 
-impl<T, L, G, S: ItemRule<T, L, G>> Outcome<T, Log<L, G>> for Sent<S> {
+impl<T, L, G, S: BatchRule<T, L, G>> Outcome<T, Log<L, G>> for Sent<S> {
     ghost use Rattle.std.specs.Prelude.{◌≡◌, ◌++◌, [], ◌∷◌};
     ghost use Rattle.relay.specs.Rule.{log};
 
     ghost then = { λ v x w. w ≡ log v.sends v.takes v.given (v.sent ++ S.stands_for x ∷ []) v.taken };
 }
 
-impl<T, L, G, S: ItemRule<T, L, G>> Lesson<T, Log<L, G>> for Sent<S> {
+impl<T, L, G, S: BatchRule<T, L, G>> Lesson<T, Log<L, G>> for Sent<S> {
     ghost use Rattle.std.specs.Prelude.{⊤};
 
     ghost fact = { λ v items. ⊤ };
@@ -45,14 +45,14 @@ impl<T, L, G, S: ItemRule<T, L, G>> Lesson<T, Log<L, G>> for Sent<S> {
 /// An item was taken.
 pub struct Taken<S>(PhantomData<S>);
 
-impl<T, L, G, S: ItemRule<T, L, G>> Outcome<T, Log<L, G>> for Taken<S> {
+impl<T, L, G, S: BatchRule<T, L, G>> Outcome<T, Log<L, G>> for Taken<S> {
     ghost use Rattle.std.specs.Prelude.{◌≡◌, ◌++◌, [], ◌∷◌, IfSome};
     ghost use Rattle.relay.specs.Rule.{log};
 
     ghost then = { λ v x w. (w ≡ log v.sends v.takes v.given v.sent (v.taken ++ S.stands_for x ∷ [])) × IfSome v.given (λ g. S.belongs g x) };
 }
 
-impl<T, L, G, S: ItemRule<T, L, G>> Lesson<T, Log<L, G>> for Taken<S> {
+impl<T, L, G, S: BatchRule<T, L, G>> Lesson<T, Log<L, G>> for Taken<S> {
     ghost use Rattle.std.specs.Prelude.{⊤};
 
     ghost fact = { λ v items. ⊤ };
@@ -61,7 +61,7 @@ impl<T, L, G, S: ItemRule<T, L, G>> Lesson<T, Log<L, G>> for Taken<S> {
 /// What lies in the channel was sent and not taken, and the last item has none after it.
 pub struct Left<S>(PhantomData<S>);
 
-impl<T, L, G, S: ItemRule<T, L, G>> Lesson<T, Log<L, G>> for Left<S> {
+impl<T, L, G, S: BatchRule<T, L, G>> Lesson<T, Log<L, G>> for Left<S> {
     ghost use Rattle.relay.specs.Rule.{Remains};
 
     ghost fact = { Remains S.stands_for S.is_last };

@@ -1,4 +1,4 @@
--- What one row more tells of a departure.
+-- What one row more reports of a departure.
 use Rattle.std.proofs.Common.{◌≡◌, ℕ, ◌+◌, Bool, true, false, cond, ◌&&◌, List, [], ◌∷◌, ◌++◌, Option, Some, None, refl, sym, ap, ◌∙◌, add-zero, append-nil}
 use Rattle.std.specs.Prelude.{filter, find}
 use Rattle.std.specs.Option.{option_or}
@@ -57,9 +57,9 @@ detection-push member rows row =
     same_parts _ _ (first-push (tells_of what.Suspect member) rows row) (first-push (tells_of what.Confirm member) rows row)
     (last-push (tells_of what.Confirm member) rows row) (sum_by_push (λ r. cond (tells_of what.Confirm member r) 1 0) rows row)
 
--- ---- what a row tells of the member
+-- ---- what a row reports of the member
 
--- a row about others tells nothing of it
+-- a row about others reports nothing of it
 pub tells_of-other : (kind : What) (member : ℕ) (row : Row) → is_about member row ≡ false → tells_of kind member row ≡ false
 tells_of-other kind member row other = ap (λ b. has_kind kind row && b) other ∙ and-false (has_kind kind row)
 
@@ -67,7 +67,7 @@ pub and-true : (b : Bool) → (b && true) ≡ b
 and-true true = refl
 and-true false = refl
 
--- one about it tells of it what it tells
+-- of a row about it, the kind alone counts
 pub tells_of-it : (kind : What) (member : ℕ) (row : Row) → is_about member row ≡ true → tells_of kind member row ≡ has_kind kind row
 tells_of-it kind member row it = ap (λ b. has_kind kind row && b) it ∙ and-true (has_kind kind row)
 
@@ -77,7 +77,7 @@ has_kind-same kind other row is = ap (λ w. sameb the_type w other) is
 pub has_kind-not : (kind : What) (row : Row) → (row.what ≡ kind → ⊥) → has_kind kind row ≡ false
 has_kind-not kind row not_it = false_same the_type tt row.what kind not_it
 
--- ---- what is then told
+-- ---- what is known then
 
 pub or-none : (o : Option ℕ) → option_or o None ≡ o
 or-none None = refl

@@ -9,7 +9,7 @@ use Rattle.std.proofs.lemmas.List.Elements.{All-get_or}
 use Rattle.trace.specs.declared.row.What.{What}
 use Rattle.trace.specs.declared.row.What.TheVariants as what
 use Rattle.trace.specs.declared.row.Row.{Row}
-use Rattle.reports.specs.declared.departure.Departure.{Departure}
+use Rattle.reports.specs.declared.departure.DepartureReport.{DepartureReport}
 use Rattle.reports.specs.declared.false_positives.FalsePositive.{FalsePositive}
 use Rattle.reports.specs.Rows.{has_kind, is_about, tells_of}
 use Rattle.reports.specs.Departures.{departures_of, crashes_of, leaves_of}
@@ -18,13 +18,13 @@ use Rattle.reports.specs.Failures.{departure_with, departure_at, is_about_depart
 use Rattle.reports.proofs.Detections.{tells_of-other, same_detection}
 use Rattle.reports.proofs.Pushes.{departures_of-push, false_positives_of-push, departed_member, departed_members}
 
--- ---- departures of which a row tells nothing
+-- ---- departures of which a row reports nothing
 
-untold : (row : Row) (departure : Departure) → tells_of what.Suspect departure.member row ≡ false → tells_of what.Confirm departure.member row ≡ false → departure_with row departure ≡ departure
+untold : (row : Row) (departure : DepartureReport) → tells_of what.Suspect departure.member row ≡ false → tells_of what.Confirm departure.member row ≡ false → departure_with row departure ≡ departure
 untold row departure s c = ap (λ d. record departure { detection = d }) (sym (same_detection departure.member row departure.detection s c))
 
--- a row that is no claim tells nothing of any departure
-unclaimed : (row : Row) (departures : List Departure) → has_kind what.Suspect row ≡ false → has_kind what.Confirm row ≡ false → map (departure_with row) departures ≡ departures
+-- a row that is no claim reports nothing of any departure
+unclaimed : (row : Row) (departures : List DepartureReport) → has_kind what.Suspect row ≡ false → has_kind what.Confirm row ≡ false → map (departure_with row) departures ≡ departures
 unclaimed row [] s c = refl
 unclaimed row (departure ∷ departures) s c =
     ap (λ x. x ∷ map (departure_with row) departures) (untold row departure (ap (λ b. b && is_about departure.member row) s) (ap (λ b. b && is_about departure.member row) c))
@@ -39,7 +39,7 @@ or-right false b none = none
 or-right true b none = cc
 
 -- no departure is of a member that the row is about
-about_none : (row : Row) (about : Option ℕ) (departure : Departure) (departures : List Departure)
+about_none : (row : Row) (about : Option ℕ) (departure : DepartureReport) (departures : List DepartureReport)
     → option_map_or (λ a. list_any (λ c. c.member == a) (departure ∷ departures)) about false ≡ false
     → (option_map_or (λ a. a == departure.member) about false ≡ false) × (option_map_or (λ a. list_any (λ c. c.member == a) departures) about false ≡ false)
 about_none row None departure departures none = (refl, refl)
@@ -48,8 +48,8 @@ about_none row (Some a) departure departures none = (other departure.member a (o
     other : (m a : ℕ) → (m == a) ≡ false → (a == m) ≡ false
     other m a h = grind (arith)
 
--- a row that is about none of those who departed tells nothing of their departures
-pub unrelated : (row : Row) (departures : List Departure) → is_about_departed departures row ≡ false → map (departure_with row) departures ≡ departures
+-- a row that is about none of those who departed reports nothing of their departures
+pub unrelated : (row : Row) (departures : List DepartureReport) → is_about_departed departures row ≡ false → map (departure_with row) departures ≡ departures
 unrelated row [] none = refl
 unrelated row (departure ∷ departures) none =
     let both = about_none row row.about departure departures none in
@@ -58,13 +58,13 @@ unrelated row (departure ∷ departures) none =
 
 -- ---- a loop over all departures
 
-pub seen_more : (row : Row) (these now : List Departure) (i : ℕ) (x y : Departure) → i < length these → now ≡ map (departure_with row) (take i these) ++ drop i these
+pub seen_more : (row : Row) (these now : List DepartureReport) (i : ℕ) (x y : DepartureReport) → i < length these → now ≡ map (departure_with row) (take i these) ++ drop i these
     → x ≡ get_or now i x → y ≡ departure_with row (get_or now i x) → set now i y ≡ map (departure_with row) (take (i + 1) these) ++ drop (i + 1) these
 seen_more row these now i x y lt so_far is seen =
     ap (set now i) (seen ∙ ap (departure_with row) (sym is)) ∙ map_over_more (departure_with row) these now i x lt so_far is
 
 -- the next departure has few confirmers, where all have that few before
-pub few_here : (row : Row) (these now : List Departure) (i : ℕ) (x : Departure) → i < length these → now ≡ map (departure_with row) (take i these) ++ drop i these
+pub few_here : (row : Row) (these now : List DepartureReport) (i : ℕ) (x : DepartureReport) → i < length these → now ≡ map (departure_with row) (take i these) ++ drop i these
     → All (λ c. c.detection.confirmers < 2 ^ 63) these → (get_or now i x).detection.confirmers < 2 ^ 63
 few_here row these now i x lt so_far few =
     let long : length (map (departure_with row) (take i these)) ≡ i = length-map (take i these) (departure_with row) ∙ length-take-le i these (omega (arith, lt)) in
@@ -72,24 +72,24 @@ few_here row these now i x lt so_far few =
     let here : get_or now i x ≡ get_or these i x =
     ap (λ l. get_or l i x) so_far ∙ get_or-append_right (map (departure_with row) (take i these)) (drop i these) i i x long (omega arith)
     ∙ ap (λ k. get_or (drop i these) k x) none ∙ get_or-drop i these 0 x ∙ ap (λ k. get_or these k x) (add-zero i) in
-    subst (λ (c : Departure). c.detection.confirmers < 2 ^ 63) (sym here) (All-get_or (λ c. c.detection.confirmers < 2 ^ 63) these i x lt few)
+    subst (λ (c : DepartureReport). c.detection.confirmers < 2 ^ 63) (sym here) (All-get_or (λ c. c.detection.confirmers < 2 ^ 63) these i x lt few)
 
 -- ---- kinds of rows
 
--- the claim of which a row doesn't tell has no new false positive
+-- a claim that isn't the row's has no new false positive
 pub other_claim : (claim : What) (rows : List Row) (row : Row) → has_kind claim row ≡ false → false_positives_of claim (rows ++ row ∷ []) ≡ false_positives_of claim rows
 other_claim claim rows row other =
     false_positives_of-push claim rows row ∙ ap (λ b. false_positives_of claim rows ++ cond (b && not (is_about_one (departed_in ways_to_depart rows) row)) (false_positive_told row ∷ []) []) other ∙ append-nil (false_positives_of claim rows)
 
 -- whether a row is about one of those who departed
-list_any-members : (departures : List Departure) (about : ℕ) → list_any (λ m. m == about) (map departed_member departures) ≡ list_any (λ d. d.member == about) departures
+list_any-members : (departures : List DepartureReport) (about : ℕ) → list_any (λ m. m == about) (map departed_member departures) ≡ list_any (λ d. d.member == about) departures
 list_any-members [] about = refl
 list_any-members (departure ∷ departures) about = ap (λ b. departure.member == about || b) (list_any-members departures about)
 
-about_these : (departures : List Departure) (row : Row) → is_about_one (map departed_member departures) row ≡ is_about_departed departures row
+about_these : (departures : List DepartureReport) (row : Row) → is_about_one (map departed_member departures) row ≡ is_about_departed departures row
 about_these departures row = about_one departures row.about
   where
-    about_one : (departures : List Departure) (about : Option ℕ)
+    about_one : (departures : List DepartureReport) (about : Option ℕ)
         → option_map_or (λ a. list_any (λ m. m == a) (map departed_member departures)) about false ≡ option_map_or (λ a. list_any (λ d. d.member == a) departures) about false
     about_one departures None = refl
     about_one departures (Some a) = list_any-members departures a
@@ -122,7 +122,7 @@ not_then true kept = refl
 not_then false kept = refl
 
 -- a claim has a new false positive, if it is about none of those who departed
-pub own_claim : (claim : What) (rows : List Row) (row : Row) (crashes leaves : List Departure) (old new : List FalsePositive) → has_kind claim row ≡ true → crashes ≡ crashes_of rows → leaves ≡ leaves_of rows
+pub own_claim : (claim : What) (rows : List Row) (row : Row) (crashes leaves : List DepartureReport) (old new : List FalsePositive) → has_kind claim row ≡ true → crashes ≡ crashes_of rows → leaves ≡ leaves_of rows
     → new ≡ old ++ (if is_about_departed crashes row || is_about_departed leaves row then [] else false_positive_told row ∷ []) → old ≡ false_positives_of claim rows → new ≡ false_positives_of claim (rows ++ row ∷ [])
 own_claim claim rows row crashes leaves old new told crashed left is so_far =
     is ∙ ap (λ l. l ++ (if is_about_departed crashes row || is_about_departed leaves row then [] else false_positive_told row ∷ [])) so_far

@@ -8,7 +8,7 @@ use Rattle.trace.specs.declared.row.What.{What}
 use Rattle.trace.specs.declared.row.What.TheVariants as what
 use Rattle.trace.specs.declared.row.Row.{Row}
 use Rattle.reports.specs.declared.departure.Detection.{Detection}
-use Rattle.reports.specs.declared.departure.Departure.{Departure}
+use Rattle.reports.specs.declared.departure.DepartureReport.{DepartureReport}
 use Rattle.reports.specs.declared.false_positives.FalsePositive.{FalsePositive}
 use Rattle.reports.specs.Rows.{Placed, rows_in_place, placed_after, has_kind, tells_of}
 use Rattle.reports.specs.Departures.{departure_told, is_departure, departures_of}
@@ -59,7 +59,7 @@ made-one make false p = refl
 
 -- ---- departures
 
-abbrev departure : ℕ → ℕ → Detection → Departure
+abbrev departure : ℕ → ℕ → Detection → DepartureReport
 departure member at told = record { member = member; at = at; detection = told }
 
 departures-later : (row : Row) (ps : List Placed) → map departure_told (map (with_later row) ps) ≡ map (departure_with row) (map departure_told ps)
@@ -95,7 +95,7 @@ false_positives_of-push claim rows row =
 
 -- ---- who departed
 
-abbrev pub departed_member : Departure → ℕ
+abbrev pub departed_member : DepartureReport → ℕ
 departed_member d = d.member
 
 abbrev pub row_member : Row → ℕ

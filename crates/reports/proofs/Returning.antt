@@ -54,7 +54,7 @@ length-placed earlier (row ∷ rows) = ap suc (length-placed (earlier ++ row ∷
 pub few_revivals : (rows : List Row) → revivals rows ≤ length rows
 few_revivals rows = omega (arith, count_by-le-length is_revival (rows_in_place rows), length-placed [] rows)
 
--- whether somebody is, by other marks that tell the same
+-- whether a row is a recovery, by other marks that are the same
 same_back : (failed other : ℕ → ℕ → Bool) (row : Row) → ((member subject : ℕ) → failed member subject ≡ other member subject) → is_back failed row ≡ is_back other row
 same_back failed other row same = ap (λ b. has_kind what.Alive row && b) (about row.about)
   where

@@ -12,7 +12,7 @@ use Rattle.trace.specs.Text.{word_of}
 use Rattle.trace.specs.declared.row.What.{What}
 use Rattle.trace.specs.declared.row.What.TheVariants as what
 use Rattle.trace.specs.declared.row.Row.{Row}
-use Rattle.reports.specs.declared.departure.Departure.{Departure}
+use Rattle.reports.specs.declared.departure.DepartureReport.{DepartureReport}
 use Rattle.reports.specs.Rows.{Placed, placed_after, rows_in_place, has_kind, tells_lost, count_of, losses_of}
 use Rattle.reports.specs.Departures.{crashes_of, leaves_of}
 use Rattle.reports.specs.FalsePositives.{ways_to_depart, first_ways_to_depart, departed_by, is_false_claim, is_false_positive, is_healthy, is_healthy_false_positive, false_positives, healthy_false_positives}
@@ -26,11 +26,11 @@ none_kept test xs none = nil_from_length (filter test xs) (length-filter test xs
 none_first : (test : Row → Bool) (first second : List Row) → count_by test (first ++ second) ≡ 0 → count_by test first ≡ 0
 none_first test first second none = omega (arith, none, sum_by-append (λ r. cond (test r) 1 0) first second)
 
--- no row before it tells of a leave
+-- no row before it reports a leave
 abbrev no_leave : Placed → Type 0
 no_leave p = count_of what.Leave p.earlier ≡ 0
 
--- where no row tells of a leave, none before any of them does
+-- where no row reports a leave, none before any of them does
 none_earlier : (earlier rows : List Row) → count_of what.Leave (earlier ++ rows) ≡ 0 → All no_leave (placed_after earlier rows)
 none_earlier earlier [] none = All-nil no_leave
 none_earlier earlier (row ∷ rows) none =
@@ -77,13 +77,13 @@ first_report s rows first none =
 
 -- ---- version 2
 
--- where no row tells of a leave, there is none
+-- where no row reports a leave, there is none
 no_leaves : (rows : List Row) → count_of what.Leave rows ≡ 0 → leaves_of rows ≡ []
 no_leaves rows none =
     nil_from_length (leaves_of rows)
     (sym (length-map (leaves_of rows) departed_member) ∙ ap length (departed_members what.Leave rows) ∙ ap (λ l. length (map row_member l)) (none_kept (has_kind what.Leave) rows none))
 
--- of what no row tells, nothing was lost
+-- of a kind that no row has, nothing was lost
 none_lost : (kind : What) (rows : List Row) → count_of kind rows ≡ 0 → losses_of kind rows ≡ 0
 none_lost kind rows none = omega (arith, none, sum_by-le-sum_by (λ r. cond (tells_lost kind r) 1 0) (λ r. cond (has_kind kind r) 1 0) rows (λ r. fewer (has_kind kind r) r.lost))
   where
@@ -92,13 +92,13 @@ none_lost kind rows none = omega (arith, none, sum_by-le-sum_by (λ r. cond (tel
     fewer true false = omega arith
     fewer false lost = omega arith
 
--- crashes are told alike in both versions
+-- both versions print the same line for a crash
 same_crash_line : (s : Setup) → crash_line (record s { version = Two }) ≡ crash_line (record s { version = One })
 unfolding crash_line
 same_crash_line s = refl
 
--- what a report tells, but its messages, with these lines of crashes and leaves
-abbrev told : Setup → List Row → (Departure → List ℕ) → List ℕ → List ℕ
+-- what a report prints, but its messages, with these lines of crashes and leaves
+abbrev told : Setup → List Row → (DepartureReport → List ℕ) → List ℕ → List ℕ
 told s rows crash leaves =
     size_lines s rows ++ flat_map crash (crashes_of rows) ++ leaves ++ latencies_line (crashes_of rows)
     ++ false_claim_line s ways_to_depart rows what.Suspect ++ false_claim_line s ways_to_depart rows what.Confirm ++ revived_lines Two rows ++ protocol_lines rows

@@ -1,4 +1,4 @@
--- What a trace tells of the members that depart, by a crash or a leave: who detected it, and how late.
+-- What a trace reports of the members that depart, by a crash or a leave: who detected it, and how late.
 use Rattle.std.specs.Prelude.{ℕ, Bool, ◌-◌, List, map, filter, filter_map, find, count_by, Option, None}
 use Rattle.std.specs.Option.{option_map}
 use Rattle.std.specs.List.{last_or}
@@ -6,14 +6,14 @@ use Rattle.trace.specs.declared.row.What.{What}
 use Rattle.trace.specs.declared.row.What.TheVariants as what
 use Rattle.trace.specs.declared.row.Row.{Row}
 use Rattle.reports.specs.declared.departure.Detection.{Detection}
-use Rattle.reports.specs.declared.departure.Departure.{Departure}
+use Rattle.reports.specs.declared.departure.DepartureReport.{DepartureReport}
 use Rattle.reports.specs.Rows.{Placed, rows_in_place, has_kind, tells_of}
 
 -- the moment of a row, if there is one
 abbrev pub moment_of : Option Row → Option ℕ
 moment_of row = option_map (λ r. r.at) row
 
--- what the rows after a member's departure tell of it: when it was first suspected, when it was first and last confirmed to have failed, and how often that was
+-- what later rows report of a member's departure: when it was first suspected, when first and last confirmed to have failed, and how often
 abbrev pub detection_of : ℕ → List Row → Detection
 detection_of member later =
     record {
@@ -23,30 +23,30 @@ detection_of member later =
       confirmers = count_by (tells_of what.Confirm member) later;
     }
 
--- the departure that a row tells of. Only what stands later in the trace counts as its detection
-abbrev pub departure_told : Placed → Departure
+-- the departure that a row reports. Only what stands later in the trace counts as its detection
+abbrev pub departure_told : Placed → DepartureReport
 departure_told p = record { member = p.row.member; at = p.row.at; detection = detection_of p.row.member p.later }
 
--- the row tells of a departure of this way
+-- the row reports a departure of this way
 abbrev pub is_departure : What → Placed → Bool
 is_departure way p = has_kind way p.row
 
 -- the departures of a trace of one way, in its order
-abbrev pub departures_of : What → List Row → List Departure
+abbrev pub departures_of : What → List Row → List DepartureReport
 departures_of way rows = map departure_told (filter (is_departure way) (rows_in_place rows))
 
 -- the crashes of a trace
-abbrev pub crashes_of : List Row → List Departure
+abbrev pub crashes_of : List Row → List DepartureReport
 crashes_of rows = departures_of what.Crash rows
 
 -- its leaves
-abbrev pub leaves_of : List Row → List Departure
+abbrev pub leaves_of : List Row → List DepartureReport
 leaves_of rows = departures_of what.Leave rows
 
 -- how long it took until a first member confirmed a departure, where one did
-abbrev pub latency_of : Departure → Option ℕ
+abbrev pub latency_of : DepartureReport → Option ℕ
 latency_of departure = option_map (λ confirm. confirm - departure.at) departure.detection.confirm
 
 -- the latencies that are there
-abbrev pub latencies_of : List Departure → List ℕ
+abbrev pub latencies_of : List DepartureReport → List ℕ
 latencies_of departures = filter_map latency_of departures

@@ -7,7 +7,7 @@ use Rattle.trace.specs.declared.row.What.{What}
 use Rattle.trace.specs.declared.row.What.TheVariants as what
 use Rattle.trace.specs.declared.row.Row.{Row}
 use Rattle.reports.specs.declared.departure.Detection.{Detection}
-use Rattle.reports.specs.declared.departure.Departure.{Departure}
+use Rattle.reports.specs.declared.departure.DepartureReport.{DepartureReport}
 use Rattle.reports.specs.declared.false_positives.FalsePositive.{FalsePositive}
 use Rattle.reports.specs.declared.failures.Failures.{Failures}
 use Rattle.reports.specs.Rows.{rows_in_place, tells_of}
@@ -18,7 +18,7 @@ use Rattle.reports.specs.FalsePositives.{ways_to_depart, is_false_positive}
 abbrev pub moment_if : Bool → ℕ → Option ℕ
 moment_if test at = cond test (Some at) None
 
--- what is told of a departure, with one moment more: whether the member was suspected then, and whether it was confirmed to have failed
+-- what is known of a departure, with one moment more: whether the member was suspected then, and whether it was confirmed to have failed
 abbrev pub detection_if : Bool → Bool → ℕ → Detection → Detection
 detection_if suspects confirms at d =
     record {
@@ -28,23 +28,23 @@ detection_if suspects confirms at d =
       confirmers = d.confirmers + cond confirms 1 0;
     }
 
--- what is told of a member's departure, with what one row more tells of it
+-- what is known of a member's departure, with what one row more reports of it
 abbrev pub detection_with : ℕ → Row → Detection → Detection
 detection_with member row d = detection_if (tells_of what.Suspect member row) (tells_of what.Confirm member row) row.at d
 
--- a departure, with what one row more tells of it
-abbrev pub departure_with : Row → Departure → Departure
+-- a departure, with what one row more reports of it
+abbrev pub departure_with : Row → DepartureReport → DepartureReport
 departure_with row departure = record { member = departure.member; at = departure.at; detection = detection_with departure.member row departure.detection }
 
--- the departure that a row tells of, before any other row tells of it
-abbrev pub departure_at : Row → Departure
+-- the departure that a row reports, before any other row reports of it
+abbrev pub departure_at : Row → DepartureReport
 departure_at row = record { member = row.member; at = row.at; detection = detection_of row.member [] }
 
 -- the row is about a member that departed
-abbrev pub is_about_departed : List Departure → Row → Bool
+abbrev pub is_about_departed : List DepartureReport → Row → Bool
 is_about_departed departures row = option_map_or (λ about. list_any (λ departure. departure.member == about) departures) row.about false
 
--- what is kept of a row that is a false positive: whose it is, of whom it tells, and when
+-- what is kept of a row that is a false positive: whose it is, which member it is about, and when
 abbrev pub false_positive_told : Row → FalsePositive
 false_positive_told row = record { member = row.member; about = row.about; at = row.at }
 
@@ -56,7 +56,7 @@ false_positives_of claim rows = map (λ p. false_positive_told p.row) (filter (i
 abbrev pub is_healthy_maker : Setup → FalsePositive → Bool
 is_healthy_maker s claim = extra_of s claim.member claim.at == 0
 
--- what is kept is what these rows tell
+-- what is kept is what these rows report
 pub record AreFailuresOf (failures : Failures) (rows : List Row) : Type 0 where
   pub crashed : failures.crashes.items ≡ crashes_of rows
   pub left : failures.leaves.items ≡ leaves_of rows

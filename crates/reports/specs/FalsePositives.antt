@@ -32,7 +32,7 @@ is_about_one members row = option_map_or (λ about. list_any (λ member. member 
 abbrev pub is_false_claim : What → List ℕ → Row → Bool
 is_false_claim claim departed row = has_kind claim row && not (is_about_one departed row)
 
--- the row claims this of a member of whose departure, in one of these ways, no row earlier in the trace tells
+-- the row claims this of a member, and no row earlier in the trace reports that this member departed in one of these ways
 abbrev pub is_false_positive : List What → What → Placed → Bool
 is_false_positive ways claim p = is_false_claim claim (departed_in ways p.earlier) p.row
 

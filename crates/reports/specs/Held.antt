@@ -29,15 +29,15 @@ marked_with first second marked pairs a b = if (first == a) && (second == b) the
 abbrev pub failed_of : Revivals → ℕ → ℕ → Bool
 failed_of r = are_marked r.failed
 
--- the same with what one row more tells
+-- the same after one row more
 abbrev pub failed_with : Row → (ℕ → ℕ → Bool) → ℕ → ℕ → Bool
 failed_with row failed member subject = if is_view_of member subject row then has_kind what.Confirm row else failed member subject
 
--- there is a place for whom a row tells to have failed
+-- there is a place for the member that a row reports to have failed
 abbrev pub HasPlaceFor : Revivals → Row → Type 0
 HasPlaceFor r row = has_kind what.Confirm row ≡ true → IfSome row.about (HasPlace r.failed row.member)
 
--- what is kept is what these rows tell
+-- what is kept is what these rows report
 pub record AreRevivalsOf (r : Revivals) (rows : List Row) : Type 0 where
   pub all : r.count ≡ revivals rows
   pub held : (member subject : ℕ) → failed_of r member subject ≡ holds_failed rows member subject

@@ -7,11 +7,11 @@ use Rattle.trace.specs.declared.row.What.TheVariants as what
 use Rattle.trace.specs.declared.row.Row.{Row}
 use Rattle.reports.specs.Rows.{Placed, rows_in_place, has_kind, is_about}
 
--- what a member may hold of another, as a row tells it
+-- what a member may hold of another, as a row reports it
 abbrev pub views : List What
 views = what.Alive ∷ what.Suspect ∷ what.Confirm ∷ []
 
--- the row tells what its member holds from now on
+-- the row reports what its member holds from now on
 abbrev pub is_view : Row → Bool
 is_view row = list_any (λ view. has_kind view row) views
 
@@ -19,7 +19,7 @@ is_view row = list_any (λ view. has_kind view row) views
 abbrev pub is_view_of : ℕ → ℕ → Row → Bool
 is_view_of member subject row = is_view row && ((row.member == member) && is_about subject row)
 
--- by the last of these rows that tells what the member holds of the subject, it holds it to have failed
+-- by the last of these rows that report what the member holds of the subject, it holds it to have failed
 abbrev pub holds_failed : List Row → ℕ → ℕ → Bool
 holds_failed rows member subject = option_map_or (has_kind what.Confirm) (last_or None (filter (is_view_of member subject) rows)) false
 

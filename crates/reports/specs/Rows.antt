@@ -8,7 +8,7 @@ use Rattle.trace.specs.declared.row.What.{What}
 use Rattle.trace.specs.declared.row.What.TheVariants as what
 use Rattle.trace.specs.declared.row.Row.{Row}
 
--- the row tells of this
+-- the row is of this kind
 abbrev pub has_kind : What → Row → Bool
 has_kind kind row = sameb the_type row.what kind
 
@@ -16,15 +16,15 @@ has_kind kind row = sameb the_type row.what kind
 abbrev pub is_about : ℕ → Row → Bool
 is_about member row = option_map_or (λ about. about == member) row.about false
 
--- the row tells this of the member
+-- the row is of this kind and about the member
 abbrev pub tells_of : What → ℕ → Row → Bool
 tells_of kind member row = has_kind kind row && is_about member row
 
--- the row tells of this, and that it was lost
+-- the row is of this kind and about a message that was lost
 abbrev pub tells_lost : What → Row → Bool
 tells_lost kind row = has_kind kind row && row.lost
 
--- how many rows tell of this
+-- how many rows are of this kind
 abbrev pub count_of : What → List Row → ℕ
 count_of kind rows = count_by (has_kind kind) rows
 

@@ -8,13 +8,13 @@ use Rattle.trace.specs.Text.{word_of}
 use Rattle.trace.specs.declared.row.What.{What}
 use Rattle.trace.specs.declared.row.What.TheVariants as what
 use Rattle.trace.specs.declared.row.Row.{Row}
-use Rattle.reports.specs.declared.departure.Departure.{Departure}
+use Rattle.reports.specs.declared.departure.DepartureReport.{DepartureReport}
 use Rattle.reports.specs.Rows.{count_of, losses_of, worst_health}
 use Rattle.reports.specs.Departures.{crashes_of, leaves_of, latency_of, latencies_of}
 use Rattle.reports.specs.Revivals.{revivals}
 use Rattle.reports.specs.FalsePositives.{ways_to_depart, first_ways_to_depart, false_positives, healthy_false_positives}
 
--- a line: its fields, parted by one space, and a line feed
+-- a line: its fields, separated by one space, and a line feed
 abbrev pub line : List (List ℕ) → List ℕ
 line fields = join_with_byte 32 fields ++ codes "\n"
 
@@ -28,7 +28,7 @@ unfoldable pub count_line : List ℕ → ℕ → List ℕ
 count_line word n = line (word ∷ decimal n ∷ [])
 
 -- a crash: whose and when, the first suspicion, the first and the last confirmation and how many there were, and the latency
-unfoldable pub crash_line : Setup → Departure → List ℕ
+unfoldable pub crash_line : Setup → DepartureReport → List ℕ
 crash_line s crash =
     line (codes "crash" ∷ name_of s crash.member ∷ decimal crash.at
     ∷ codes "suspect" ∷ figure crash.detection.suspect
@@ -38,7 +38,7 @@ crash_line s crash =
     ∷ codes "latency" ∷ figure (latency_of crash) ∷ [])
 
 -- a leave: whose and when, the first and the last confirmation, and how many there were
-unfoldable pub leave_line : Setup → Departure → List ℕ
+unfoldable pub leave_line : Setup → DepartureReport → List ℕ
 leave_line s leave =
     line (codes "leave" ∷ name_of s leave.member ∷ decimal leave.at
     ∷ codes "confirm" ∷ figure leave.detection.confirm
@@ -67,12 +67,12 @@ message_kinds One = first_message_kinds
 message_kinds Two = first_message_kinds ++ what.Bye ∷ []
 message_kinds Three = first_message_kinds ++ what.Bye ∷ what.Gossip ∷ what.Call ∷ what.Answer ∷ what.Push ∷ what.Pull ∷ []
 
--- how large the cluster is, how long it ran, and how much there is to tell
+-- how large the cluster is, how long it ran, and how many rows it wrote
 abbrev pub size_lines : Setup → List Row → List ℕ
 size_lines s rows = count_line (codes "members") (member_count s) ++ count_line (codes "end") s.end ++ count_line (codes "rows") (length rows)
 
 -- the least and the greatest of the latencies that are there
-abbrev pub latencies_line : List Departure → List ℕ
+abbrev pub latencies_line : List DepartureReport → List ℕ
 latencies_line crashes = latency_line (reduce min (latencies_of crashes)) (reduce max (latencies_of crashes))
 
 -- a line for each crash
@@ -80,7 +80,7 @@ abbrev pub crash_lines : Setup → List Row → List ℕ
 crash_lines s rows = flat_map (crash_line s) (crashes_of rows)
 
 -- a line for each leave, where a version of the format has them
-abbrev pub leave_lines : Version → Setup → List Departure → List ℕ
+abbrev pub leave_lines : Version → Setup → List DepartureReport → List ℕ
 leave_lines One s leaves = []
 leave_lines Two s leaves = flat_map (leave_line s) leaves
 leave_lines Three s leaves = flat_map (leave_line s) leaves

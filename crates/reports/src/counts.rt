@@ -15,9 +15,9 @@ const KINDS: usize = 29;
 pub(crate) struct Counts {
     /// How many rows there are.
     pub(crate) rows: u64,
-    /// How many rows tell of each kind.
+    /// How many rows there are of each kind.
     pub(crate) told: [u64; KINDS],
-    /// How many of these tell of what was lost.
+    /// How many of these are about a message that was lost.
     pub(crate) lost: [u64; KINDS],
     /// The highest local health counter that any member reached (Lifeguard's LHA-Probe).
     pub(crate) worst_health: u64,
@@ -49,14 +49,14 @@ impl Counts {
         self.worst_health = worse(self.worst_health, row);
     }
 
-    /// How many rows tell of this.
+    /// How many rows are of this kind.
     pub(crate) fn rows_of(&self, kind: What) -> u64
         ensures { result ≡ slice_index self.now.told (count_place kind) }
     {
         self.told[count_place(kind)]
     }
 
-    /// How many rows tell of this, and that it was lost.
+    /// How many rows are of this kind and about a message that was lost.
     pub(crate) fn lost(&self, kind: What) -> u64
         ensures { result ≡ slice_index self.now.lost (count_place kind) }
     {
@@ -76,7 +76,7 @@ fn raise(counts: &mut [u64; KINDS], place: usize, does_count: bool)
     }
 }
 
-/// The worse of a health counter and that of a row, where the row tells of one.
+/// The worse of a health counter and that of a row, where the row reports one.
 fn worse(health: u64, row: &Row) -> u64
     ensures { result ≡ (if has_kind What.Health row.now then max health row.now.value else health) }
 {

@@ -9,7 +9,7 @@ use crate::rows::is_about;
 use base::{MemberId, Memory, Moment};
 use trace::{Row, What};
 
-/// What the rows after a member's departure tell of it.
+/// What the rows after a member's departure report of it.
 #[derive(Clone, Copy)]
 pub struct Detection {
     /// When the member was first suspected.
@@ -23,7 +23,7 @@ pub struct Detection {
 }
 
 impl Detection {
-    /// Takes in what one row more tells of the member.
+    /// Takes in what one row more reports of the member.
     fn see(&mut self, row: &Row, member: MemberId)
         requires { self.old.confirmers < 2 ^ 63 }
         ensures { self.new ≡ detection_with member row.now self.old }
@@ -60,17 +60,17 @@ impl Detection {
 
 /// A crash or a leave, and how it was detected.
 #[derive(Clone, Copy)]
-pub struct Departure {
+pub struct DepartureReport {
     /// Who departed.
     pub member: MemberId,
     /// When it departed.
     pub at: Moment,
-    /// What later rows tell of it.
+    /// What later rows report of it.
     pub detection: Detection,
 }
 
-impl Departure {
-    /// Takes in what one row more tells of the departure.
+impl DepartureReport {
+    /// Takes in what one row more reports of the departure.
     fn see(&mut self, row: &Row)
         requires { self.old.detection.confirmers < 2 ^ 63 }
         ensures { self.new ≡ departure_with row.now self.old }
@@ -87,8 +87,8 @@ impl Departure {
     }
 }
 
-/// Adds the departure that a row tells of. Only later rows tell how it was detected.
-pub(crate) fn add_departure(departures: &mut Vec<Departure>, row: &Row) -> Result<(), Memory>
+/// Adds the departure that a row reports. Only later rows report how it was detected.
+pub(crate) fn add_departure(departures: &mut Vec<DepartureReport>, row: &Row) -> Result<(), Memory>
     ensures ok { OnOk result (departures.new.items ≡ departures.old.items ++ departure_at row.now ∷ []) }
     ensures err { OnErr result (departures.new.items ≡ departures.old.items) }
 {
@@ -98,7 +98,7 @@ pub(crate) fn add_departure(departures: &mut Vec<Departure>, row: &Row) -> Resul
         last: None,
         confirmers: 0,
     };
-    departures.push(Departure {
+    departures.push(DepartureReport {
         member: row.member,
         at: row.at,
         detection,
@@ -106,8 +106,8 @@ pub(crate) fn add_departure(departures: &mut Vec<Departure>, row: &Row) -> Resul
     Ok(())
 }
 
-/// Takes in what one row more tells of each departure.
-pub(crate) fn see_each(departures: &mut [Departure], row: &Row)
+/// Takes in what one row more reports of each departure.
+pub(crate) fn see_each(departures: &mut [DepartureReport], row: &Row)
     requires { All (λ departure. departure.detection.confirmers < 2 ^ 63) departures.old }
     ensures { departures.new ≡ map (departure_with row.now) departures.old }
 {
@@ -117,7 +117,7 @@ pub(crate) fn see_each(departures: &mut [Departure], row: &Row)
 }
 
 /// Whether a row is about a member that departed.
-pub(crate) fn is_about_departed(row: &Row, departures: &[Departure]) -> bool
+pub(crate) fn is_about_departed(row: &Row, departures: &[DepartureReport]) -> bool
     ensures { result ≡ is_about_departed departures.now row.now }
 {
     match row.about {
@@ -126,7 +126,7 @@ pub(crate) fn is_about_departed(row: &Row, departures: &[Departure]) -> bool
     }
 }
 
-fn has_departed(member: MemberId, departures: &[Departure]) -> bool
+fn has_departed(member: MemberId, departures: &[DepartureReport]) -> bool
     ensures { result ≡ list_any (λ departure. departure.member == member) departures.now }
 {
     departures

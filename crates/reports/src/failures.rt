@@ -3,19 +3,19 @@ ghost use Rattle.std.specs.Prelude.{◌≡◌, ◌<◌, ◌^◌, ◌++◌, ◌�
 ghost use Rattle.trace.specs.declared.row.Row.{Row as AnyRow};
 ghost use Rattle.reports.specs.Failures.{departure_with, false_positive_told, is_about_departed, AreFailuresOf};
 
-use crate::departure::{Departure, add_departure, is_about_departed, see_each};
+use crate::departure::{DepartureReport, add_departure, is_about_departed, see_each};
 use crate::false_positives::FalsePositive;
 use base::Memory;
 use std::alloc::Global;
 use trace::{Row, What};
 
-/// What the rows so far tell of departures, and of claims that a member failed.
+/// What the rows so far report of departures, and of claims that a member failed.
 #[derive(Drop)]
 pub(crate) struct Failures {
     /// The crashes, in the order of the trace, and how each was detected.
-    pub(crate) crashes: Vec<Departure>,
+    pub(crate) crashes: Vec<DepartureReport>,
     /// The leaves, likewise.
-    pub(crate) leaves: Vec<Departure>,
+    pub(crate) leaves: Vec<DepartureReport>,
     /// The suspicions of members that had not departed.
     pub(crate) suspicions: Vec<FalsePositive>,
     /// The confirmations that a member failed which had not departed.
@@ -35,7 +35,7 @@ impl Failures {
         }
     }
 
-    /// Takes in what the next row tells. A refusal changes nothing.
+    /// Takes in what the next row reports. A refusal changes nothing.
     pub(crate) fn follow(&mut self, row: &Row) -> Result<(), Memory>
         requires { (rows : List AnyRow) × AreFailuresOf self.old rows × (length rows < 2 ^ 63) }
         ensures ok { OnOk result ((rows : List AnyRow) → AreFailuresOf self.old rows → AreFailuresOf self.new (rows ++ row.now ∷ [])) }
@@ -61,11 +61,11 @@ impl Failures {
     }
 }
 
-/// Takes in a claim that a member failed: it is told of that member's departures, or it is false.
+/// Takes in a claim that a member failed: it counts for that member's departures, or it is false.
 fn add_claim(
     claims: &mut Vec<FalsePositive>,
-    crashes: &mut Vec<Departure>,
-    leaves: &mut Vec<Departure>,
+    crashes: &mut Vec<DepartureReport>,
+    leaves: &mut Vec<DepartureReport>,
     row: &Row,
 ) -> Result<(), Memory>
     requires crashes { All (λ departure. departure.detection.confirmers < 2 ^ 63) crashes.old.items }
@@ -88,7 +88,7 @@ fn add_claim(
 }
 
 /// Whether a row is about a member that crashed or left.
-fn is_about_either(row: &Row, crashes: &[Departure], leaves: &[Departure]) -> bool
+fn is_about_either(row: &Row, crashes: &[DepartureReport], leaves: &[DepartureReport]) -> bool
     ensures { result ≡ (is_about_departed crashes.now row.now || is_about_departed leaves.now row.now) }
 {
     is_about_departed(row, crashes) || is_about_departed(row, leaves)

@@ -14,7 +14,7 @@ mod rows;
 mod tallies;
 mod text;
 
-pub use departure::{Departure, Detection};
+pub use departure::{DepartureReport, Detection};
 pub use false_positives::{FalsePositive, false_positive_count, healthy_false_positive_count};
 pub use laws::{first_reports_stay, second_reports_add_a_line};
 pub use reporting::{message_kinds, report, report_on};

@@ -12,8 +12,7 @@ use base::Memory;
 use std::alloc::Global;
 use trace::{Row, What};
 
-/// How often the rows so far tell that a member takes one for alive again, and who holds whom to
-/// have failed.
+/// How many of the rows so far report a recovery, and who holds whom to have failed.
 #[derive(Drop)]
 pub(crate) struct Revivals {
     /// How many such rows there are.
@@ -32,7 +31,7 @@ impl Revivals {
         }
     }
 
-    /// Has room for what a row tells. What is kept stays, also where it is refused.
+    /// Makes room for what a row reports. What is kept stays, also after a refusal.
     pub(crate) fn make_room_for_row(&mut self, row: &Row) -> Result<(), Memory>
         ensures room { OnOk result (HasPlaceFor self.new row.now) }
         ensures same { (rows : List AnyRow) → AreRevivalsOf self.old rows → AreRevivalsOf self.new rows }
@@ -46,7 +45,7 @@ impl Revivals {
         }
     }
 
-    /// Takes in what the next row tells, for which there is room.
+    /// Takes in what the next row reports, for which there is room.
     pub(crate) fn follow(&mut self, row: &Row)
         requires by_one { self.old.count < 2 ^ 63 }
         requires room { HasPlaceFor self.old row.now }
@@ -74,7 +73,7 @@ impl Revivals {
     }
 }
 
-/// Takes in what a row tells that its member holds.
+/// Takes in what a row reports that its member holds.
 fn see(failed: &mut Pairs, row: &Row)
     requires { has_kind What.Confirm row.now ≡ true → IfSome row.now.about (HasPlace failed.old row.now.member) }
     ensures { (a b : ℕ) → are_marked failed.new a b ≡ failed_with row.now (are_marked failed.old) a b }
@@ -87,7 +86,7 @@ fn see(failed: &mut Pairs, row: &Row)
     }
 }
 
-/// Whether a row tells what its member holds of another from now on.
+/// Whether a row reports what its member holds of another from now on.
 fn is_view(row: &Row) -> bool
     ensures { result ≡ is_view row.now }
 {

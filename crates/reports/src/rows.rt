@@ -5,7 +5,7 @@ ghost use Rattle.reports.specs.Rows.{has_kind, is_about};
 use base::MemberId;
 use trace::{Row, What};
 
-/// Whether a row tells of this.
+/// Whether a row is of this kind.
 pub(crate) fn has_kind(row: &Row, kind: What) -> bool
     ensures { result ≡ has_kind kind row.now }
 {

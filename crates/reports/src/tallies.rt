@@ -6,7 +6,7 @@ ghost use Rattle.reports.specs.Failures.{false_positives_of};
 ghost use Rattle.reports.specs.Revivals.{revivals};
 
 use crate::counts::Counts;
-use crate::departure::Departure;
+use crate::departure::DepartureReport;
 use crate::failures::Failures;
 use crate::false_positives::FalsePositive;
 use crate::past::Past;
@@ -18,7 +18,7 @@ use std::marker::Model;
 use trace::{Row, What};
 
 /// The rows of a run so far, in the order in which they came: 2^63 of them at most. It keeps of them
-/// what a report tells: counts, for each crash and leave how it was detected, the false claims, and
+/// what a report prints: counts, for each crash and leave how it was detected, the false claims, and
 /// who holds whom to have failed.
 #[derive(Drop)]
 pub struct Tallies {
@@ -125,7 +125,7 @@ impl Tallies {
         self.counts.worst_health
     }
 
-    /// How many rows tell that a member takes one for alive again whom it held to have failed.
+    /// How many rows report that a member takes one for alive again whom it held to have failed.
     pub fn revivals(&self) -> u64
         ensures { result ≡ revivals self.now }
     {
@@ -133,14 +133,14 @@ impl Tallies {
     }
 
     /// The crashes, in the order of the rows, and how each was detected.
-    pub fn crashes(&self) -> &[Departure]
+    pub fn crashes(&self) -> &[DepartureReport]
         ensures { result.now ≡ crashes_of self.now }
     {
         self.failures.crashes.as_slice()
     }
 
     /// The leaves, in the order of the rows.
-    pub(crate) fn leaves(&self) -> &[Departure]
+    pub(crate) fn leaves(&self) -> &[DepartureReport]
         ensures { result.now ≡ leaves_of self.now }
     {
         self.failures.leaves.as_slice()

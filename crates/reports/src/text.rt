@@ -8,7 +8,7 @@ ghost use Rattle.reports.specs.Departures.{latencies_of};
 ghost use Rattle.reports.specs.FalsePositives.{ways_to_depart};
 ghost use Rattle.reports.specs.Text.{figure, count_line, size_lines, crash_line, leave_line, leave_lines, latency_line, latencies_line, false_line, false_claim_line, sent_line, message_line, protocol_lines, revived_lines};
 
-use crate::departure::Departure;
+use crate::departure::DepartureReport;
 use crate::false_positives::{false_positive_count, healthy_false_positive_count};
 use crate::tallies::Tallies;
 use base::Moment;
@@ -50,7 +50,7 @@ fn push_count(text: &mut String, word: &str, number: u64) -> Result<(), AllocErr
     writeln!(text, "{word} {number}")
 }
 
-/// Appends how large the cluster is, how long it ran, and how much there is to tell.
+/// Appends how large the cluster is, how long it ran, and how many rows it wrote.
 pub(crate) fn push_sizes(
     text: &mut String,
     tallies: &Tallies,
@@ -65,7 +65,11 @@ pub(crate) fn push_sizes(
 
 /// Appends the line of a crash.
 #[tactic(auto, unfolding(crate::specs::Text::crash_line))]
-fn push_crash(text: &mut String, crash: &Departure, scenario: &Scenario) -> Result<(), AllocError>
+fn push_crash(
+    text: &mut String,
+    crash: &DepartureReport,
+    scenario: &Scenario,
+) -> Result<(), AllocError>
     requires { crash.now.member < member_count scenario.now }
     ensures { OnOk result (string_bytes text.new ≡ string_bytes text.old ++ crash_line scenario.now crash.now) }
 {
@@ -86,7 +90,7 @@ fn push_crash(text: &mut String, crash: &Departure, scenario: &Scenario) -> Resu
 /// Appends a line for each crash.
 pub(crate) fn push_crashes(
     text: &mut String,
-    crashes: &[Departure],
+    crashes: &[DepartureReport],
     scenario: &Scenario,
 ) -> Result<(), AllocError>
     requires { All (λ crash. crash.member < member_count scenario.now) crashes.now }
@@ -102,7 +106,7 @@ pub(crate) fn push_crashes(
 /// Appends a line for each leave, where the scenario's version has leaves.
 pub(crate) fn push_leaves(
     text: &mut String,
-    leaves: &[Departure],
+    leaves: &[DepartureReport],
     scenario: &Scenario,
 ) -> Result<(), AllocError>
     requires { All (λ leave. leave.member < member_count scenario.now) leaves.now }
@@ -118,7 +122,7 @@ pub(crate) fn push_leaves(
 /// Appends a line for each of these leaves.
 fn push_each_leave(
     text: &mut String,
-    leaves: &[Departure],
+    leaves: &[DepartureReport],
     scenario: &Scenario,
 ) -> Result<(), AllocError>
     requires { All (λ leave. leave.member < member_count scenario.now) leaves.now }
@@ -133,7 +137,11 @@ fn push_each_leave(
 
 /// Appends the line of a leave.
 #[tactic(auto, unfolding(crate::specs::Text::leave_line))]
-fn push_leave(text: &mut String, leave: &Departure, scenario: &Scenario) -> Result<(), AllocError>
+fn push_leave(
+    text: &mut String,
+    leave: &DepartureReport,
+    scenario: &Scenario,
+) -> Result<(), AllocError>
     requires { leave.now.member < member_count scenario.now }
     ensures { OnOk result (string_bytes text.new ≡ string_bytes text.old ++ leave_line scenario.now leave.now) }
 {
@@ -147,7 +155,10 @@ fn push_leave(text: &mut String, leave: &Departure, scenario: &Scenario) -> Resu
 }
 
 /// Appends the line of the latencies of crashes.
-pub(crate) fn push_latencies(text: &mut String, crashes: &[Departure]) -> Result<(), AllocError>
+pub(crate) fn push_latencies(
+    text: &mut String,
+    crashes: &[DepartureReport],
+) -> Result<(), AllocError>
     ensures { OnOk result (string_bytes text.new
         ≡ string_bytes text.old ++ latencies_line crashes.now) }
 {
@@ -168,13 +179,13 @@ fn push_latency(
     writeln!(text, "latency least {least} greatest {greatest}")
 }
 
-fn least_latency(crashes: &[Departure]) -> Option<u64>
+fn least_latency(crashes: &[DepartureReport]) -> Option<u64>
     ensures { result ≡ reduce min (latencies_of crashes.now) }
 {
     crashes.iter().filter_map(|crash| crash.latency()).min()
 }
 
-fn greatest_latency(crashes: &[Departure]) -> Option<u64>
+fn greatest_latency(crashes: &[DepartureReport]) -> Option<u64>
     ensures { result ≡ reduce max (latencies_of crashes.now) }
 {
     crashes.iter().filter_map(|crash| crash.latency()).max()

@@ -42,7 +42,7 @@ pub three_kept : (before made one two after first second third : ℕ) → made �
 three_kept before made one two after first second third same closed closed_too closed_last none =
     omega (arith, same, closed, closed_too, closed_last, none.0, none.1, none.2)
 
--- what holds where a run was done holds where it is told as done
+-- what holds where a run was done holds where it is reported as done
 pub told_whole : {T : Type 0} (P Q : Type 0) (outcome : Result T Fault) (told : Result T Failure) → told ≡ run_result outcome → OnOk outcome P → (P → Q) → OnOk told Q
 told_whole P Q (Ok x) told is whole then = subst (λ r. OnOk r Q) (sym is) (then whole)
 told_whole P Q (Err cause) told is whole then = subst (λ r. OnOk r Q) (sym is) tt

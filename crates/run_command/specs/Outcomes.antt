@@ -1,4 +1,4 @@
--- What a run has done once it ends, in the files as far as they tell, and why one was not done.
+-- What a run has done once it ends, in the files as far as they are known, and why one was not done.
 use Rattle.std.specs.Prelude.{◌≡◌, ◌≢◌, ◌⊎◌, ℕ, List, false, true, [], Option, Some, None, IfSome, length}
 use Rattle.std.specs.Borrow.{Bor}
 use Rattle.base.specs.declared.fault.Fault.{Fault}
@@ -21,7 +21,7 @@ use Rattle.command_line.specs.declared.failure.Failure.TheVariants.{File, Run, M
 use Rattle.scenario_files.specs.Shelves.{Shelf, word_given, IsRefused, HoldsBeginning}
 use Rattle.scenario_files.specs.Checks.{PassesChecks, FailsCheck}
 
--- the words ask for a run that tells how far it has come
+-- the words ask for a run that prints how far it has come
 abbrev pub AsksForRunProgress : List Text → Type 0
 AsksForRunProgress words = (run : RunWords) × AsksForRun words run × (run.progress ≡ true)
 
@@ -55,7 +55,7 @@ abbrev pub KeepsAllRest : Shelf → Shelf → Text → Option Text → Text → 
 KeepsAllRest before after trace report page = (other : Text) → other ≢ trace → report ≢ Some other → other ≢ page → after other ≡ before other
 
 -- the files hold the trace of the scenario's run, which has so many rows, the report on it where one is asked for, and its page under
--- this name by this release, with its times told by how long a tick lasts where that is known, all three of the same rows; no other file has changed
+-- this name by this release, with its times by how long a tick lasts where that is known, all three of the same rows; no other file changed
 pub record StoresPaged (s : Setup) (time : Option Tick) (name release : List ℕ) (before after : Shelf) (trace : Text) (report : Option Text) (page : Text) (count : ℕ) : Type 0 where
   pub rows : List Row
   pub run : IsRunOf s rows

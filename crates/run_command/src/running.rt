@@ -15,7 +15,7 @@ use std::alloc::Global;
 use std::io::Write;
 
 /// Runs the scenario of one file, and writes its trace, its report and its page to others, which are made once all
-/// checks have passed. The page tells the release. How far the run has come is told on `progress` where the words ask
+/// checks have passed. The page shows the release. How far the run has come is printed on `progress` where the words ask
 /// for that, as far as it takes the lines.
 pub fn run<'a, M: Simulator, F: Files, P: Write>(
     simulator: &M,
@@ -47,13 +47,13 @@ pub fn run<'a, M: Simulator, F: Files, P: Write>(
     store_asked(simulator, alloc, release, &prepared, words, watch, files)
 }
 
-/// Nobody who is told: for as long as the writer that isn't.
+/// No writer, with the lifetime of the one that isn't used.
 fn nobody<'p, P: Write>(_progress: &'p P) -> Option<&'p mut P> {
     None
 }
 
 /// Runs a scenario, and writes its trace, its report and its page to the files that the words name. The `watch`, where
-/// there is one, is told how far the run has come.
+/// there is one, gets how far the run has come.
 fn store_asked<'a, M: Simulator, F: Files, P: Write>(
     simulator: &M,
     alloc: Global,

@@ -42,7 +42,7 @@ pub trait Simulator {
         requires none_gathered { C.has place.old.gathered scenario.now [] }
         ensures promise { KeepsPromise A.held A.failed B.held B.failed scenario.now place.old.trace place.new.trace report.old report.new (summed result) }
 
-        // the rows of the run are tallied, and what was gathered is what they tell
+        // the rows of the run are tallied, and what was gathered is what they report
         ensures run { IfOk result (IsRunOf scenario.now) }
         ensures named { IfOk result (All (NamesMembers scenario.now)) }
         ensures gathered { IfOk result (C.has place.new.gathered scenario.now) }

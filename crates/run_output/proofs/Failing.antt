@@ -49,7 +49,7 @@ pub never_relay : {T : Type 0} (r : Result T Fault) (e : WriteError) → IsErrAn
 never_relay r error.Memory gives = answered (λ f. f ≢ ThreadLost) r Memory gives memory≢relay
 never_relay r error.Stopped gives = answered (λ f. f ≢ ThreadLost) r Write gives write≢relay
 
--- a fault is told as it is
+-- a fault is returned as it is
 pub summed_err : (r : Result (List Row) Fault) (fault : Fault) → IsErrAnd r (λ f. f ≡ fault) → IsErrAnd (summed r) (λ f. f ≡ fault)
 summed_err (Ok rows) fault gives = absurd gives
 summed_err (Err cause) fault gives = gives

@@ -56,7 +56,7 @@ still_countable (Err e) old new n same few = tt
 pub told : {T U E : Type 0} (came : Result T E) (o : Result U E) (fault : E) → came ≡ Err fault → IsErrAnd o (λ e. e ≡ fault) → IfErr came (λ e. IsErrOf o e)
 told came o fault was gives = subst (λ r. IfErr r (λ e. IsErrOf o e)) (sym was) (is_err o fault gives)
 
--- so is one that was told as it came
+-- so is one that was returned as it came
 pub told_on : {T V E : Type 0} (U : Type 0) (came : Result T E) (o : Result V E) (fault : E) → IfErr came (λ e. IsErrOf {T = U} (Err fault) e)
     → IsErrAnd o (λ e. e ≡ fault) → IfErr came (λ e. IsErrOf o e)
 told_on U (Ok x) o fault so_far gives = tt

@@ -10,7 +10,7 @@ use trace::Row;
 
 /// Gathers what it keeps of the rows of a run, batch after batch.
 pub trait RowObserver {
-    // what is kept is what these rows of a run of the scenario tell
+    // what is kept is what these rows of a run of the scenario report
     ghost has: { Self → Setup → List ARow → Type 0 };
 
     /// Adds the next rows of a run of the scenario, in their order, up to one that is refused.

@@ -17,13 +17,13 @@ use trace::{Row, Sink, write_rows};
 
 /// How the rows of a run are taken: they are tallied, and what is made of them goes to a place.
 pub trait RowSink<P> {
-    // the bytes that the place holds, where it tells
+    // the bytes that the place holds, where they are known
     ghost held: { P → Option (List ℕ) };
 
     // how often it has failed
     ghost failed: { P → ℕ };
 
-    // what it has gathered is what these rows of a run of the scenario tell
+    // what it has gathered is what these rows of a run of the scenario report
     ghost gathered: { P → Setup → List ARow → Type 0 };
 
     /// Begins the trace of a run, where one is written: with its header.

@@ -1,4 +1,4 @@
--- The line that tells how far a run has come.
+-- The line that says how far a run has come.
 use Rattle.std.specs.Prelude.{ℕ, List, [], ◌∷◌, ◌++◌, ◌*◌, ◌/◌, ◌%◌, max, min, codes, decimal}
 
 -- how many of so many equal shares of a run to that end are over at a moment of it

@@ -10,7 +10,7 @@ use Rattle.scenario.specs.declared.settings.Suspicion.{Suspicion}
 use Rattle.scenario.specs.declared.settings.Lifeguard.{Lifeguard}
 use Rattle.scenario.specs.declared.settings.Link.{Link}
 use Rattle.scenario.specs.declared.settings.Gossip.{Gossip}
-use Rattle.scenario.specs.declared.settings.Stream.{Stream}
+use Rattle.scenario.specs.declared.settings.StreamTimes.{StreamTimes}
 
 -- the whole numbers of keys in their tables
 abbrev pub swim_value : Swim → FormatKey → Option ℕ
@@ -50,7 +50,7 @@ abbrev pub gossip_value_of : Option Gossip → FormatKey → Option ℕ
 gossip_value_of (Some gossip) key = gossip_value gossip key
 gossip_value_of None key = None
 
-abbrev pub stream_value : Stream → FormatKey → Option ℕ
+abbrev pub stream_value : StreamTimes → FormatKey → Option ℕ
 stream_value stream key.Connect = Some stream.connect
 stream_value stream key.Again = Some stream.again
 stream_value stream _ = None

@@ -2,7 +2,7 @@
 ghost use Rattle.std.specs.Prelude.{◌≡◌};
 ghost use Rattle.run_settings.specs.Values.{swim_value, suspicion_value, lifeguard_value, link_value, gossip_value, gossip_value_of, stream_value, value_of, switch_of};
 
-use scenario::{Gossip, Lifeguard, Link, Scenario, Stream, Suspicion, Swim};
+use scenario::{Gossip, Lifeguard, Link, Scenario, StreamTimes, Suspicion, Swim};
 use schema::{FormatKey, Section};
 
 /// The whole number that a key of a table has in the scenario.
@@ -87,7 +87,7 @@ fn gossip_value(gossip: &Gossip, key: FormatKey) -> Option<u64>
     }
 }
 
-fn stream_value(stream: &Stream, key: FormatKey) -> Option<u64>
+fn stream_value(stream: &StreamTimes, key: FormatKey) -> Option<u64>
     ensures { result ≡ stream_value stream.now key }
 {
     match key {

@@ -83,7 +83,7 @@ module _ (s : Setup) (rows : List Row) (subject from : ℕ) (spread : Spread) (i
   confirmed_same : (m : ℕ) → m < member_count s → learned spread.confirmed.items from m ≡ told_after rows what.Confirm subject from m
   confirmed_same m low = ap (option_map (λ at. at - from)) (is.confirmed m (subst (λ n. m < n) (sym (is.confirming ∙ all)) low))
 
-  -- how long after the crash the last member told of it
+  -- how long after the crash the last member learned of it
   pub last_is : (one other most : ℕ) → one ≡ last_learned s (learned spread.suspected.items from) → other ≡ last_learned s (learned spread.confirmed.items from)
       → most ≡ max one other → most ≡ last_of s rows subject
   last_is one other most first second goes =

@@ -7,7 +7,7 @@ use Rattle.schema.specs.declared.schema.Version.TheVariants.{One, Two, Three}
 use Rattle.scenario.specs.Setup.{Setup, member_count}
 use Rattle.trace.specs.declared.row.What.TheVariants as what
 use Rattle.trace.specs.declared.row.Row.{Row}
-use Rattle.reports.specs.declared.departure.Departure.{Departure}
+use Rattle.reports.specs.declared.departure.DepartureReport.{DepartureReport}
 use Rattle.reports.specs.declared.false_positives.FalsePositive.{FalsePositive}
 use Rattle.reports.specs.Failures.{false_positives_of}
 use Rattle.reports.specs.Rows.{count_of, worst_health}
@@ -72,15 +72,15 @@ latency_words time (Some least) (Some greatest) = between_words time least great
 latency_words time _ _ = []
 
 -- somebody confirmed that the member had failed
-abbrev pub is_found : Departure → Bool
+abbrev pub is_found : DepartureReport → Bool
 is_found crash = is_some crash.detection.confirm
 
 -- nobody did, but one of these false claims, all made before it crashed, is about the member
-abbrev pub is_known : List FalsePositive → Departure → Bool
+abbrev pub is_known : List FalsePositive → DepartureReport → Bool
 is_known claims crash = if is_found crash then false else list_any (is_claim_about crash.member) claims
 
 -- how many crashed, and how soon they were detected, where these are the false claims that members are dead
-unfoldable pub crash_words : Option Tick → List Departure → List FalsePositive → List ℕ
+unfoldable pub crash_words : Option Tick → List DepartureReport → List FalsePositive → List ℕ
 crash_words time crashes claims =
     if nat_eq (length crashes) 0 then codes "Nobody crashed. "
     else crashed_words (length crashes) ++ found_words (length crashes) (count_by is_found crashes) (count_by (is_known claims) crashes)

@@ -13,7 +13,7 @@ ghost use Rattle.run_summary.specs.Summary.{size_words, crashed_words, some_foun
 use base::{MemberId, Memory};
 use drawing::{push_grouped, push_lasting, push_lasting_between};
 use member_timelines::{Run, by_number, claims_by_member};
-use reports::{Departure, FalsePositive, Tallies, false_positive_count};
+use reports::{DepartureReport, FalsePositive, Tallies, false_positive_count};
 use scenario::Version;
 use std::alloc::{AllocError, Global};
 use ticks::Tick;
@@ -90,7 +90,7 @@ fn push_with(text: &mut String, number: u64, one: &str, several: &str) -> Result
 fn push_crashes(
     text: &mut String,
     time: Option<Tick>,
-    crashes: &[Departure],
+    crashes: &[DepartureReport],
     claims: &[FalsePositive],
 ) -> Result<(), AllocError>
     ensures { OnOk result (string_bytes text.new ≡ string_bytes text.old ++ crash_words time crashes.now claims.now) }
@@ -127,7 +127,7 @@ fn push_crashed(text: &mut String, count: usize) -> Result<(), AllocError>
 }
 
 /// How many of these crashes were detected: somebody declared the member dead.
-fn count_found(crashes: &[Departure]) -> usize
+fn count_found(crashes: &[DepartureReport]) -> usize
     ensures { result ≡ count_by is_found crashes.now }
 {
     crashes
@@ -137,7 +137,7 @@ fn count_found(crashes: &[Departure]) -> usize
 }
 
 /// How many of these crashes weren't detected, but are of members of which a false claim was made.
-fn count_known(crashes: &[Departure], claims: &[FalsePositive]) -> usize
+fn count_known(crashes: &[DepartureReport], claims: &[FalsePositive]) -> usize
     ensures { result ≡ count_by (is_known claims.now) crashes.now }
 {
     crashes
@@ -147,7 +147,7 @@ fn count_known(crashes: &[Departure], claims: &[FalsePositive]) -> usize
 }
 
 /// Whether a crash wasn't detected, but a false claim was made of its member.
-fn is_known(claims: &[FalsePositive], crash: &Departure) -> bool
+fn is_known(claims: &[FalsePositive], crash: &DepartureReport) -> bool
     ensures { result ≡ is_known claims.now crash.now }
 {
     if crash.detection.confirm.is_some() {
@@ -239,13 +239,13 @@ fn push_some_found(text: &mut String, found: usize) -> Result<(), AllocError>
     Ok(())
 }
 
-fn least_latency(crashes: &[Departure]) -> Option<u64>
+fn least_latency(crashes: &[DepartureReport]) -> Option<u64>
     ensures { result ≡ reduce min (latencies_of crashes.now) }
 {
     crashes.iter().filter_map(|crash| crash.latency()).min()
 }
 
-fn greatest_latency(crashes: &[Departure]) -> Option<u64>
+fn greatest_latency(crashes: &[DepartureReport]) -> Option<u64>
     ensures { result ≡ reduce max (latencies_of crashes.now) }
 {
     crashes.iter().filter_map(|crash| crash.latency()).max()

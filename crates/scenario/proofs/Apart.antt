@@ -88,6 +88,14 @@ rising xs apart i j d low within = elim (cases_eq i j) as (λ _. (get_or xs i d)
   | inr other ↦ (let lasts = apart.lasts i d (omega (arith, low, within)) in let after = apart.apart i j d (omega (arith, low, other)) within in omega (arith, lasts, after))
 ]
 
+-- where the first begins after a moment, all do
+pub all_to_come : (xs : List Spell) → AreApart xs → (at : ℕ) (first : Spell) → nat_lt at (get_or xs 0 first).from ≡ true → (i : ℕ) (d : Spell) → i < length xs → at < (get_or xs i d).from
+all_to_come xs apart at first before i d within =
+    let same : (get_or xs 0 d).from ≡ (get_or xs 0 first).from = ap (λ (x : Spell). x.from) (get_or_default xs 0 d first (omega (arith, within))) in
+    let rises = rising xs apart 0 i d (omega arith) within in
+    let less = ltb-true at (get_or xs 0 first).from before in
+    omega (arith, same, rises, less)
+
 -- ---- one more
 
 or_false : (b : Bool) → (b || false) ≡ b

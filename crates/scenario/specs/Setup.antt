@@ -15,10 +15,10 @@ use Rattle.scenario.specs.declared.settings.Crash.{Crash}
 use Rattle.scenario.specs.declared.settings.Leave.{Leave}
 use Rattle.scenario.specs.declared.settings.Cut.{Cut}
 use Rattle.scenario.specs.declared.settings.Gossip.{Gossip}
-use Rattle.scenario.specs.declared.settings.Stream.{Stream}
+use Rattle.scenario.specs.declared.settings.StreamTimes.{StreamTimes}
 use Rattle.scenario.specs.declared.settings.Pause.{Pause}
 
--- members of one name, told apart by an index
+-- members of one name, distinguished by an index
 pub record Group : Type 0 where
   pub name : List ℕ
   pub count : ℕ
@@ -51,7 +51,7 @@ pub record Setup : Type 0 where
   pub cuts : List Cut
   -- how members gossip, where they do
   pub gossip : Option Gossip
-  pub stream : Stream
+  pub stream : StreamTimes
   -- in the order of the text
   pub pauses : List Pause
 

@@ -13,6 +13,7 @@ pub use division::{Division, DivisionFault, Workers};
 pub use scenario::{Contents, Scenario};
 pub use schema::Version;
 pub use settings::{
-    Crash, Cut, Gossip, Group, Leave, Lifeguard, Link, Path, Pause, Slow, Stream, Suspicion, Swim,
+    Crash, Cut, Gossip, Group, Leave, Lifeguard, Link, Path, Pause, Slow, StreamTimes, Suspicion,
+    Swim,
 };
 pub use spells::{Spell, Spells};

@@ -10,7 +10,8 @@ ghost use Rattle.scenario.specs.Setup.{member_count, member_names, name_of, grou
 
 use crate::naps::naps_of;
 use crate::settings::{
-    Crash, Cut, Gossip, Group, Leave, Lifeguard, Link, Path, Pause, Slow, Stream, Suspicion, Swim,
+    Crash, Cut, Gossip, Group, Leave, Lifeguard, Link, Path, Pause, Slow, StreamTimes, Suspicion,
+    Swim,
 };
 use crate::spells::Spells;
 use base::{MemberId, Memory, Moment};
@@ -42,7 +43,7 @@ pub struct Contents {
     /// How members gossip between their probes, where they do.
     pub gossip: Option<Gossip>,
     /// How streams send again what was lost.
-    pub stream: Stream,
+    pub stream: StreamTimes,
     pub pauses: Vec<Pause>,
     /// The names of all members, at their numbers.
     pub names: Vec<String>,
@@ -306,7 +307,7 @@ impl Scenario {
     }
 
     /// How streams send again what was lost.
-    pub fn stream(&self) -> Stream
+    pub fn stream(&self) -> StreamTimes
         ensures value { result ≡ self.now.stream }
         ensures sound { IsSound self.now }
     {

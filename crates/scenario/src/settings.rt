@@ -37,7 +37,7 @@ pub struct Lifeguard {
     pub probe: bool,
     /// LHA-Suspicion: suspicions end sooner as more members agree.
     pub suspicion: bool,
-    /// Buddy System: a ping to a suspect tells it so.
+    /// Buddy System: a ping to a suspect carries the suspicion.
     pub buddy: bool,
     /// The health counter's ceiling.
     pub ceiling: u64,
@@ -84,14 +84,14 @@ pub struct Gossip {
 
 /// How a stream sends again what was lost (version 3). Times are in ticks.
 #[derive(Clone, Copy, Debug, PartialEq, Eq)]
-pub struct Stream {
+pub struct StreamTimes {
     /// How long the first try to open it waits; each further one waits twice as long.
     pub connect: u64,
     /// The same for what is sent over it.
     pub again: u64,
 }
 
-/// Members of one name, told apart by an index.
+/// Members of one name, distinguished by an index.
 #[derive(Debug, Drop)]
 pub struct Group {
     pub name: String,
@@ -122,7 +122,7 @@ pub struct Crash {
     pub at: Moment,
 }
 
-/// The leave of a member: it goes and tells others so.
+/// The leave of a member: it goes and announces that to others.
 #[derive(Clone, Copy, Debug, PartialEq, Eq)]
 pub struct Leave {
     pub member: MemberId,

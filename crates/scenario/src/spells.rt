@@ -1,5 +1,6 @@
 //! Times that stand apart in their order, so that the one around a moment is found by halves.
 ghost use Rattle.std.specs.Prelude.{◌≡◌, ℕ, ◌<◌, ◌≤◌, ◌&&◌, ◌||◌, [], length, nat_le, nat_lt, slice_index_or, true, false, OnOk, IfSome, IfNone};
+ghost use Rattle.std.specs.Bool.{OnTrue};
 ghost use Rattle.scenario.specs.Spells.{is_in_any, HaveBegun, AreApart, IsEndFrom};
 ghost use Rattle.scenario.specs.declared.spells.Spell.{Spell as ASpell};
 
@@ -120,8 +121,33 @@ fn append(spells: &mut Vec<Spell>, from: u64, until: u64) -> Result<(), Memory>
     }
 }
 
-/// How many of the times have begun by the moment.
+/// How many of the times have begun by the moment. Where even the first is still to come, the others aren't looked at.
 fn begun_by(spells: &[Spell], at: u64) -> usize
+    requires { AreApart spells.now }
+    ensures few { result ≤ length spells.now }
+    ensures begun { (i : ℕ) (d : ASpell) → i < result → (slice_index_or spells.now i d).from ≤ at }
+    ensures later { (i : ℕ) (d : ASpell) → result ≤ i → i < length spells.now → at < (slice_index_or spells.now i d).from }
+{
+    if are_to_come(spells, at) {
+        return 0;
+    }
+    count_begun(spells, at)
+}
+
+/// Whether all of the times begin after the moment.
+fn are_to_come(spells: &[Spell], at: u64) -> bool
+    requires { AreApart spells.now }
+    ensures { OnTrue result ((i : ℕ) (d : ASpell) → i < length spells.now → at < (slice_index_or spells.now i d).from) }
+{
+    if spells.is_empty() {
+        return true;
+    }
+    let first = spells[0];
+    at < first.from
+}
+
+/// How many of the times have begun by the moment.
+fn count_begun(spells: &[Spell], at: u64) -> usize
     requires { AreApart spells.now }
     ensures few { result ≤ length spells.now }
     ensures begun { (i : ℕ) (d : ASpell) → i < result → (slice_index_or spells.now i d).from ≤ at }

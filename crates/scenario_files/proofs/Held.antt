@@ -1,4 +1,4 @@
--- What a file holds that a text was written to, and how what ended a command is told.
+-- What a file holds that a text was written to, and how what ended a command is reported.
 use Rattle.std.proofs.Common.{◌≡◌, ◌∙◌, ℕ, List, [], Option, Some, None, Result, Ok, Err, IfSome, IfOk, IfErr, OnErr, ap, sym, subst, refl}
 use Rattle.std.specs.Prelude.{IsErrAnd}
 use Rattle.std.specs.Io.KnownBytes.{Appends}
@@ -31,7 +31,7 @@ holds_beginning before made after old new text empty fresh written closed = reco
   written = holds_text before made after old new written.front empty fresh written.appends closed;
 }
 
--- a run's answer is told as done where it is, and as its own fault where it isn't
+-- a run's answer is reported as done where it is, and as its own fault where it isn't
 pub told_done : {T : Type 0} (Q : T → Type 0) (outcome : Result T Fault) (told : Result T Failure) → told ≡ run_result outcome → IfOk outcome Q → IfOk told Q
 told_done {T} Q outcome told is done = subst (λ r. IfOk r Q) (sym is) (go outcome done)
   where

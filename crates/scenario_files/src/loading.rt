@@ -19,7 +19,7 @@ use toml::Value;
 pub struct MarkedDocument {
     /// The document.
     pub document: Value,
-    /// What tells the text from others: its SHA-256 in lower-case hex.
+    /// What distinguishes the text from others: its SHA-256 in lower-case hex.
     pub mark: String,
 }
 

@@ -25,7 +25,7 @@ pub fn check(alloc: Global, bytes: &[u8]) -> Result<Scenario, Failure<'static>>
     }
 }
 
-/// The failure that a text is told by which is refused by this rule.
+/// The failure that reports a text which is refused by this rule.
 pub(crate) fn text_failure(rule: u8) -> Failure<'static>
     ensures { result ≡ text_failure rule }
 {

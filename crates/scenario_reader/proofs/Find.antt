@@ -60,7 +60,7 @@ and_assoc : (a b c : Bool) → (a && (b && c)) ≡ ((a && b) && c)
 and_assoc true b c = refl
 and_assoc false b c = refl
 
--- two names that are parted by their first dashes are the same where both parts are
+-- two names that are split at their first dashes are the same where both parts are
 same_parts : (pre tail name index : List ℕ) → list_any dash pre ≡ false → list_any dash name ≡ false
     → bytes_eq (pre ++ 45 ∷ tail) (name ++ 45 ∷ index) ≡ (bytes_eq pre name && bytes_eq tail index)
 same_parts [] tail [] index a b = refl
@@ -300,7 +300,7 @@ module _ (name pre tail : List ℕ) (parts : name ≡ pre ++ 45 ∷ tail) (plain
         list_any-append (bytes_eq name) (names_below group e.1.count) (names_of es)
         ∙ ap (λ c. c || list_any (bytes_eq name) (names_of es)) (other_group group e.1.count (plain_name group (turned (is_group_name group) forms.0)) (sym (same e.0) ∙ here)) ∙ rest later
 
-    -- a group that has too few members, or is told no index, has no such member
+    -- a group has no such member where it has too few, or where the name gives no index
     pub none_found : (es : List Entry) (b : Block) → list_any bad (groups_of es) ≡ false → any_two bytes_eq (map (λ (g : Group). g.name) (groups_of es)) ≡ false
         → lookup test es ≡ Some b → ((i : ℕ) → i < b.count → bytes_eq tail (decimal i) ≡ false) → list_any (bytes_eq name) (names_of es) ≡ false
     none_found [] b fine differ found none = refl
@@ -308,7 +308,7 @@ module _ (name pre tail : List ℕ) (parts : name ≡ pre ++ 45 ∷ tail) (plain
         none_at e es b (test e.0) refl fine differ found none
         (λ later. none_found es b (neither (bad (named_group e)) (list_any bad (groups_of es)) fine).1 (neither _ (any_two bytes_eq (map (λ (g : Group). g.name) (groups_of es))) differ).1 later none)
 
--- ---- what a name's parts tell
+-- ---- what a name's parts say
 
 unequal_by : (a b : List ℕ) (r : Bool) → bytes_eq a b ≡ r → ¬ (a ≡ b) → r ≡ false
 unequal_by a b true e differ = absurd (differ ((bytes_eq-Decides a b).0 e))

@@ -24,7 +24,7 @@ use Rattle.scenario.specs.declared.settings.Crash.{Crash}
 use Rattle.scenario.specs.declared.settings.Leave.{Leave}
 use Rattle.scenario.specs.declared.settings.Cut.{Cut}
 use Rattle.scenario.specs.declared.settings.Gossip.{Gossip}
-use Rattle.scenario.specs.declared.settings.Stream.{Stream}
+use Rattle.scenario.specs.declared.settings.StreamTimes.{StreamTimes}
 use Rattle.scenario.specs.declared.settings.Pause.{Pause}
 use Rattle.scenario_reader.specs.Roster.{named_group, AreNumberedFrom}
 use Rattle.scenario_reader.specs.declared.roster.Block.{Block}
@@ -131,7 +131,7 @@ pub total_of : {V : Type 0} (group : V → Group) (vs : List V) (gs : List Group
 total_of group vs gs same = ap (sum_by (λ (g : Group). g.count)) (sym same) ∙ fold-map (λ (n : ℕ) (g : Group). n + g.count) group 0 vs
 
 -- a scenario is its fields
-pub same_setup : (s : Setup) (version : Version) (seed end : ℕ) (swim : Swim) (suspicion : Suspicion) (lifeguard : Lifeguard) (link : Link) (groups : List Group) (paths : List Path) (slows : List Slow) (crashes : List Crash) (leaves : List Leave) (cuts : List Cut) (gossip : Option Gossip) (stream : Stream) (pauses : List Pause)
+pub same_setup : (s : Setup) (version : Version) (seed end : ℕ) (swim : Swim) (suspicion : Suspicion) (lifeguard : Lifeguard) (link : Link) (groups : List Group) (paths : List Path) (slows : List Slow) (crashes : List Crash) (leaves : List Leave) (cuts : List Cut) (gossip : Option Gossip) (stream : StreamTimes) (pauses : List Pause)
     → version ≡ s.version → seed ≡ s.seed → end ≡ s.end → swim ≡ s.swim → suspicion ≡ s.suspicion → lifeguard ≡ s.lifeguard → link ≡ s.link → groups ≡ s.groups → paths ≡ s.paths → slows ≡ s.slows → crashes ≡ s.crashes → leaves ≡ s.leaves → cuts ≡ s.cuts
     → gossip ≡ s.gossip → stream ≡ s.stream → pauses ≡ s.pauses
     → record { version = version; seed = seed; end = end; swim = swim; suspicion = suspicion; lifeguard = lifeguard; link = link; groups = groups; paths = paths; slows = slows; crashes = crashes; leaves = leaves; cuts = cuts; gossip = gossip; stream = stream; pauses = pauses } ≡ s

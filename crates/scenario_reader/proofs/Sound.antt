@@ -41,7 +41,7 @@ use Rattle.scenario.specs.declared.settings.Slow.{Slow}
 use Rattle.scenario.specs.declared.settings.Crash.{Crash}
 use Rattle.scenario.specs.declared.settings.Leave.{Leave}
 use Rattle.scenario.specs.declared.settings.Cut.{Cut}
-use Rattle.scenario.specs.declared.settings.Stream.{Stream}
+use Rattle.scenario.specs.declared.settings.StreamTimes.{StreamTimes}
 use Rattle.scenario.specs.declared.settings.Pause.{Pause}
 
 neither : (a b : Bool) → (a || b) ≡ false → (a ≡ false) × (b ≡ false)
@@ -270,7 +270,7 @@ stream_kept One tree kept d at = absurd (let no : None ≡ Some d = at in cc)
 stream_kept Two tree kept d at = absurd (let no : None ≡ Some d = at in cc)
 stream_kept Three tree kept d at = table_kept Three tree 14 key.Stream Optional section.Stream (λ _. refl) kept d at
 
-record StreamSound (s : Stream) : Type 0 where
+record StreamSound (s : StreamTimes) : Type 0 where
   connect : Within 1 0x100_0000 s.connect
   again : Within 1 0x100_0000 s.again
 

@@ -20,7 +20,7 @@ use Rattle.scenario.specs.declared.settings.Crash.{Crash}
 use Rattle.scenario.specs.declared.settings.Leave.{Leave}
 use Rattle.scenario.specs.declared.settings.Cut.{Cut}
 use Rattle.scenario.specs.declared.settings.Gossip.{Gossip}
-use Rattle.scenario.specs.declared.settings.Stream.{Stream}
+use Rattle.scenario.specs.declared.settings.StreamTimes.{StreamTimes}
 use Rattle.scenario.specs.declared.settings.Pause.{Pause}
 
 -- the version of that number, 2 or 3, else version 1
@@ -199,7 +199,7 @@ gossip_in Two d = None
 gossip_in Three d = option_map gossip_of d
 
 -- how streams send again
-abbrev pub stream_in : Option Data → Stream
+abbrev pub stream_in : Option Data → StreamTimes
 stream_in d = record { connect = number_at section.Stream key.Connect d; again = number_at section.Stream key.Again d }
 
 -- the table of streams, which version 3 adds

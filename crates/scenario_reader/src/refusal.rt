@@ -60,7 +60,7 @@ fn number_of(index: usize) -> u32 {
     u32::try_from(index.saturating_add(1)).unwrap_or(u32::MAX)
 }
 
-/// A place in the text as it is told to people.
+/// A place in the text as it is printed for people.
 pub(crate) fn place_of_byte(byte: usize) -> u32 {
     u32::try_from(byte).unwrap_or(u32::MAX)
 }

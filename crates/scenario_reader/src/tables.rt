@@ -4,7 +4,7 @@ ghost use Rattle.toml.specs.View.{view};
 ghost use Rattle.scenario_reader.specs.Reading.{fallback_in, gossip_of, stream_table, setup_of_tree};
 
 use crate::additions::version_of;
-use scenario::{Gossip, Lifeguard, Link, Stream, Suspicion, Swim};
+use scenario::{Gossip, Lifeguard, Link, StreamTimes, Suspicion, Swim};
 use schema::{FormatKey, Section, Version, number, switch, switch_set};
 use toml::Value;
 
@@ -104,11 +104,11 @@ fn gossip_of(table: &Value) -> Gossip
 
 /// How streams send again.
 #[tactic(auto, unfolding(crate::specs::Reading::setup_of_tree))]
-pub(crate) fn read_stream(tree: &Value) -> Stream
+pub(crate) fn read_stream(tree: &Value) -> StreamTimes
     ensures { result ≡ (setup_of_tree (view tree.now)).stream }
 {
     let table = stream_table(version_of(tree), tree);
-    Stream {
+    StreamTimes {
         connect: number(Section::Stream, FormatKey::Connect, table),
         again: number(Section::Stream, FormatKey::Again, table),
     }

@@ -121,7 +121,7 @@ module _ (s : Setup) (sound : IsSound s) where
       none = is.1.done;
     }
 
-    -- a counter that wears out in it wears out in the run
+    -- a counter that overflows in it overflows in the run
     pub comes_overflow : (bound : ℕ) → OverflowsInWindow s (min bound (s.end + 1)) w → CounterOverflows s
     comes_overflow bound wears = record {
       keys = so_far.keys ++ wears.keys;

@@ -59,17 +59,20 @@ pub(crate) fn run_stretches<T: RowSink<P>, P, Q: EventQueue<Event> + Drop, W: Ru
     let last = cluster.scenario.end().ticks();
     let most = longest_stretch(cluster.scenario);
     let mut from = 0;
+    let mut room = Vec::new(alloc);
     while from <= last {
         let bound = stretch_end(&limit, from, most);
-        let done = part.run(alloc, bound, cluster)?;
+        let done = part.run_in(alloc, bound, cluster, room)?;
         let Done {
             part: after,
             out: _,
-            rows,
+            mut rows,
         } = done;
         limit.adapt(rows.len());
         T::take(alloc, &rows, cluster.scenario, &mut tallies, place)?;
         watch.has_come(bound, cluster.scenario.end());
+        rows.clear();
+        room = rows;
         part = after;
         from = bound.ticks();
     }

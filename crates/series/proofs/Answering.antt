@@ -10,8 +10,8 @@ use Rattle.trace.specs.declared.row.Row.{Row}
 use Rattle.reports.specs.Rows.{rows_in_place, has_kind, is_about}
 use Rattle.reports.proofs.Detections.{has_kind-same}
 use Rattle.reports.proofs.Returning.{length-placed}
-use Rattle.series.specs.declared.lines.Line.{Line}
-use Rattle.series.specs.declared.accusers.Probe.{Probe}
+use Rattle.series.specs.declared.lines.TraceLine.{TraceLine}
+use Rattle.series.specs.declared.accusers.ProbeStory.{ProbeStory}
 use Rattle.series.specs.declared.answers.Reply.{Reply}
 use Rattle.series.specs.declared.answers.Answers.{Answers}
 use Rattle.series.specs.Lines.{line_at}
@@ -23,7 +23,7 @@ use denote.Enum.Bare.{same_true}
 abbrev met : List Row → Row → Reached
 met earlier row = record { earlier = earlier; row = row }
 
-abbrev reply : Line → Bool → Reply
+abbrev reply : TraceLine → Bool → Reply
 reply line lost = record { line = line; lost = lost }
 
 abbrev answers : Option Reply → ℕ → ℕ → ℕ → ℕ → Answers
@@ -36,7 +36,7 @@ same_answers {a = a} {b = b} {c = c} {d = d} {e = e} {f = f} {g = g} {h = h} {i 
 -- ---- with one row more
 
 -- these, with what a row adds to them
-abbrev pub with_row : ℕ → Option Probe → ℕ → Row → Answers → Answers
+abbrev pub with_row : ℕ → Option ProbeStory → ℕ → Row → Answers → Answers
 with_row member probe number row a =
     answers (if acks_for member probe row then Some (reply (line_at number row) row.lost) else a.ack)
     (a.asked + cond (asks_for member probe row) 1 0)
@@ -83,7 +83,7 @@ answers-push member rows row =
     (count_since member rows row (helps member)) (count_since member rows row (is_lost (helps member)))
     ∙ by (begins_probe member row)
   where
-    probe : Option Probe
+    probe : Option ProbeStory
     probe = last_probe member rows
 
     of : Option Reply → ℕ → ℕ → ℕ → ℕ → Answers
@@ -105,7 +105,7 @@ add_zero : (n : ℕ) → n + 0 ≡ n
 add_zero n = omega arith
 
 -- tests that none passes
-nothing_more : (member : ℕ) (probe : Option Probe) (number : ℕ) (row : Row) (a : Answers) → acks_for member probe row ≡ false → asks_for member probe row ≡ false → helps_for member probe row ≡ false
+nothing_more : (member : ℕ) (probe : Option ProbeStory) (number : ℕ) (row : Row) (a : Answers) → acks_for member probe row ≡ false → asks_for member probe row ≡ false → helps_for member probe row ≡ false
     → with_row member probe number row a ≡ a
 nothing_more member probe number row a no_ack no_request no_help =
     same_answers (ap (λ t. if t then Some (reply (line_at number row) row.lost) else a.ack) no_ack)
@@ -119,7 +119,7 @@ and_false true = refl
 and_false false = refl
 
 -- a ping is no answer and no request
-pings_add_nothing : (member : ℕ) (probe : Option Probe) (number : ℕ) (row : Row) (a : Answers) → has_kind what.Ping row ≡ true → with_row member probe number row a ≡ a
+pings_add_nothing : (member : ℕ) (probe : Option ProbeStory) (number : ℕ) (row : Row) (a : Answers) → has_kind what.Ping row ≡ true → with_row member probe number row a ≡ a
 pings_add_nothing member None number row a ping = nothing_more member None number row a refl refl refl
 pings_add_nothing member (Some p) number row a ping =
     nothing_more member (Some p) number row a
@@ -132,7 +132,7 @@ pings_add_nothing member (Some p) number row a ping =
     is = same_true the_type tt row.what what.Ping ping
 
 -- a row that is neither by the member nor about it
-others_add_nothing : (member : ℕ) (probe : Option Probe) (number : ℕ) (row : Row) (a : Answers) → nat_eq row.member member ≡ false → is_about member row ≡ false → with_row member probe number row a ≡ a
+others_add_nothing : (member : ℕ) (probe : Option ProbeStory) (number : ℕ) (row : Row) (a : Answers) → nat_eq row.member member ≡ false → is_about member row ≡ false → with_row member probe number row a ≡ a
 others_add_nothing member None number row a by about = nothing_more member None number row a refl refl refl
 others_add_nothing member (Some p) number row a by about =
     nothing_more member (Some p) number row a
@@ -171,7 +171,7 @@ few_since member rows test =
     )
 
 -- what was made of the answers with a row is what came of the probe with it
-pub with_it : (member number : ℕ) (probe : Option Probe) (rows : List Row) (row : Row) (old : Answers) (acked asking helping : Bool) (ack : Option Reply) (asked requests answered lost : ℕ)
+pub with_it : (member number : ℕ) (probe : Option ProbeStory) (rows : List Row) (row : Row) (old : Answers) (acked asking helping : Bool) (ack : Option Reply) (asked requests answered lost : ℕ)
     → number ≡ length rows + 2 → number < 2 ^ 64 → probe ≡ last_probe member rows → old ≡ answers_of member rows → begins_probe member row ≡ false
     → acked ≡ acks_for member probe row → asking ≡ asks_for member probe row → helping ≡ helps_for member probe row
     → ack ≡ (if acked then Some (reply (line_at number row) row.lost) else old.ack)

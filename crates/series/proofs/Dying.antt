@@ -13,8 +13,8 @@ use Rattle.trace.specs.declared.row.Row.{Row}
 use Rattle.reports.specs.Rows.{placed_after, rows_in_place, has_kind, is_about, tells_of}
 use Rattle.reports.proofs.Returning.{length-placed}
 use Rattle.reports.proofs.Detections.{tells_of-it, tells_of-other}
-use Rattle.series.specs.declared.lines.Line.{Line}
-use Rattle.series.specs.declared.accusers.Probe.{Probe}
+use Rattle.series.specs.declared.lines.TraceLine.{TraceLine}
+use Rattle.series.specs.declared.accusers.ProbeStory.{ProbeStory}
 use Rattle.series.specs.declared.accusers.Accusation.{Accusation}
 use Rattle.series.specs.declared.answers.Answers.{Answers}
 use Rattle.series.specs.declared.standing.Refutation.{Refutation}
@@ -30,10 +30,10 @@ use Rattle.trace.specs.contracts.row.What.{the_type}
 abbrev pub met : List Row → Row → Reached
 met earlier row = record { earlier = earlier; row = row }
 
-abbrev pub refutation : Line → ℕ → Refutation
+abbrev pub refutation : TraceLine → ℕ → Refutation
 refutation line number = record { line = line; number = number }
 
-abbrev pub charge : Line → Option Probe → Answers → Accusation
+abbrev pub charge : TraceLine → Option ProbeStory → Answers → Accusation
 charge claim probe answers = record { claim = claim; probe = probe; answers = answers }
 
 -- ---- lists
@@ -143,7 +143,7 @@ greatest-one n value (Some most) true = by (nat_le value most) refl
     by true low = or-greater n value most low
     by false low = or-less n value most low
 
--- the greatest number of which rows tell something of a subject, with one row more about it
+-- the greatest number of rows of a kind about a subject, with one row more about it
 pub greatest-push : (kind : What) (subject : ℕ) (rows : List Row) (row : Row) (old new : Option ℕ) → is_about subject row ≡ true → IsGreatest kind subject old rows
     → new ≡ (if has_kind kind row && not (option_map_or (nat_le row.value) old false) then Some row.value else old) → IsGreatest kind subject new (rows ++ row ∷ [])
 greatest-push kind subject rows row old new about was is n =
@@ -159,7 +159,7 @@ greatest_other kind subject rows row greatest other was n =
     ∙ ap (λ t. list_any (reaches kind subject n) rows || (t && nat_le n row.value)) (tells_of-other kind subject row other)
     ∙ sym (or-no (list_any (reaches kind subject n) rows)) ∙ was n
 
--- a row about the subject tells something under a number that is new
+-- a row about the subject is of a kind with a number that is new
 pub new-is : (kind : What) (subject : ℕ) (rows : List Row) (row : Row) (greatest : Option ℕ) → is_about subject row ≡ true → IsGreatest kind subject greatest rows
     → is_new kind subject (record { earlier = rows; row = row }) ≡ (has_kind kind row && not (option_map_or (nat_le row.value) greatest false))
 new-is kind subject rows row greatest about was =
@@ -267,7 +267,7 @@ heard-push subject rows row about =
 -- ---- what is known of a member
 
 -- with one row more about it
-pub stands : (subject number : ℕ) (old new : Standing) (probe : Option Probe) (answers : Answers) (anew charges : Bool) (claim : Line) (rows : List Row) (row : Row)
+pub stands : (subject number : ℕ) (old new : Standing) (probe : Option ProbeStory) (answers : Answers) (anew charges : Bool) (claim : TraceLine) (rows : List Row) (row : Row)
     → is_about subject row ≡ true → number ≡ length rows + 2 → probe ≡ last_probe row.member rows → answers ≡ answers_of row.member rows
     → IsStandingOf subject old rows
     → anew ≡ (has_kind what.Suspect row && not (option_map_or (nat_le row.value) old.suspected false))
@@ -320,7 +320,7 @@ stands subject number old new probe answers anew charges claim rows row about nu
         ∙ ap (λ a. (if is_new what.Suspect subject r then [] else accusations subject rows) ++ (if accuses subject r then a ∷ [] else [])) told
         ∙ sym (accusations-push subject rows row)
 
--- a row about another member tells nothing of it
+-- a row about another member reports nothing of it
 pub stands_on : (subject : ℕ) (standing : Standing) (rows : List Row) (row : Row) → is_about subject row ≡ false → IsStandingOf subject standing rows → IsStandingOf subject standing (rows ++ row ∷ [])
 stands_on subject standing rows row other is =
     record {
@@ -473,12 +473,12 @@ one_kept kept new many death rows row there_is made told are =
 pub read : {X : Type 0} (xs : List X) (i : ℕ) (x d : X) → i < length xs → x ≡ slice_index_or xs i x → x ≡ slice_index_or xs i d
 read xs i x d within is = sym (get_or_from_slice_get xs i x d (slice_get_read xs (length xs) i x refl within is))
 
-pub probes-push : (probes : List (Option Probe)) (number : ℕ) (last new : Option Probe) (rows : List Row) (row : Row) → number ≡ length rows + 2 → row.member < length probes → AreProbesOf probes rows
+pub probes-push : (probes : List (Option ProbeStory)) (number : ℕ) (last new : Option ProbeStory) (rows : List Row) (row : Row) → number ≡ length rows + 2 → row.member < length probes → AreProbesOf probes rows
     → new ≡ (if has_kind what.Ping row && row.from == row.member then Some (record { ping = line_at number row; lost = row.lost; target = row.about; sequence = row.value }) else last) → last ≡ slice_index_or probes row.member last
     → AreProbesOf (slice_set probes row.member new) (rows ++ row ∷ [])
 probes-push probes number last new rows row numbered member are is was who low = at (nat_eq who row.member) refl
   where
-    begun : Option Probe
+    begun : Option ProbeStory
     begun = Some (record { ping = line_at (length rows + 2) row; lost = row.lost; target = row.about; sequence = row.value })
 
     within : who < length probes
@@ -512,7 +512,7 @@ probes-push probes number last new rows row numbered member are is was who low =
         ∙ are who within
         ∙ sym (probe-push who rows row ∙ ap (λ t. if t then begun else last_probe who rows) (ap (λ t. has_kind what.Ping row && (t && row.from == who)) (turned who row.member h) ∙ no_ping (has_kind what.Ping row) (row.from == who)))
 
--- ---- no more is told than there are rows
+-- ---- no more is kept than there are rows
 
 pub since_few : {X : Type 0} (test : X → Bool) (xs : List X) → length (since test xs) ≤ length xs
 since_few test [] = omega arith

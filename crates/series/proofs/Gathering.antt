@@ -62,7 +62,7 @@ healths-push s rows row = told-push (health_told s) rows row
 
 -- ---- a member's story
 
--- the row tells nothing of a subject, but that it crashes
+-- the row reports nothing of a subject, but that it crashes
 record TellsNothing (s : Setup) (subject : ℕ) (row : Row) : Type 0 where
   claim : claim_told s subject row ≡ None
   back : (held : Bool) → ((has_kind what.Alive row && held) && is_about subject row) ≡ false
@@ -72,7 +72,7 @@ record TellsNothing (s : Setup) (subject : ℕ) (row : Row) : Type 0 where
   refute : tells_of what.Refute subject row ≡ false
   fail : tells_of what.Fail subject row ≡ false
 
--- a row about another member tells nothing of it
+-- a row about another member reports nothing of it
 other_tells : (s : Setup) (subject : ℕ) (row : Row) → is_about subject row ≡ false → TellsNothing s subject row
 other_tells s subject row other =
     record {
@@ -155,7 +155,7 @@ untold_crash s subject story rows row crash apart is =
     unlike : (a b : ℕ) → ¬ (b ≡ a) → (a == b) ≡ false
     unlike a b h = grind (arith)
 
--- the row of its own crash tells of that alone
+-- the row of its own crash reports that alone
 pub told_crash : (s : Setup) (subject : ℕ) (story : Story) (rows : List Row) (row : Row) → has_kind what.Crash row ≡ true → row.member ≡ subject → IsStoryOf s subject story rows
     → IsStoryOf s subject (record story { spread = record story.spread { crashed = true } }) (rows ++ row ∷ [])
 told_crash s subject story rows row crash is_its is =
@@ -171,7 +171,7 @@ told_crash s subject story rows row crash is_its is =
     or-true true = refl
     or-true false = refl
 
--- what a row about the member tells of it
+-- what a row about the member reports of it
 pub told : (s : Setup) (subject : ℕ) (old new : Story) (rows : List Row) (row : Row) (span number : ℕ) → is_about subject row ≡ true → ComesNext s row span number rows → IsStoryOf s subject old rows
     → ((changes : List Change) → AreFlowsOf 3 old.claims changes → AreFlowsOf 3 new.claims (changes ++ option_to_list (claim_change span row)))
     → ((k : ℕ) → k < 120 → count_at new.refuted 0 k ≡ count_at old.refuted 0 k + cond (has_kind what.Refute row && k == span) 1 0)
@@ -228,7 +228,7 @@ spread_more s subject old new rows row about no_crash is same crashed long long_
         ∙ ap (λ c. if row.member == m then with_row c kind row (heard kind subject m rows) else heard kind subject m rows) is.crashed
         ∙ sym (heard_more kind subject m rows row about no_crash)
 
--- ---- no more is told than there are rows
+-- ---- no more is counted than there are rows
 
 cons_few : {Y : Type 0} (o : Option Y) (ys : List Y) (n : ℕ) → length ys ≤ n → length (cons_option o ys) ≤ n + 1
 cons_few None ys n few = omega (arith, few)

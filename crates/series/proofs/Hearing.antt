@@ -156,7 +156,7 @@ so_far kind subject member rows none =
     ap (λ l. heard_of kind subject member l (from_crash subject rows)) (before_all subject rows none)
     ∙ ap (heard_of kind subject member rows) (from_none subject rows none) ∙ or-none (held_so kind subject member rows)
 
--- a row that neither tells what the member holds of the subject, nor says this of it
+-- a row that neither reports what the member holds of the subject, nor says this of it
 pub heard_other : (kind : What) (subject member : ℕ) (rows : List Row) (row : Row) → is_view_of member subject row ≡ false → says kind subject member row ≡ false
     → heard kind subject member rows ≡ heard kind subject member (rows ++ row ∷ [])
 heard_other kind subject member rows row no_view none = sym (by_crash (has_crashed subject rows) refl)

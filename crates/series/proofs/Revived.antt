@@ -41,11 +41,11 @@ few_revived s subject k n rows is few = omega (arith, is, count_by-le-length (re
 
 -- ---- whom a member holds to have failed is in state 2 for it
 
--- kinds that tell what a member holds of another
+-- kinds that report what a member holds of another
 abbrev view_kind : What → Bool
 view_kind kind = list_any (sameb the_type kind) views
 
--- a kind tells what a member holds of another just where it makes a change of state, and to 2 where it confirms
+-- a kind reports what a member holds of another just where it makes a change of state, and to 2 where it confirms
 abbrev IsViewed : Bool → Bool → Option ℕ → Type 0
 IsViewed view confirms None = view ≡ false
 IsViewed view confirms (Some state) = (view ≡ true) × (confirms ≡ (state == 2))
@@ -81,7 +81,7 @@ viewed what.Left = refl
 viewed what.Forget = refl
 viewed what.Reconnect = refl
 
--- the last row tells that a member holds another to have failed just where the last change leads to state 2
+-- the last row reports that a member holds another to have failed just where the last change leads to state 2
 abbrev AreAlike : Option Row → Option Change → Type 0
 AreAlike row change = option_map_or (has_kind what.Confirm) row false ≡ (option_map_or (λ c. c.state) change 0 == 2)
 

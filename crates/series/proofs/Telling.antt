@@ -1,4 +1,4 @@
--- What one row more tells of a member.
+-- What one row more reports of a member.
 use Rattle.std.proofs.Common.{◌≡◌, ℕ, ◌+◌, Bool, true, false, cond, List, [], ◌∷◌, ◌++◌, length, Option, Some, None, refl, sym, ap, ◌∙◌, arith, add-zero, append-nil}
 use Rattle.std.specs.Prelude.{filter_map, count_by, if◌then◌else◌, slice_get}
 use Rattle.std.specs.Option.{option_or, option_to_list}
@@ -9,7 +9,7 @@ use Rattle.trace.specs.declared.row.What.{What}
 use Rattle.trace.specs.declared.row.Row.{Row}
 use Rattle.reports.specs.Rows.{has_kind, is_about, tells_of}
 use Rattle.reports.proofs.Detections.{tells_of-it}
-use Rattle.series.specs.declared.lines.Line.{Line}
+use Rattle.series.specs.declared.lines.TraceLine.{TraceLine}
 use Rattle.series.specs.Lines.{line_at, lines_from, lines_of}
 
 -- ---- lines
@@ -26,27 +26,27 @@ lines-more n test (first ∷ rows) row =
     next : length rows + (n + 1) ≡ length (first ∷ rows) + n
     next = omega arith
 
-    kept : (t : Bool) (now old more : List Line) → now ≡ old ++ more → cond t (line_at n first ∷ now) now ≡ cond t (line_at n first ∷ old) old ++ more
+    kept : (t : Bool) (now old more : List TraceLine) → now ≡ old ++ more → cond t (line_at n first ∷ now) now ≡ cond t (line_at n first ∷ old) old ++ more
     kept true now old more is = ap (λ l. line_at n first ∷ l) is
     kept false now old more is = is
 
 lines-push : (test : Row → Bool) (rows : List Row) (row : Row) → lines_of test (rows ++ row ∷ []) ≡ lines_of test rows ++ cond (test row) (line_at (length rows + 2) row ∷ []) []
 lines-push test rows row = lines-more 2 test rows row
 
-first-of : (lines : List Line) (t : Bool) (x : Line) → slice_get (lines ++ cond t (x ∷ []) []) 0 ≡ option_or (slice_get lines 0) (if t then Some x else None)
+first-of : (lines : List TraceLine) (t : Bool) (x : TraceLine) → slice_get (lines ++ cond t (x ∷ []) []) 0 ≡ option_or (slice_get lines 0) (if t then Some x else None)
 first-of [] true x = refl
 first-of [] false x = refl
 first-of (y ∷ lines) t x = refl
 
-last-append : (o : Option Line) (lines : List Line) (x : Line) → last_or o (lines ++ x ∷ []) ≡ Some x
+last-append : (o : Option TraceLine) (lines : List TraceLine) (x : TraceLine) → last_or o (lines ++ x ∷ []) ≡ Some x
 last-append o [] x = refl
 last-append o (y ∷ ys) x = last-append (Some y) ys x
 
-last-of : (lines : List Line) (t : Bool) (x : Line) → last_or None (lines ++ cond t (x ∷ []) []) ≡ (if t then Some x else last_or None lines)
+last-of : (lines : List TraceLine) (t : Bool) (x : TraceLine) → last_or None (lines ++ cond t (x ∷ []) []) ≡ (if t then Some x else last_or None lines)
 last-of lines true x = last-append None lines x
 last-of lines false x = ap (last_or None) (append-nil lines)
 
-pub first_line-push : (kind : What) (subject : ℕ) (rows : List Row) (row : Row) (number : ℕ) (old new : Option Line) → is_about subject row ≡ true → number ≡ length rows + 2
+pub first_line-push : (kind : What) (subject : ℕ) (rows : List Row) (row : Row) (number : ℕ) (old new : Option TraceLine) → is_about subject row ≡ true → number ≡ length rows + 2
     → old ≡ slice_get (lines_of (tells_of kind subject) rows) 0
     → new ≡ option_or old (if has_kind kind row then Some (line_at number row) else None)
     → new ≡ slice_get (lines_of (tells_of kind subject) (rows ++ row ∷ [])) 0
@@ -56,7 +56,7 @@ first_line-push kind subject rows row number old new about numbered was is =
     ∙ ap (λ t. option_or (slice_get (lines_of (tells_of kind subject) rows) 0) (if t then Some (line_at (length rows + 2) row) else None)) (sym (tells_of-it kind subject row about))
     ∙ sym (ap (λ l. slice_get l 0) (lines-push (tells_of kind subject) rows row) ∙ first-of (lines_of (tells_of kind subject) rows) (tells_of kind subject row) (line_at (length rows + 2) row))
 
-pub last_line-push : (kind : What) (subject : ℕ) (rows : List Row) (row : Row) (number : ℕ) (old new : Option Line) → is_about subject row ≡ true → number ≡ length rows + 2
+pub last_line-push : (kind : What) (subject : ℕ) (rows : List Row) (row : Row) (number : ℕ) (old new : Option TraceLine) → is_about subject row ≡ true → number ≡ length rows + 2
     → old ≡ last_or None (lines_of (tells_of kind subject) rows)
     → new ≡ (if has_kind kind row then Some (line_at number row) else old)
     → new ≡ last_or None (lines_of (tells_of kind subject) (rows ++ row ∷ []))
@@ -71,7 +71,7 @@ last_line-push kind subject rows row number old new about numbered was is =
 pub count-push : {X : Type 0} (test : X → Bool) (xs : List X) (x : X) → count_by test (xs ++ x ∷ []) ≡ count_by test xs + cond (test x) 1 0
 count-push test xs x = sum_by_push (λ y. cond (test y) 1 0) xs x
 
--- ---- what is told of changes
+-- ---- what is known of changes
 
 pub told-push : {X Y : Type 0} (told : X → Option Y) (xs : List X) (x : X) → filter_map told (xs ++ x ∷ []) ≡ filter_map told xs ++ option_to_list (told x)
 told-push told xs x = filter_map-append told xs (x ∷ []) ∙ ap (λ l. filter_map told xs ++ l) (one (told x))
@@ -80,7 +80,7 @@ told-push told xs x = filter_map-append told xs (x ∷ []) ∙ ap (λ l. filter_
     one None = refl
     one (Some y) = refl
 
--- ---- what a row doesn't tell
+-- ---- what a row doesn't report
 
 pub lines_other : (test : Row → Bool) (rows : List Row) (row : Row) → test row ≡ false → lines_of test rows ≡ lines_of test (rows ++ row ∷ [])
 lines_other test rows row none = sym (lines-push test rows row ∙ ap (λ t. lines_of test rows ++ cond t (line_at (length rows + 2) row ∷ []) []) none ∙ append-nil (lines_of test rows))

@@ -5,13 +5,13 @@ use Rattle.std.specs.Option.{option_map_or}
 use Rattle.series.specs.declared.flows.Flows.{Flows}
 use Rattle.series.specs.Grid.{count_at}
 
--- a row tells that a member is in a state now, which may be the one in which it was
+-- a row reports that a member is in a state now, which may be the one in which it was
 pub record Change : Type 0 where
   pub member : ℕ
   pub state : ℕ
   pub span : ℕ
 
--- it is told of the member
+-- the change is the member's
 abbrev pub is_of : ℕ → Change → Bool
 is_of member change = change.member == member
 
@@ -39,7 +39,7 @@ came state span changes = passing_after (comes state span) [] changes
 abbrev pub went : ℕ → ℕ → List Change → ℕ
 went state span changes = passing_after (goes state span) [] changes
 
--- what is kept tells of these changes, between so many states
+-- what is kept counts these changes, between so many states
 pub record AreFlowsOf (states : ℕ) (flows : Flows) (changes : List Change) : Type 0 where
   pub now : (member : ℕ) → slice_index flows.states.items member ≡ state_after changes member
   pub within : (member : ℕ) → slice_index flows.states.items member < states
@@ -52,7 +52,7 @@ pub record AreOpen (member states : ℕ) (flows : Flows) : Type 0 where
   pub came : states * 120 ≤ length flows.came.counts.items
   pub went : states * 120 ≤ length flows.went.counts.items
 
--- they are open for a member's change to a state, and tell of few changes
+-- they are open for a member's change to a state, and count few changes
 pub record CanChange (flows : Flows) (member state : ℕ) : Type 0 where
   pub states : ℕ
   pub changes : List Change

@@ -1,4 +1,4 @@
--- How members that are up come to be declared dead: what the rows before tell of it.
+-- How members that are up come to be declared dead: what the rows before report of it.
 use Rattle.std.specs.Prelude.{◌≡◌, ℕ, ◌+◌, ◌<◌, ◌^◌, Bool, false, ◌&&◌, ◌||◌, ◌==◌, not, nat_le, if◌then◌else◌, Option, Some, None, IfSome, List, [], ◌∷◌, map, filter, count_by, length, slice_get, slice_index_or}
 use Rattle.std.specs.Option.{option_map_or}
 use Rattle.std.specs.List.{last_or, list_any}
@@ -7,15 +7,15 @@ use Rattle.trace.specs.declared.row.What.TheVariants as what
 use Rattle.trace.specs.declared.row.Row.{Row}
 use Rattle.reports.specs.Rows.{Placed, rows_in_place, has_kind, is_about, tells_of}
 use Rattle.reports.specs.FalsePositives.{ways_to_depart, departed_in, is_false_claim}
-use Rattle.series.specs.declared.lines.Line.{Line}
-use Rattle.series.specs.declared.accusers.Probe.{Probe}
+use Rattle.series.specs.declared.lines.TraceLine.{TraceLine}
+use Rattle.series.specs.declared.accusers.ProbeStory.{ProbeStory}
 use Rattle.series.specs.declared.accusers.Accusation.{Accusation}
 use Rattle.series.specs.declared.answers.Reply.{Reply}
 use Rattle.series.specs.declared.answers.Answers.{Answers}
 use Rattle.series.specs.declared.standing.Refutation.{Refutation}
 use Rattle.series.specs.declared.standing.Standing.{Standing}
 use Rattle.series.specs.declared.deaths.Death.{Death}
-use Rattle.series.specs.declared.deaths.Deaths.{Deaths}
+use Rattle.series.specs.declared.deaths.DeathStories.{DeathStories}
 use Rattle.series.specs.Accusers.{AreAccusers}
 use Rattle.series.specs.Lines.{line_at, lines_of}
 
@@ -33,7 +33,7 @@ abbrev pub reached : List Row → List Reached
 reached rows = map reached_at (rows_in_place rows)
 
 -- its line; the header stands on line 1
-abbrev pub line_reached : Reached → Line
+abbrev pub line_reached : Reached → TraceLine
 line_reached r = line_at (length r.earlier + 2) r.row
 
 -- what comes from the last that passes a test on, itself too; all where none does
@@ -47,31 +47,31 @@ since test (x ∷ xs) = if list_any test xs then since test xs else x ∷ xs
 abbrev pub begins_probe : ℕ → Row → Bool
 begins_probe member row = has_kind what.Ping row && (row.member == member && row.from == member)
 
-abbrev pub probe_told : Reached → Probe
+abbrev pub probe_told : Reached → ProbeStory
 probe_told r = record { ping = line_reached r; lost = r.row.lost; target = r.row.about; sequence = r.row.value }
 
 -- the last probe that a member began
-abbrev pub last_probe : ℕ → List Row → Option Probe
+abbrev pub last_probe : ℕ → List Row → Option ProbeStory
 last_probe member rows = last_or None (map probe_told (filter (λ r. begins_probe member r.row) (reached rows)))
 
 -- a row bears the sequence number of a probe
-abbrev pub is_of : Probe → Row → Bool
+abbrev pub is_of : ProbeStory → Row → Bool
 is_of probe row = row.value == probe.sequence
 
 -- the row's member is the one that is probed
-abbrev pub is_by_target : Probe → Row → Bool
+abbrev pub is_by_target : ProbeStory → Row → Bool
 is_by_target probe row = option_map_or (λ target. target == row.member) probe.target false
 
 -- the target sends the prober an ack
-abbrev pub acks_for : ℕ → Option Probe → Row → Bool
+abbrev pub acks_for : ℕ → Option ProbeStory → Row → Bool
 acks_for member probe row = option_map_or (λ p. has_kind what.Ack row && (is_about member row && (is_of p row && is_by_target p row))) probe false
 
 -- the prober asks a helper
-abbrev pub asks_for : ℕ → Option Probe → Row → Bool
+abbrev pub asks_for : ℕ → Option ProbeStory → Row → Bool
 asks_for member probe row = option_map_or (λ p. has_kind what.PingReq row && (row.member == member && is_of p row)) probe false
 
 -- a helper answers the prober, by an ack or a nack
-abbrev pub helps_for : ℕ → Option Probe → Row → Bool
+abbrev pub helps_for : ℕ → Option ProbeStory → Row → Bool
 helps_for member probe row =
     option_map_or (λ p. (has_kind what.Ack row || has_kind what.Nack row) && (is_about member row && (is_of p row && not (is_by_target p row)))) probe false
 
@@ -110,21 +110,21 @@ abbrev pub no_answers : Answers
 no_answers = record { ack = None; asked = 0; requests_lost = 0; answered = 0; answers_lost = 0 }
 
 -- the last failed probe of a subject, by whomever
-abbrev pub last_fail : ℕ → List Row → Option Line
+abbrev pub last_fail : ℕ → List Row → Option TraceLine
 last_fail subject rows = last_or None (lines_of (tells_of what.Fail subject) rows)
 
 -- ---- suspicions
 
--- the row tells this of the subject under the incarnation number or a higher one
+-- the row is of this kind and about the subject, with the incarnation number or a higher one
 abbrev pub reaches : What → ℕ → ℕ → Row → Bool
 reaches kind subject number row = tells_of kind subject row && nat_le number row.value
 
--- the row tells this of the subject under a number above that of each row before which told so
+-- the row is of this kind and about the subject, with a number above that of each such row before
 abbrev pub is_new : What → ℕ → Reached → Bool
 is_new kind subject r = tells_of kind subject r.row && not (list_any (reaches kind subject r.row.value) r.earlier)
 
 -- a line is the member's, and of this moment
-abbrev pub is_line_of : ℕ → ℕ → Line → Bool
+abbrev pub is_line_of : ℕ → ℕ → TraceLine → Bool
 is_line_of member at line = line.member == member && line.at == at
 
 -- the row's member suspects the subject, or repeats a suspicion of it, at the moment at which its own probe of it failed
@@ -178,11 +178,11 @@ deaths_of rows = filter begins_death (reached rows)
 
 -- ---- what is kept
 
--- a number is the greatest of which these rows tell this of the subject
+-- a number is the greatest of these rows of this kind about the subject
 abbrev pub IsGreatest : What → ℕ → Option ℕ → List Row → Type 0
 IsGreatest kind subject greatest rows = (number : ℕ) → list_any (reaches kind subject number) rows ≡ option_map_or (nat_le number) greatest false
 
--- what is kept of a member is what these rows tell of it
+-- what is kept of a member is what these rows report of it
 pub record IsStandingOf (subject : ℕ) (standing : Standing) (rows : List Row) : Type 0 where
   pub suspected : IsGreatest what.Suspect subject standing.suspected rows
   pub declared : IsGreatest what.Confirm subject standing.declared rows
@@ -191,7 +191,7 @@ pub record IsStandingOf (subject : ℕ) (standing : Standing) (rows : List Row) 
   pub refuted : standing.refuted ≡ last_refutation subject rows
   pub heard : standing.heard ≡ times_heard subject rows
 
--- what is kept of a death is what its row tells, and the rows before it
+-- what is kept of a death is what its row reports, and the rows before it
 pub record IsDeathOf (death : Death) (r : Reached) : Type 0 where
   pub line : death.line ≡ line_reached r
   pub subject : r.row.about ≡ Some death.subject
@@ -205,7 +205,7 @@ IsToldOf (Some death) (Some r) = IsDeathOf death r
 IsToldOf None (Some r) = ⊥
 IsToldOf (Some death) None = ⊥
 
--- what is kept of deaths are the first 20 of those that these rows tell, and how many they are
+-- what is kept of deaths are the first 20 of those that these rows report, and how many they are
 pub record AreToldOf (kept : List (Option Death)) (many : ℕ) (rows : List Row) : Type 0 where
   pub count : many ≡ length (deaths_of rows)
   pub told : (place : ℕ) → place < 20 → IsToldOf (slice_index_or kept place None) (slice_get (deaths_of rows) place)
@@ -215,11 +215,11 @@ pub record AreToldOf (kept : List (Option Death)) (many : ℕ) (rows : List Row)
 abbrev pub is_gone : ℕ → List Row → Bool
 is_gone member rows = list_any (λ gone. gone == member) (departed_in ways_to_depart rows)
 
--- what is kept of each member, at its number, is what these rows tell
+-- what is kept of each member, at its number, is what these rows report
 abbrev pub AreGoneOf : List Bool → List Row → Type 0
 AreGoneOf gone rows = (member : ℕ) → member < length gone → slice_index_or gone member false ≡ is_gone member rows
 
-abbrev pub AreProbesOf : List (Option Probe) → List Row → Type 0
+abbrev pub AreProbesOf : List (Option ProbeStory) → List Row → Type 0
 AreProbesOf probes rows = (member : ℕ) → member < length probes → slice_index_or probes member None ≡ last_probe member rows
 
 abbrev pub AreAnswersOf : List Answers → List Row → Type 0
@@ -228,8 +228,8 @@ AreAnswersOf answers rows = (member : ℕ) → member < length answers → slice
 abbrev pub AreStandingsOf : List Standing → List Row → Type 0
 AreStandingsOf standings rows = (subject : ℕ) (standing : Standing) → slice_get standings subject ≡ Some standing → IsStandingOf subject standing rows
 
--- what is kept is what these rows tell
-pub record AreDeathsOf (deaths : Deaths) (rows : List Row) : Type 0 where
+-- what is kept is what these rows report
+pub record AreDeathsOf (deaths : DeathStories) (rows : List Row) : Type 0 where
   pub told : AreToldOf deaths.told.items deaths.count rows
   pub gone : AreGoneOf deaths.gone.items rows
   pub probes : AreProbesOf deaths.probes.items rows
@@ -237,14 +237,14 @@ pub record AreDeathsOf (deaths : Deaths) (rows : List Row) : Type 0 where
   pub standings : AreStandingsOf deaths.standings.items rows
 
 -- there is a place for each of so many members
-pub record AreMembers (members : ℕ) (deaths : Deaths) : Type 0 where
+pub record AreMembers (members : ℕ) (deaths : DeathStories) : Type 0 where
   pub gone : length deaths.gone.items ≡ members
   pub probes : length deaths.probes.items ≡ members
   pub answers : length deaths.answers.items ≡ members
   pub standings : length deaths.standings.items ≡ members
 
 -- the row can be taken in: it names members that have a place, and few rows came before
-pub record CanFollow (row : Row) (deaths : Deaths) : Type 0 where
+pub record CanFollow (row : Row) (deaths : DeathStories) : Type 0 where
   pub members : ℕ
   pub rows : List Row
   pub room : AreMembers members deaths

@@ -12,18 +12,18 @@ use Rattle.series.specs.Changes.{Change, AreFlowsOf, AreOpen}
 use Rattle.series.specs.Stories.{AreStoriesOf}
 use Rattle.series.specs.Deaths.{AreDeathsOf, AreMembers}
 
--- the row tells of this kind of message in this span, and, of what was lost, likewise
+-- the row is of this kind of message and in this span, and, of what was lost, likewise
 abbrev pub sends_in : Setup → What → ℕ → Row → Bool
 sends_in s kind span row = has_kind kind row && span == span_at s row.at
 
 abbrev pub loses_in : Setup → What → ℕ → Row → Bool
 loses_in s kind span row = tells_lost kind row && span == span_at s row.at
 
--- what a row tells of the local health counter of its member, in a span (Lifeguard's LHA-Probe); a counter never passes 16
+-- what a row reports of the local health counter of its member, in a span (Lifeguard's LHA-Probe); a counter never passes 16
 abbrev pub health_change : ℕ → Row → Option Change
 health_change span row = if has_kind what.Health row then Some (record { member = row.member; state = min 16 row.value; span = span }) else None
 
--- what it tells in the scenario's spans
+-- what it reports in the scenario's spans
 abbrev pub health_told : Setup → Row → Option Change
 health_told s row = health_change (span_at s row.at) row
 
@@ -47,7 +47,7 @@ kind_place what.Push = Some 10
 kind_place what.Pull = Some 11
 kind_place _ = None
 
--- what is gathered is what these rows tell
+-- what is gathered is what these rows report
 pub record AreSeriesOf (s : Setup) (series : Series) (rows : List Row) : Type 0 where
   pub counted : series.rows ≡ length rows
   pub width : series.spans.width ≡ span_width s

@@ -1,4 +1,4 @@
--- What the rows of a run tell of one member.
+-- What the rows of a run report of one member.
 use Rattle.std.specs.Prelude.{◌≡◌, ℕ, ◌+◌, ◌<◌, ◌≤◌, ◌^◌, Bool, true, false, ◌&&◌, ◌==◌, if◌then◌else◌, Option, Some, None, IfSome, List, [], ◌∷◌, filter, filter_map, find, count_by, length, slice_index_or}
 use Rattle.std.specs.Option.{option_map, option_map_or, option_or}
 use Rattle.std.specs.List.{last_or, list_any, slice_get}
@@ -24,11 +24,11 @@ claimed_state what.Suspect = Some 1
 claimed_state what.Confirm = Some 2
 claimed_state _ = None
 
--- how a row that is about a member tells that its own member holds that one, in a span
+-- the change that a row makes to how its own member holds the one that it is about, in a span
 abbrev pub claim_change : ℕ → Row → Option Change
 claim_change span row = option_map (λ state. record { member = row.member; state = state; span = span }) (claimed_state row.what)
 
--- what a row tells of how the member whose row it is holds the subject
+-- what a row reports of how the member whose row it is holds the subject
 abbrev pub claim_told : Setup → ℕ → Row → Option Change
 claim_told s subject row = if is_about subject row then claim_change (span_at s row.at) row else None
 
@@ -36,7 +36,7 @@ claim_told s subject row = if is_about subject row then claim_change (span_at s 
 abbrev pub claims_of : Setup → ℕ → List Row → List Change
 claims_of s subject rows = filter_map (claim_told s subject) rows
 
--- the row tells in this span that the subject refuted what was said of it
+-- the row reports in this span that the subject refuted what was said of it
 abbrev pub refutes_in : Setup → ℕ → ℕ → Row → Bool
 refutes_in s subject span row = tells_of what.Refute subject row && span == span_at s row.at
 
@@ -44,11 +44,11 @@ refutes_in s subject span row = tells_of what.Refute subject row && span == span
 abbrev pub revives_in : Setup → ℕ → ℕ → Placed → Bool
 revives_in s subject span p = (is_revival p && is_about subject p.row) && span == span_at s p.row.at
 
--- the member's row tells this of the subject
+-- the member's row is of this kind and about the subject
 abbrev pub says : What → ℕ → ℕ → Row → Bool
 says kind subject member row = tells_of kind subject row && row.member == member
 
--- when a member first told this of a subject, if it did
+-- when a member's first row of this kind about a subject was, if it has one
 abbrev pub first_said : What → ℕ → ℕ → List Row → Option ℕ
 first_said kind subject member rows = moment_of (find (says kind subject member) rows)
 
@@ -65,15 +65,15 @@ abbrev pub from_crash : ℕ → List Row → List Row
 from_crash subject [] = []
 from_crash subject (row ∷ rows) = if is_crash_of subject row then row ∷ rows else from_crash subject rows
 
--- the moment of a row, where it tells this
+-- the moment of a row, where it is of this kind
 abbrev pub told_at : What → Row → Option ℕ
 told_at kind row = if has_kind kind row then Some row.at else None
 
--- when a member came to hold a subject so, where it does by the last of these rows that tells how it holds it
+-- when a member came to hold a subject so, where it does by the last of these rows that reports how it holds it
 abbrev pub held_so : What → ℕ → ℕ → List Row → Option ℕ
 held_so kind subject member rows = option_map_or (told_at kind) (last_or None (filter (is_view_of member subject) rows)) None
 
--- when a member learned of a subject's crash: it held the subject so when it crashed, or else told so first from then on
+-- when a member learned of a subject's crash: it held the subject so when it crashed, or else said so first from then on
 abbrev pub heard : What → ℕ → ℕ → List Row → Option ℕ
 heard kind subject member rows = option_or (held_so kind subject member (before_crash subject rows)) (first_said kind subject member (from_crash subject rows))
 
@@ -91,7 +91,7 @@ pub record IsSpreadOf (s : Setup) (subject : ℕ) (spread : Spread) (rows : List
   pub suspected : (member : ℕ) → member < length spread.suspected.items → slice_index_or spread.suspected.items member None ≡ heard what.Suspect subject member rows
   pub confirmed : (member : ℕ) → member < length spread.confirmed.items → slice_index_or spread.confirmed.items member None ≡ heard what.Confirm subject member rows
 
--- what is kept is what these rows tell of the subject
+-- what is kept is what these rows report of the subject
 pub record IsStoryOf (s : Setup) (subject : ℕ) (story : Story) (rows : List Row) : Type 0 where
   pub claims : AreFlowsOf 3 story.claims (claims_of s subject rows)
   pub refuted : (span : ℕ) → span < 120 → count_at story.refuted 0 span ≡ count_by (refutes_in s subject span) rows
@@ -101,7 +101,7 @@ pub record IsStoryOf (s : Setup) (subject : ℕ) (story : Story) (rows : List Ro
   pub spread : IsSpreadOf s subject story.spread rows
   pub fails : story.fails ≡ count_by (tells_of what.Fail subject) rows
 
--- there is room for what a row of a member's tells
+-- there is room for what a row of a member's reports
 pub record HasRoom (member : ℕ) (kind : What) (story : Story) : Type 0 where
   pub claims : (state : ℕ) → claimed_state kind ≡ Some state → AreOpen member 3 story.claims
   pub refuted : kind ≡ what.Refute → 120 ≤ length story.refuted.counts.items
@@ -112,7 +112,7 @@ pub record ComesNext (s : Setup) (row : Row) (span number : ℕ) (rows : List Ro
   pub spanned : span ≡ span_at s row.at
   pub numbered : number ≡ length rows + 2
 
--- the stories are those that these rows tell of the members, each at its number
+-- the stories are those that these rows report of the members, each at its number
 abbrev pub AreStoriesOf : Setup → List Story → List Row → Type 0
 AreStoriesOf s stories rows = (subject : ℕ) (story : Story) → slice_get stories subject ≡ Some story → IsStoryOf s subject story rows
 

@@ -2,17 +2,17 @@
 ghost use Rattle.std.specs.Prelude.{◌≡◌, ℕ, ◌<◌, ◌^◌, ◌++◌, ◌∷◌, [], List, Some, None, slice_get};
 
 use crate::answers::Answers;
-use crate::lines::Line;
+use crate::lines::TraceLine;
 use base::MemberId;
 
 /// The most accusers that are kept.
 const KEPT: u64 = 4;
 
-/// A probe, as the ping tells that begins it.
+/// A probe, as the ping that begins it reports it.
 #[derive(Clone, Copy, Debug, PartialEq, Eq)]
-pub struct Probe {
+pub struct ProbeStory {
     /// The row of the ping.
-    pub ping: Line,
+    pub ping: TraceLine,
     /// Whether it was lost.
     pub lost: bool,
     /// The member that it probes.
@@ -25,9 +25,9 @@ pub struct Probe {
 #[derive(Clone, Copy, Debug, PartialEq, Eq)]
 pub struct Accusation {
     /// The row of the claim.
-    pub claim: Line,
+    pub claim: TraceLine,
     /// The probe that failed.
-    pub probe: Option<Probe>,
+    pub probe: Option<ProbeStory>,
     /// What came of it by then.
     pub answers: Answers,
 }

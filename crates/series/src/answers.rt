@@ -4,8 +4,8 @@ ghost use Rattle.std.specs.Option.{option_map_or};
 ghost use Rattle.series.specs.Lines.{line_at};
 ghost use Rattle.series.specs.Deaths.{acks_for, answers_of, asks_for, begins_probe, helps_for, last_probe, no_answers};
 
-use crate::accusers::Probe;
-use crate::lines::{Line, line_at};
+use crate::accusers::ProbeStory;
+use crate::lines::{TraceLine, line_at};
 use base::MemberId;
 use trace::{Row, What};
 
@@ -13,7 +13,7 @@ use trace::{Row, What};
 #[derive(Clone, Copy, Debug, PartialEq, Eq)]
 pub struct Reply {
     /// The row.
-    pub line: Line,
+    pub line: TraceLine,
     /// Whether it was lost.
     pub lost: bool,
 }
@@ -53,7 +53,7 @@ impl Answers {
     pub(crate) fn with(
         &self,
         member: MemberId,
-        probe: Option<Probe>,
+        probe: Option<ProbeStory>,
         row: &Row,
         number: u64,
     ) -> Answers
@@ -89,7 +89,7 @@ pub(crate) fn begins(member: MemberId, row: &Row) -> bool
 }
 
 /// Whether the target of a member's probe sends it an ack.
-fn acks(member: MemberId, probe: &Option<Probe>, row: &Row) -> bool
+fn acks(member: MemberId, probe: &Option<ProbeStory>, row: &Row) -> bool
     ensures { result ≡ acks_for member probe.now row.now }
 {
     let Some(probe) = probe else {
@@ -102,7 +102,7 @@ fn acks(member: MemberId, probe: &Option<Probe>, row: &Row) -> bool
 }
 
 /// Whether a member asks a helper for its probe.
-fn asks(member: MemberId, probe: &Option<Probe>, row: &Row) -> bool
+fn asks(member: MemberId, probe: &Option<ProbeStory>, row: &Row) -> bool
     ensures { result ≡ asks_for member probe.now row.now }
 {
     let Some(probe) = probe else {
@@ -112,7 +112,7 @@ fn asks(member: MemberId, probe: &Option<Probe>, row: &Row) -> bool
 }
 
 /// Whether a helper answers a member's request.
-fn helps(member: MemberId, probe: &Option<Probe>, row: &Row) -> bool
+fn helps(member: MemberId, probe: &Option<ProbeStory>, row: &Row) -> bool
     ensures { result ≡ helps_for member probe.now row.now }
 {
     let Some(probe) = probe else {
@@ -135,7 +135,7 @@ fn is(found: Option<MemberId>, member: MemberId) -> bool
 }
 
 /// Whether a row bears a probe's sequence number.
-fn is_of(probe: &Probe, row: &Row) -> bool
+fn is_of(probe: &ProbeStory, row: &Row) -> bool
     ensures { result ≡ (row.now.value == probe.now.sequence) }
 {
     row.value == probe.sequence

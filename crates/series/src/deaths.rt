@@ -5,9 +5,9 @@ ghost use Rattle.series.specs.Lines.{line_at};
 ghost use Rattle.trace.specs.declared.row.Row.{Row as AnyRow};
 ghost use Rattle.series.specs.Deaths.{AreAnswersOf, AreGoneOf, AreProbesOf, AreStandingsOf, AreToldOf, CanStand, IsToldOf, answers_of, begins_death, no_answers};
 
-use crate::accusers::Probe;
+use crate::accusers::ProbeStory;
 use crate::answers::Answers;
-use crate::lines::{Line, line_at};
+use crate::lines::{TraceLine, line_at};
 use crate::standing::{Standing, is_new};
 use base::{MemberId, Memory};
 use std::alloc::Global;
@@ -20,7 +20,7 @@ const KEPT: usize = 20;
 #[derive(Clone, Copy)]
 pub struct Death {
     /// The row that declares it dead.
-    pub line: Line,
+    pub line: TraceLine,
     /// The member.
     pub subject: MemberId,
     /// Its incarnation number in that row.
@@ -31,7 +31,7 @@ pub struct Death {
 
 /// The deaths of members that were up, and what is known of members that may be declared dead.
 #[derive(Drop)]
-pub struct Deaths {
+pub struct DeathStories {
     /// How many deaths there are.
     count: u64,
     /// The first of them, in their order.
@@ -39,22 +39,22 @@ pub struct Deaths {
     /// Whether each member has crashed or left, at its number.
     gone: Vec<bool>,
     /// The last probe that each began.
-    probes: Vec<Option<Probe>>,
+    probes: Vec<Option<ProbeStory>>,
     /// What came of it.
     answers: Vec<Answers>,
     /// What is known of each.
     standings: Vec<Standing>,
 }
 
-impl Deaths {
+impl DeathStories {
     ghost use Rattle.series.specs.Deaths.{AreDeathsOf, AreMembers, CanFollow};
 
     /// Those of no rows, where there are so many members.
-    pub(crate) fn new(alloc: Global, members: usize) -> Result<Deaths, Memory>
+    pub(crate) fn new(alloc: Global, members: usize) -> Result<DeathStories, Memory>
         ensures none { IfOk result (λ deaths. AreDeathsOf deaths []) }
         ensures room { IfOk result (AreMembers members) }
     {
-        Ok(Deaths {
+        Ok(DeathStories {
             count: 0,
             told: no_deaths(alloc)?,
             gone: nobody_gone(alloc, members)?,
@@ -97,7 +97,7 @@ impl Deaths {
     }
 }
 
-/// The death that a row tells of, on the line of that number, where it does.
+/// The death that a row reports, on the line of that number, where it does.
 fn death_told(gone: &[bool], standings: &[Standing], row: &Row, number: u64) -> Option<Death>
     requires gone { IfSome row.now.about (λ m. m < length gone.now) }
     requires standings { IfSome row.now.about (λ m. m < length standings.now) }
@@ -144,10 +144,10 @@ fn put_at(told: &mut Vec<Option<Death>>, place: u64, death: Option<Death>)
     }
 }
 
-/// Takes in what a row tells of the member that it is about.
+/// Takes in what a row reports of the member that it is about.
 fn follow_standing(
     standings: &mut Vec<Standing>,
-    probes: &[Option<Probe>],
+    probes: &[Option<ProbeStory>],
     answers: &[Answers],
     row: &Row,
     number: u64,
@@ -168,8 +168,8 @@ fn follow_standing(
     }
 }
 
-/// Takes in what a row tells of the last probes of its member and of the member that it is about.
-fn follow_answers(answers: &mut Vec<Answers>, probes: &[Option<Probe>], row: &Row, number: u64)
+/// Takes in what a row reports of the last probes of its member and of the member that it is about.
+fn follow_answers(answers: &mut Vec<Answers>, probes: &[Option<ProbeStory>], row: &Row, number: u64)
     requires member { row.now.member < length answers.old.items }
     requires about { IfSome row.now.about (λ m. m < length answers.old.items) }
     requires probes { length probes.now ≡ length answers.old.items }
@@ -187,10 +187,10 @@ fn follow_answers(answers: &mut Vec<Answers>, probes: &[Option<Probe>], row: &Ro
     follow_answer(answers, probes, about, row, number);
 }
 
-/// Takes in what a row tells of a member's last probe.
+/// Takes in what a row reports of a member's last probe.
 fn follow_answer(
     answers: &mut Vec<Answers>,
-    probes: &[Option<Probe>],
+    probes: &[Option<ProbeStory>],
     member: MemberId,
     row: &Row,
     number: u64,
@@ -208,7 +208,7 @@ fn follow_answer(
 }
 
 /// Takes in the probe that a row begins, where it does.
-fn follow_probe(probes: &mut Vec<Option<Probe>>, row: &Row, number: u64)
+fn follow_probe(probes: &mut Vec<Option<ProbeStory>>, row: &Row, number: u64)
     requires member { row.now.member < length probes.old.items }
     ensures follows { (rows : List AnyRow) → number ≡ length rows + 2 → AreProbesOf probes.old.items rows → AreProbesOf probes.new.items (rows ++ row.now ∷ []) }
     ensures kept { length probes.new.items ≡ length probes.old.items }
@@ -218,12 +218,12 @@ fn follow_probe(probes: &mut Vec<Option<Probe>>, row: &Row, number: u64)
 }
 
 /// The last probe of a row's member, with that row.
-fn begun(last: Option<Probe>, row: &Row, number: u64) -> Option<Probe>
+fn begun(last: Option<ProbeStory>, row: &Row, number: u64) -> Option<ProbeStory>
     ensures { result ≡ (if has_kind What.Ping row.now && row.now.from == row.now.member then Some (record { ping = line_at number row.now; lost = row.now.lost; target = row.now.about; sequence = row.now.value }) else last) }
 {
     if row.what == What::Ping && row.from == row.member {
         let ping = line_at(number, row);
-        Some(Probe {
+        Some(ProbeStory {
             ping,
             lost: row.lost,
             target: row.about,
@@ -266,7 +266,7 @@ fn nobody_gone(alloc: Global, members: usize) -> Result<Vec<bool>, Memory>
 }
 
 /// A place for each of so many members, none of which began a probe.
-fn no_probes(alloc: Global, members: usize) -> Result<Vec<Option<Probe>>, Memory>
+fn no_probes(alloc: Global, members: usize) -> Result<Vec<Option<ProbeStory>>, Memory>
     ensures all { IfOk result (λ probes. length probes.items ≡ members) }
     ensures none { IfOk result (λ probes. (member : ℕ) → slice_index_or probes.items member None ≡ None) }
 {
@@ -285,7 +285,7 @@ fn no_answers_yet(alloc: Global, members: usize) -> Result<Vec<Answers>, Memory>
     Ok(answers)
 }
 
-/// What no rows tell of each of so many members.
+/// What is known, before any row, of each of so many members.
 fn no_standings(alloc: Global, members: usize) -> Result<Vec<Standing>, Memory>
     ensures all { IfOk result (λ standings. length standings.items ≡ members) }
     ensures none { IfOk result (λ standings. AreStandingsOf standings.items []) }

@@ -32,7 +32,7 @@ impl Flows {
         }
     }
 
-    /// Opens them for so many members and states. A refusal leaves what they tell.
+    /// Opens them for so many members and states. A refusal leaves what they count.
     pub(crate) fn make_room(&mut self, members: usize, states: usize) -> Result<(), Memory>
         requires { states ≤ 64 }
         ensures room { OnOk result ((member : ℕ) → member < members → AreOpen member states self.new) }

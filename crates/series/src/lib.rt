@@ -14,13 +14,13 @@ mod spread;
 mod standing;
 mod story;
 
-pub use accusers::{Accusation, Accusers, Probe};
+pub use accusers::{Accusation, Accusers, ProbeStory};
 pub use answers::{Answers, Reply};
-pub use deaths::{Death, Deaths};
+pub use deaths::{Death, DeathStories};
 pub use flows::Flows;
 pub use grid::Grid;
 pub use laws::those_who_came_and_did_not_go_are_there;
-pub use lines::Line;
+pub use lines::TraceLine;
 pub use series::Series;
 pub use spans::Spans;
 pub use spread::Spread;

@@ -9,7 +9,7 @@ use trace::{Row, What};
 
 /// What is kept of a row of the trace.
 #[derive(Clone, Copy, Debug, PartialEq, Eq)]
-pub struct Line {
+pub struct TraceLine {
     /// The number of its line; the header stands on line 1.
     pub number: u64,
     /// When it was written, in ticks.
@@ -19,10 +19,10 @@ pub struct Line {
 }
 
 /// What is kept of a row on the line of that number.
-pub(crate) fn line_at(number: u64, row: &Row) -> Line
+pub(crate) fn line_at(number: u64, row: &Row) -> TraceLine
     ensures { result ≡ line_at number row.now }
 {
-    Line {
+    TraceLine {
         number,
         at: row.at,
         member: row.member,
@@ -30,7 +30,12 @@ pub(crate) fn line_at(number: u64, row: &Row) -> Line
 }
 
 /// The first line of a kind, with one row more.
-pub(crate) fn first_line(first: Option<Line>, kind: What, row: &Row, number: u64) -> Option<Line>
+pub(crate) fn first_line(
+    first: Option<TraceLine>,
+    kind: What,
+    row: &Row,
+    number: u64,
+) -> Option<TraceLine>
     ensures { result ≡ option_or first (if has_kind kind row.now then Some (line_at number row.now) else None) }
 {
     if row.what == kind {
@@ -41,7 +46,12 @@ pub(crate) fn first_line(first: Option<Line>, kind: What, row: &Row, number: u64
 }
 
 /// The last line of a kind, with one row more.
-pub(crate) fn last_line(last: Option<Line>, kind: What, row: &Row, number: u64) -> Option<Line>
+pub(crate) fn last_line(
+    last: Option<TraceLine>,
+    kind: What,
+    row: &Row,
+    number: u64,
+) -> Option<TraceLine>
     ensures { result ≡ (if has_kind kind row.now then Some (line_at number row.now) else last) }
 {
     if row.what == kind {

@@ -12,7 +12,7 @@ ghost use Rattle.series.specs.Stories.{AreStoriesOf, ComesNext, CanFollow};
 ghost use Rattle.series.specs.Series.{AreSeriesOf, kind_place, health_change};
 ghost use Rattle.series.specs.Watched.{crash_by_end};
 
-use crate::deaths::Deaths;
+use crate::deaths::DeathStories;
 use crate::flows::Flows;
 use crate::grid::Grid;
 use crate::spans::Spans;
@@ -43,10 +43,10 @@ pub struct Series {
     lost: Grid,
     /// How members passed from one value of the local health counter to another.
     health: Flows,
-    /// What is told of each member, at its number.
+    /// What is known of each member, at its number.
     stories: Vec<Story>,
     /// How members that were up came to be declared dead.
-    deaths: Deaths,
+    deaths: DeathStories,
 }
 
 impl Series {
@@ -61,7 +61,7 @@ impl Series {
         let mut health = Flows::new(alloc);
         health.make_room(scenario.members(), 17)?;
         let stories = new_stories(alloc, scenario)?;
-        let deaths = Deaths::new(alloc, scenario.members())?;
+        let deaths = DeathStories::new(alloc, scenario.members())?;
         Ok(Series {
             rows: 0,
             spans: Spans::of(scenario),
@@ -151,7 +151,7 @@ impl Series {
         &self.health
     }
 
-    /// What is told of each member, at its number.
+    /// What is known of each member, at its number.
     pub fn stories(&self) -> &[Story]
         ensures { result.now ≡ self.now.stories.items }
     {
@@ -159,14 +159,14 @@ impl Series {
     }
 
     /// How members that were up came to be declared dead.
-    pub fn deaths(&self) -> &Deaths
+    pub fn deaths(&self) -> &DeathStories
         ensures { result.now ≡ self.now.deaths }
     {
         &self.deaths
     }
 }
 
-/// What no rows tell of the members of a scenario.
+/// What is known of the members of a scenario before any row.
 fn new_stories(alloc: Global, scenario: &Scenario) -> Result<Vec<Story>, Memory>
     ensures told { IfOk result (λ stories. AreStoriesOf scenario.now stories.items []) }
     ensures all { IfOk result (λ stories. length stories.items ≡ member_count scenario.now) }
@@ -201,8 +201,8 @@ fn crash_by_end(scenario: &Scenario, member: MemberId) -> Option<Moment>
     }
 }
 
-/// Takes in what a row, which stands on the line of that number, tells of the member that crashes by it,
-/// or else of the one that it is about. A refusal leaves what is told.
+/// Takes in what a row, which stands on the line of that number, reports of the member that crashes by it,
+/// or else of the one that it is about. A refusal leaves what is known.
 fn follow_subject(
     stories: &mut Vec<Story>,
     row: &Row,
@@ -237,7 +237,7 @@ fn is_crash(row: &Row) -> bool
     row.what == What::Crash
 }
 
-/// Counts the message that a row tells of, and whether it was lost.
+/// Counts the message that a row reports, and whether it was lost.
 fn follow_message(sent: &mut Grid, lost: &mut Grid, row: &Row, span: usize)
     requires span { span < 120 }
     requires sent_room { 12 * 120 ≤ length sent.old.counts.items }
@@ -259,7 +259,7 @@ fn follow_message(sent: &mut Grid, lost: &mut Grid, row: &Row, span: usize)
     }
 }
 
-/// Takes in what a row tells of its member's health.
+/// Takes in what a row reports of its member's health.
 fn follow_health(health: &mut Flows, row: &Row, span: usize)
     requires span { span < 120 }
     requires can { CanChange health.old row.now.member (min 16 row.now.value) }

@@ -29,7 +29,7 @@ impl Spread {
     ghost use Rattle.trace.specs.declared.row.Row.{Row as AnyRow};
     ghost use Rattle.reports.specs.Rows.{is_about};
 
-    /// What no rows tell of a member whose crash is watched from that moment on, or isn't, where there
+    /// What is known, before any row, of a member whose crash is watched from that moment on, or isn't, where there
     /// are so many members.
     pub(crate) fn new(
         alloc: Global,
@@ -47,7 +47,7 @@ impl Spread {
         })
     }
 
-    /// Takes in what a row tells that is about the member, and isn't that of its crash.
+    /// Takes in a row that is about the member, and isn't that of its crash.
     pub(crate) fn follow(&mut self, row: &Row)
         ensures { (s : Setup) (subject : ℕ) (rows : List AnyRow) → is_about subject row.now ≡ true → is_crash_of subject row.now ≡ false → IsSpreadOf s subject self.old rows
             → IsSpreadOf s subject self.new (rows ++ row.now ∷ []) }
@@ -96,7 +96,7 @@ fn no_moments(alloc: Global, members: usize) -> Result<Vec<Option<Moment>>, Memo
     Ok(moments)
 }
 
-/// Notes what a row tells about a member that crashes, by which its own member learned of it.
+/// Updates, by a row about a member that crashes, when the row's own member learned of the crash.
 fn note(moments: &mut Vec<Option<Moment>>, crashed: bool, kind: What, row: &Row)
     ensures all { length moments.new.items ≡ length moments.old.items }
     ensures noted { (m : ℕ) → m < length moments.old.items → slice_index_or moments.new.items m None
@@ -109,7 +109,7 @@ fn note(moments: &mut Vec<Option<Moment>>, crashed: bool, kind: What, row: &Row)
 }
 
 /// When a member learned of a crash, with one row of its own more about whom crashes. Before the crash
-/// the last row counts, from then on the first that tells so.
+/// the last row counts, from then on the first that says so.
 fn with_row(moment: Option<Moment>, crashed: bool, kind: What, row: &Row) -> Option<Moment>
     ensures { result ≡ with_row crashed kind row.now moment }
 {
@@ -123,14 +123,14 @@ fn with_row(moment: Option<Moment>, crashed: bool, kind: What, row: &Row) -> Opt
     }
 }
 
-/// The moment of a row, where it tells this.
+/// The moment of a row, where it is of this kind.
 fn told_at(kind: What, row: &Row) -> Option<Moment>
     ensures { result ≡ told_at kind row.now }
 {
     if row.what == kind { Some(row.at) } else { None }
 }
 
-/// Whether a row tells what its member holds from now on.
+/// Whether a row reports what its member holds from now on.
 fn is_view(row: &Row) -> bool
     ensures { result ≡ is_view row.now }
 {

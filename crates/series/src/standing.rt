@@ -7,16 +7,16 @@ ghost use Rattle.series.specs.Lines.{line_at};
 ghost use Rattle.series.specs.Deaths.{is_line_of, hears};
 ghost use Rattle.series.specs.declared.accusers.Accusation.{Accusation as AnAccusation};
 
-use crate::accusers::{Accusation, Accusers, Probe};
+use crate::accusers::{Accusation, Accusers, ProbeStory};
 use crate::answers::Answers;
-use crate::lines::{Line, last_line, line_at};
+use crate::lines::{TraceLine, last_line, line_at};
 use trace::{Row, What};
 
 /// A row by which a member refuted what was said of it.
 #[derive(Clone, Copy, Debug, PartialEq, Eq)]
 pub struct Refutation {
     /// The row.
-    pub line: Line,
+    pub line: TraceLine,
     /// The member's new incarnation number.
     pub number: u64,
 }
@@ -29,7 +29,7 @@ pub struct Standing {
     /// The greatest under which it was declared dead.
     declared: Option<u64>,
     /// The last failed probe of it.
-    failed: Option<Line>,
+    failed: Option<TraceLine>,
     /// Who accused it since it was first suspected under that number.
     accusers: Accusers,
     /// Its last refutation.
@@ -43,7 +43,7 @@ impl Standing {
     ghost use Rattle.reports.specs.Rows.{is_about};
     ghost use Rattle.series.specs.Deaths.{IsStandingOf, answers_of, last_probe};
 
-    /// What no rows tell.
+    /// What is known before any row.
     pub(crate) fn new() -> Standing
         ensures { (subject : ℕ) → IsStandingOf subject result [] }
     {
@@ -57,9 +57,15 @@ impl Standing {
         }
     }
 
-    /// Takes in what a row tells that is about the member, and stands on the line of that number. The
+    /// Takes in a row that is about the member, and stands on the line of that number. The
     /// probe is the last one that the row's member began, and the answers are what came of it.
-    pub(crate) fn follow(&mut self, row: &Row, number: u64, probe: Option<Probe>, answers: Answers)
+    pub(crate) fn follow(
+        &mut self,
+        row: &Row,
+        number: u64,
+        probe: Option<ProbeStory>,
+        answers: Answers,
+    )
         requires few { self.old.accusers.count < 2 ^ 63 }
         requires heard { self.old.heard < 2 ^ 63 }
         ensures { (subject : ℕ) (rows : List AnyRow) → is_about subject row.now ≡ true → number ≡ length rows + 2
@@ -100,7 +106,7 @@ impl Standing {
     }
 
     /// The last failed probe of it.
-    pub fn failed(&self) -> Option<Line>
+    pub fn failed(&self) -> Option<TraceLine>
         ensures { result ≡ self.now.failed }
     {
         self.failed
@@ -138,7 +144,7 @@ fn is_above(greatest: Option<u64>, number: u64) -> bool
     }
 }
 
-/// Whether a row tells this under a number above the greatest so far.
+/// Whether a row is of this kind, with a number above the greatest so far.
 pub(crate) fn is_new(most: Option<u64>, kind: What, row: &Row) -> bool
     ensures { result ≡ (has_kind kind row.now && not (option_map_or (nat_le row.now.value) most false)) }
 {
@@ -157,7 +163,7 @@ fn greatest(most: Option<u64>, kind: What, row: &Row) -> Option<u64>
 }
 
 /// Whether a row suspects or accuses, and the last failed probe is its member's, at its moment.
-fn accuses(failed: Option<Line>, row: &Row) -> bool
+fn accuses(failed: Option<TraceLine>, row: &Row) -> bool
     ensures { result ≡ ((has_kind What.Suspect row.now || has_kind What.Accuse row.now) && option_map_or (is_line_of row.now.member row.now.at) failed false) }
 {
     match failed {

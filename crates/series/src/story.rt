@@ -8,7 +8,7 @@ ghost use Rattle.series.specs.Stories.{claimed_state, claim_change};
 
 use crate::flows::Flows;
 use crate::grid::Grid;
-use crate::lines::{Line, first_line, last_line};
+use crate::lines::{TraceLine, first_line, last_line};
 use crate::spread::Spread;
 use base::Memory;
 use std::alloc::Global;
@@ -26,9 +26,9 @@ pub struct Story {
     /// When others learned of its crash, where that is watched.
     spread: Spread,
     /// The first row that confirms that it failed.
-    first_confirm: Option<Line>,
+    first_confirm: Option<TraceLine>,
     /// The last row by which it refuted what was said of it.
-    last_refute: Option<Line>,
+    last_refute: Option<TraceLine>,
     /// How many probes of it failed.
     fails: u64,
 }
@@ -38,7 +38,7 @@ impl Story {
     ghost use Rattle.trace.specs.declared.row.Row.{Row as AnyRow};
     ghost use Rattle.series.specs.Stories.{is_crash_of, IsSpreadOf, IsStoryOf, HasRoom, ComesNext, CanTell};
 
-    /// What no rows tell, with what is watched of the member's crash.
+    /// What is known before any row, with what is watched of the member's crash.
     pub(crate) fn new(alloc: Global, spread: Spread) -> Story
         ensures { (s : Setup) (subject : ℕ) → IsSpreadOf s subject spread [] → IsStoryOf s subject result [] }
     {
@@ -53,8 +53,8 @@ impl Story {
         }
     }
 
-    /// Makes room for what a row tells that is about the member, where there are so many members. A
-    /// refusal leaves what is told.
+    /// Makes room for a row that is about the member, where there are so many members. A
+    /// refusal leaves what is known.
     pub(crate) fn make_room(&mut self, row: &Row, members: usize) -> Result<(), Memory>
         requires { row.now.member < members }
         ensures room { OnOk result (HasRoom row.now.member row.now.what self.new) }
@@ -71,7 +71,7 @@ impl Story {
         }
     }
 
-    /// Takes in what a row tells that is about the member, and stands on the line of that number. It isn't
+    /// Takes in a row that is about the member, and stands on the line of that number. It isn't
     /// that of a crash.
     pub(crate) fn follow(&mut self, row: &Row, span: usize, number: u64)
         requires span { span < 120 }
@@ -128,14 +128,14 @@ impl Story {
     }
 
     /// The first row that confirms that it failed.
-    pub fn first_confirm(&self) -> Option<Line>
+    pub fn first_confirm(&self) -> Option<TraceLine>
         ensures { result ≡ self.now.first_confirm }
     {
         self.first_confirm
     }
 
     /// The last row by which it refuted what was said of it.
-    pub fn last_refute(&self) -> Option<Line>
+    pub fn last_refute(&self) -> Option<TraceLine>
         ensures { result ≡ self.now.last_refute }
     {
         self.last_refute

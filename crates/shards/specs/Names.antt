@@ -1,4 +1,4 @@
--- By which name a shard tells which it is of which sweep.
+-- The name by which a shard says which it is of which sweep.
 use Rattle.std.specs.Prelude.{ℕ, List, [], ◌∷◌, ◌++◌, Option, Some, None, codes, flat_map}
 use Rattle.std.specs.Fmt.{decimal}
 use Rattle.sweep_plan.specs.Sweep.{Sweep}
@@ -26,6 +26,6 @@ plan_text sweep = seeds_word sweep.seeds ++ until_text sweep.until ++ flat_map (
 abbrev pub shard_name : List ℕ → Sweep → Shard → List ℕ
 shard_name mark sweep p = shard_text p ++ 32 ∷ mark ++ 32 ∷ plan_text sweep
 
--- Ahead of a shard's header stands its name, which is that of the column of notes: in quotes, since it may have commas, and a comma.
+-- Ahead of a shard's header stands its name, which is that of the column of metadata: in quotes, since it may have commas, and a comma.
 abbrev pub head_cell : List ℕ → Sweep → Shard → List ℕ
 head_cell mark sweep p = 34 ∷ shard_name mark sweep p ++ 34 ∷ 44 ∷ []

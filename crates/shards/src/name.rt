@@ -8,9 +8,9 @@ use base::Memory;
 use std::alloc::Global;
 use sweep_plan::Plan;
 
-/// What stands ahead of a shard's header: its name in quotes, and a comma. The name tells which shard it is of how many, by
+/// What stands ahead of a shard's header: its name in quotes, and a comma. The name says which shard it is of how many, by
 /// the mark which scenario's text is meant, and the words that ask for the sweep, as
-/// `3/8 5f20c9.. 1..200 swim.period=200,300`. It is that of the column of notes.
+/// `3/8 5f20c9.. 1..200 swim.period=200,300`. It is that of the column of metadata.
 pub fn head_cell(alloc: Global, mark: &str, plan: &Plan, shard: Shard) -> Result<String, Memory>
     ensures { IfOk result (λ text. string_bytes text ≡ head_cell mark.now plan.now shard) }
 {

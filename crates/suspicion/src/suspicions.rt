@@ -167,10 +167,14 @@ impl Suspicions {
         standing.timer == generation
     }
 
-    /// Who accused a suspect first; Lifeguard's Buddy System tells the suspect so.
+    /// Who accused a suspect first; by Lifeguard's Buddy System a ping reports this to the suspect.
     pub fn first_accuser(&self, subject: MemberId) -> Option<MemberId>
         ensures { result ≡ first_accuser_of self.now subject }
     {
+        // Mostly there is none, and then none of the tree's nodes is looked at.
+        if self.standing.is_empty() {
+            return None;
+        }
         let standing = self.standing.get(&subject)?;
         Some(standing.first)
     }

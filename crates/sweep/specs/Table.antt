@@ -80,11 +80,11 @@ pub record BeginsLines (tree : Data) (sweep : Sweep) (course : Course) (held : O
   pub are : AreMadeBetween tree sweep course.from number made
   pub written : AppendsBeginning course.start held (lines_text tree course made)
 
--- the scenario's run, or the count of its rows, wears a counter out
+-- a counter of the scenario's run overflows, or the count of its rows
 abbrev pub IsWearing : Setup → Type 0
 IsWearing s = CounterOverflows s ⊎ ReportOverflows s
 
--- some run that is asked for does
+-- some run that is asked for has such an overflow
 pub record OverflowsOutSome (tree : Data) (sweep : Sweep) : Type 0 where
   pub number : ℕ
   pub planned : Planned
@@ -93,7 +93,7 @@ pub record OverflowsOutSome (tree : Data) (sweep : Sweep) : Type 0 where
   pub accepted : verdict_of tree planned ≡ Ok scenario
   pub overflow : IsWearing scenario
 
--- why a sweep ends before its time: a counter only where some run wears one out; a sink where its failures say so; no relay
+-- why a sweep ends before its time: a counter overflow only where some run has one; a sink where its failures say so; no relay
 abbrev pub HasCause : Data → Sweep → Fault → Type 0
 HasCause tree sweep fault.Memory = Unit {0}
 HasCause tree sweep fault.CounterOverflow = OverflowsOutSome tree sweep
@@ -104,13 +104,13 @@ HasCause tree sweep fault.ThreadLost = ⊥
 abbrev pub IsReadAt : Data → Sweep → ℕ → Setup → Type 0
 IsReadAt tree sweep number s = (p : Planned) × IsRunAt sweep number p × (verdict_of tree p ≡ Ok s)
 
--- the run of this number wears a counter out
+-- the run of this number has a counter overflow
 pub record OverflowsOutAt (tree : Data) (sweep : Sweep) (number : ℕ) : Type 0 where
   pub scenario : Setup
   pub read : IsReadAt tree sweep number scenario
   pub overflow : IsWearing scenario
 
--- why there is no run of a number: a counter only where that run wears one out; no sink, and no relay
+-- why there is no run of a number: a counter overflow only where that run has one; no sink, and no relay
 abbrev pub IsCauseAt : Data → Sweep → ℕ → Fault → Type 0
 IsCauseAt tree sweep number fault.Memory = Unit {0}
 IsCauseAt tree sweep number fault.CounterOverflow = OverflowsOutAt tree sweep number

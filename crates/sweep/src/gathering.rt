@@ -20,9 +20,9 @@ pub trait Gather {
 
 /// Nothing is kept.
 #[derive(Drop)]
-pub struct NothingGathered;
+pub struct NothingKept;
 
-impl Gather for NothingGathered {
+impl Gather for NothingKept {
     ghost has = { λ _ _ _. Unit {0} };
 
     fn add(&mut self, _alloc: Global, _note: &RunMetadata) -> Result<(), Memory> {

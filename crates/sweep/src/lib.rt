@@ -23,7 +23,7 @@ mod writing;
 
 pub use begun::{Begun, BegunFault, begun_of, lines_behind};
 pub use first_seeds::first_seed;
-pub use gathering::{Gather, Gathering, NothingGathered};
+pub use gathering::{Gather, Gathering, NothingKept};
 pub use header::{front_of, write_front, write_front_behind};
 pub use judging::{Refused, judge};
 pub use making::{MadeRun, make_side_by_side};

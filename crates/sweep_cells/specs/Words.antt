@@ -38,7 +38,7 @@ hundredths_words n = decimal (n / 100) ++ codes "." ++ decimal (n / 10 % 10) ++ 
 unfoldable pub rate_words : Option ℕ → List ℕ
 rate_words rate = option_map_or hundredths_words rate (codes "-")
 
--- in how many of a setting's runs healthy members were thrown out
+-- how many of a setting's runs have a false death
 unfoldable pub runs_words : SettingSummary → List ℕ
 runs_words setting = grouped setting.runs_with ++ markup (codes " of ") ++ grouped setting.runs
 
@@ -62,7 +62,7 @@ hundredths_interval_words low high = hundredths_words low ++ markup (codes " to 
 abbrev pub thousandths : ℕ → ℕ
 thousandths share = min share 1000
 
--- the share of its runs in which a setting threw out healthy members, in thousandths and rounded down
+-- the share of a setting's runs with a false death, in thousandths and rounded down
 unfoldable pub share_of : SettingSummary → ℕ
 share_of setting = thousandths (setting.runs_with * 1000 / max setting.runs 1)
 

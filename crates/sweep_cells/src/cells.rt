@@ -96,7 +96,7 @@ pub fn push_rate(text: &mut String, rate: Option<u128>) -> Result<(), AllocError
     }
 }
 
-/// Appends in how many runs healthy members were thrown out, of how many.
+/// Appends how many runs have a false death, of how many.
 #[tactic(auto, unfolding(crate::specs::Words::runs_words))]
 pub fn push_runs_with(text: &mut String, setting: &SettingSummary) -> Result<(), AllocError>
     ensures { OnOk result (string_bytes text.new ≡ string_bytes text.old ++ runs_words setting.now) }
@@ -154,7 +154,7 @@ pub fn thousandths(share: u128) -> u64
     share.min(1000) as u64
 }
 
-/// The share of its runs in which a setting threw out healthy members, in thousandths, rounded down.
+/// The share of a setting's runs with a false death, in thousandths, rounded down.
 #[tactic(auto, unfolding(crate::specs::Words::share_of))]
 pub fn share_of(setting: &SettingSummary) -> u64
     ensures { result ≡ share_of setting.now }

@@ -15,7 +15,7 @@ use scenario::Workers;
 use shards::Shard;
 use std::alloc::Global;
 use std::thread::Threads;
-use sweep::{Begun, NothingGathered, Progress, sweep, write_table};
+use sweep::{Begun, NothingKept, Progress, sweep, write_table};
 use sweep_plan::Plan;
 use sweep_until::{sweep_until, write_table_until};
 use toml::Value;
@@ -96,7 +96,7 @@ pub(crate) fn make_shard<S: Sink, P: Progress>(
             document,
             workers,
             progress,
-            &mut NothingGathered,
+            &mut NothingKept,
             table,
         ),
     }

@@ -37,7 +37,7 @@ others_at swept_keys key keys place = option_map_or (λ chosen. others_words (wi
 unfoldable pub sample : ℕ → List ℕ
 sample line = codes "<li><svg class=\"sample\" viewBox=\"0 0 20 10\" aria-hidden=\"true\"><path class=\"path s" ++ decimal line ++ codes "\" d=\"M0 5H20\"/></svg><code>"
 
--- it tells the values of the other keys, which all settings of its line have
+-- it shows the values of the other keys, which all settings of its line have
 unfoldable pub legend_entry : List KeyValues → KeyLines → ℕ → ℕ → List ℕ
 legend_entry swept_keys k key line = sample line ++ others_at swept_keys key k.keys (setting_place k line 0) ++ markup (codes "</code></li>")
 
@@ -79,11 +79,11 @@ greatest_of settings k s line = fold (λ most value. max most (greatest_over set
 unfoldable pub greatest_of_all : List SettingSummary → KeyLines → Statistic → ℕ
 greatest_of_all settings k s = fold (λ most line. max most (greatest_of settings k s line)) 1 (range_with_len 0 k.lines)
 
--- room above a time, by which a bar to the top is told from one that ends at this time
+-- room above a time, by which a bar to the top is distinguished from one that ends at this time
 abbrev pub with_room : ℕ → ℕ
 with_room time = time + time / 16 + 1
 
--- how high a plot is; a time of more than a billion billions isn't told from that
+-- how high a plot is; a time of more than a billion billions isn't distinguished from that
 unfoldable pub plot_height : List SettingSummary → KeyLines → Statistic → ℕ
 plot_height settings k s = with_room (min (greatest_of_all settings k s) (10 ^ 18))
 

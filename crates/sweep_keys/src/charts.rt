@@ -114,7 +114,7 @@ fn push_lines(text: &mut String, plot: &Plot<'_>) -> Result<(), AllocError>
 }
 
 /// How high a plot is: the greatest time that it shows, and some room above it, so that a bar to
-/// the top is told from one to that time.
+/// the top can be distinguished from one to that time.
 #[tactic(auto, unfolding(crate::specs::Keys::plot_height))]
 fn plot_height(settings: &[SettingSummary], lines: &KeyLines, statistic: Statistic) -> u64
     ensures is { result ≡ plot_height settings.now lines.now statistic }

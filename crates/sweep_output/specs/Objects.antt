@@ -87,7 +87,7 @@ setting_object revived wants all best place chosen setting = object_line (member
 abbrev pub objects_text : Bool → List KeyValues → List Want → List SettingSummary → Option ℕ → List ℕ
 objects_text revived swept_keys wants settings best = lines_from (setting_object revived wants settings best) 0 (settings_of swept_keys) settings
 
--- the text has a line for each setting, and tells which of them is best
+-- the text has a line for each setting, and says which of them is best
 pub record TellsObjects (revived : Bool) (swept_keys : List KeyValues) (wants : List Want) (settings : List SettingSummary) (text : List ℕ) : Type 0 where
   pub best : Option ℕ
   pub chosen : IsBestOf wants settings best

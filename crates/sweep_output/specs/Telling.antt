@@ -1,4 +1,4 @@
--- How the settings of a sweep are told, and the page of them.
+-- How the settings of a sweep are printed, and the page of them.
 use Rattle.std.specs.Prelude.{◌≡◌, ℕ, Bool, List, Option, false, true, map}
 use Rattle.sweep_plan.specs.Sweep.{Sweep}
 use Rattle.goals.specs.Answers.{AddsAnswer}
@@ -11,7 +11,7 @@ use Rattle.sweep.specs.Texts.{settings_text}
 use Rattle.sweep_page.specs.Page.{page_text}
 use Rattle.ticks.specs.declared.tick.Tick.{Tick}
 
--- how settings are told: as JSON, an object a line, or in aligned columns, with what they answer; and whether members that were taken for alive again are told of
+-- how settings are printed: as JSON, an object a line, or in aligned columns, with what they answer; and whether recoveries are printed
 abbrev pub TellsSettings : Bool → Bool → Sweep → List Want → List SettingSummary → List ℕ → Type 0
 TellsSettings true revived plan wants settings text = TellsObjects revived plan.swept_keys wants settings text
 TellsSettings false revived plan wants settings text = AddsAnswer plan.swept_keys wants settings (settings_text revived plan settings) text

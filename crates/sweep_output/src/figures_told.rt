@@ -8,7 +8,7 @@ use base::Memory;
 use figures::SettingSummary;
 use std::alloc::Global;
 
-/// Adds the figures of a setting, each with the name of its column; how often members were taken for alive again where that is told.
+/// Adds the figures of a setting, each with the name of its column; how often members were taken for alive again where that is printed.
 pub(crate) fn push_figures(
     alloc: Global,
     members: &mut Vec<String>,
@@ -42,7 +42,7 @@ fn push_first(
     push_number(alloc, members, "thrown_out", setting.thrown_out)
 }
 
-/// Adds how often members were taken for alive again, where that is told.
+/// Adds how often members were taken for alive again, where that is printed.
 fn push_revived(
     alloc: Global,
     members: &mut Vec<String>,

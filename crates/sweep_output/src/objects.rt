@@ -19,7 +19,7 @@ use sweep_plan::{Choice, Plan};
 /// The settings of a sweep as JSON objects, each on a line of its own that ends in a line feed. An object has first the keys that
 /// are set, by their names, with numbers or `true` and `false`; then the figures of its setting, by the names of the columns of its
 /// line: times in ticks, shares in percent, rates with two digits behind the point, `null` where the line has a dash, and
-/// `revived` where that is told. Then come `front`, whether no other setting beats it, and, where something is wanted,
+/// `revived` where recoveries are printed. Then come `front`, whether no other setting beats it, and, where something is wanted,
 /// `meets`, which is `"yes"` where the setting shows that it meets all, `"may"` where it may and `"no"` else, and `best`, whether
 /// it is the first that is best. There must be a summary for each setting, in their order.
 pub fn setting_objects(

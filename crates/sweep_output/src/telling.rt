@@ -12,8 +12,8 @@ use std::alloc::Global;
 use sweep::lines_of_settings;
 use sweep_plan::Plan;
 
-/// What is told of the settings of a sweep: as JSON, an object a line, where `jsonl` asks for that; else in aligned columns,
-/// with what they answer to what is wanted. `revived` is whether they tell of members that were taken for alive again. There
+/// What is printed of the settings of a sweep: as JSON, an object a line, where `jsonl` asks for that; else in aligned columns,
+/// with what they answer to what is wanted. `revived` is whether recoveries are printed. There
 /// must be a summary for each setting, in their order.
 pub fn settings_printed(
     alloc: Global,

@@ -5,7 +5,7 @@ use goals::Want;
 use std::test::Fail;
 use sweep_plan::Plan;
 
-/// Three runs, of which members were thrown out in two; not all crashes were confirmed.
+/// Three runs, two of them with a false death; not all crashes were confirmed.
 const THREE_RUNS: SettingSummary = SettingSummary {
     runs: 3,
     crashes: 6,

@@ -171,7 +171,7 @@ rest_cmp a b =
 abbrev pub point_cmp : FrontPoint → FrontPoint → Ordering
 point_cmp a b = ordering_then (nat_cmp a.across b.across) (ordering_then (nat_cmp a.place b.place) (rest_cmp a b))
 
--- settings that are told apart by their places, sorted
+-- settings that are distinguished by their places, sorted
 pub sorted_by_speed : (P : FrontPoint → Type 0) → ((p q : FrontPoint) → P p → P q → p.place ≡ q.place → p ≡ q) → (xs ys : List FrontPoint) → AllByRecursion P xs → IsPermutation xs ys
     → IsSorted point_cmp ys → ys ≡ by_speed xs
 sorted_by_speed P same xs ys all moved sorted =

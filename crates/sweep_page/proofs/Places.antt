@@ -1,4 +1,4 @@
--- The settings on the front are told apart by their places.
+-- The settings on the front are distinguished by their places.
 use Rattle.std.proofs.Common.{◌≡◌, ℕ, Bool, true, false, List, [], ◌∷◌, ◌++◌, Option, Some, None, refl, ap, sym, ◌∙◌, subst}
 use Rattle.std.specs.Prelude.{if◌then◌else◌, length, option_map, option_to_list, slice_get}
 use Rattle.std.specs.List.{AllByRecursion, flat_map, range_with_len}

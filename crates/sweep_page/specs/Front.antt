@@ -109,7 +109,7 @@ shares_up up = markup (codes "<div class=\"up\" aria-hidden=\"true\">") ++ at_ti
 unfoldable pub unit_words : Bool → List ℕ
 unit_words crashed = if crashed then codes "ticks until a crash is first confirmed, median" else codes "messages per member per 100,000 ticks"
 
--- what a screen reader tells of the plot
+-- what a screen reader says of the plot
 unfoldable pub plane_words : Bool → List ℕ
 plane_words crashed =
     if crashed then codes "Across: the median time until a crash is first confirmed. Up: the share of runs with a false death. The table beneath has the settings on the front."

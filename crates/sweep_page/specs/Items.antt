@@ -7,8 +7,8 @@ use Rattle.figures.specs.declared.summary.SettingSummary.{SettingSummary}
 use Rattle.sweep_cells.specs.Words.{hundredths_words, hundredths_interval_words, interval_words, number_words, rate_words, runs_words, swept_keys_at, thousandths, lasting_words, time_words}
 use Rattle.ticks.specs.declared.tick.Tick.{Tick}
 
--- which of three a setting is, by the 95 % interval of its share of runs with a false death, as its ends are told: safe where the whole interval is at most 5 %,
--- unsafe where all of it is above, and unknown else
+-- which of three a setting is, by the 95 % interval of its share of runs with a false death, with its ends as they are printed:
+-- safe where the whole interval is at most 5 %, unsafe where all of it is above, and unknown else
 unfoldable pub safety : SettingSummary → List ℕ
 safety setting = if nat_le (thousandths setting.share_high) 50 then codes "safe" else (if nat_lt 50 (thousandths setting.share_low) then codes "unsafe" else codes "unknown")
 

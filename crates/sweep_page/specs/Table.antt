@@ -21,7 +21,7 @@ unfoldable pub death_cells : SettingSummary → List ℕ
 death_cells setting =
     markup (codes "<td>") ++ hundredths_words setting.deaths ++ markup (codes "</td><td>") ++ hundredths_interval_words setting.deaths_low setting.deaths_high ++ markup (codes "</td>")
 
--- the cells that tell how often it threw out healthy members
+-- the cells that show how often it has false deaths
 unfoldable pub share_cells : SettingSummary → List ℕ
 share_cells setting =
     markup (codes "<td>") ++ runs_words setting ++ markup (codes "</td><td>") ++ percent_words (share_of setting) ++ markup (codes "</td><td>")

@@ -296,7 +296,7 @@ fn plane_title(crashed: bool) -> &'static str
     }
 }
 
-/// What a screen reader tells of it.
+/// What a screen reader says of it.
 #[tactic(auto, unfolding(crate::specs::Front::plane_words))]
 fn plane_words(crashed: bool) -> &'static str
     ensures { result.now ≡ plane_words crashed }

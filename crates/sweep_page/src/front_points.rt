@@ -15,7 +15,7 @@ pub struct FrontPoint {
     pub across: u64,
     /// Its place among the settings.
     pub place: usize,
-    /// The share of its runs in which healthy members were thrown out, in thousandths.
+    /// The share of its runs with a false death, in thousandths.
     pub share: u64,
     /// The ends of the 95 % interval of that, in thousandths.
     pub low: u64,

@@ -14,7 +14,7 @@ use sweep_cells::push_count;
 use sweep_plan::Plan;
 use ticks::Tick;
 
-/// How many settings on the front are told of in words.
+/// How many settings on the front are described in words.
 const MOST_TOLD: usize = 12;
 
 /// Appends how large the sweep is, and its trade-off. `crashed` is whether a run of it has a crash.

@@ -372,7 +372,7 @@ fn push_costs(text: &mut String, setting: &SettingSummary) -> Result<(), AllocEr
     push_markup(text, "</td>")
 }
 
-/// Appends how often a setting threw out healthy members.
+/// Appends how often a setting has false deaths.
 #[tactic(auto, unfolding(crate::specs::Table::share_cells))]
 pub(crate) fn push_shares(text: &mut String, setting: &SettingSummary) -> Result<(), AllocError>
     ensures { OnOk result (string_bytes text.new ≡ string_bytes text.old ++ share_cells setting.now) }

@@ -23,7 +23,7 @@ use sweep_plan::Plan;
 use sweep_times::push_times;
 use ticks::Tick;
 
-/// What is told beside the figures.
+/// What the page shows next to the figures.
 #[derive(Clone, Copy)]
 pub struct SweepShown<'a> {
     /// The name of the scenario.

@@ -1,4 +1,4 @@
--- The swept keys of a setting as they are told, one choice more at a time.
+-- The swept keys of a setting as they are printed, one choice more at a time.
 use Rattle.std.proofs.Common.{◌≡◌, ◌<◌, ◌+◌, ℕ, zero, suc, List, [], ◌∷◌, ◌++◌, map, length, get_or, take, min, sym, ap, ◌∙◌, arith}
 use Rattle.std.specs.List.{join_with_byte}
 use Rattle.std.proofs.lemmas.List.{length-map, length-take}

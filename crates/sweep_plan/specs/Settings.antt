@@ -25,7 +25,7 @@ settings_from place (s ∷ more) = flat_map (λ at. map (λ setting. choice_of s
 abbrev pub settings_of : List KeyValues → List (List Choice)
 settings_of swept_keys = settings_from 0 swept_keys
 
--- a choice is told as its key's name, an equals sign and its value
+-- a choice is printed as its key's name, an equals sign and its value
 abbrev pub choice_text : Choice → List ℕ
 choice_text c = key_name c.key ++ 61 ∷ value_text c.value
 

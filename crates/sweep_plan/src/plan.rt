@@ -101,7 +101,7 @@ impl Plan {
         self.seeds
     }
 
-    /// How many hundredths the 95 % interval of a setting's share of runs in which members were thrown out may be wide, where
+    /// How many hundredths the 95 % interval of a setting's share of runs with a false death may be wide, where
     /// each setting is to have only as many runs as make it so: 1 to 100.
     pub fn until(&self) -> Option<u64>
         ensures same { result ≡ self.now.until }

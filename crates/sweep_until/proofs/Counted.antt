@@ -1,4 +1,4 @@
--- In how many runs members were thrown out, one run more.
+-- How many runs have a false death, one run more.
 use Rattle.std.proofs.Common.{◌≡◌, ◌+◌, ◌==◌, ◌≤◌, ◌-◌, ◌^◌, ℕ, List, [], ◌∷◌, ◌++◌, cond, not, arith, append_assoc, subst, length, min}
 use Rattle.std.proofs.lemmas.List.Sums.{count_by-le-length, sum_by-append}
 use Rattle.figures.specs.Settings.{runs_with}

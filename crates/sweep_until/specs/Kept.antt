@@ -5,7 +5,7 @@ use Rattle.figures.specs.Kept.{AreFiguresOf, runs_kept}
 use Rattle.figures.specs.Notes.{Note}
 use Rattle.sweep_until.specs.declared.runs.SettingRuns.{SettingRuns}
 
--- their figures, and in how many of them members were thrown out
+-- their figures, and how many of them have a false death
 pub record AreKept (runs : List Note) (kept : SettingRuns) : Type 0 where
   pub figures : AreFiguresOf kept.figures runs
   pub with_thrown : kept.runs_with ≡ runs_with runs

@@ -15,7 +15,7 @@ use Rattle.sweep_until.specs.Widths.{is_narrow}
 use Rattle.sweep_until.specs.Kept.{AreKept}
 use Rattle.sweep_until.specs.declared.runs.SettingRuns.{SettingRuns}
 
--- the interval of the share of these runs in which members were thrown out is at most so many hundredths wide
+-- the interval of the share of these runs with a false death is at most so many hundredths wide
 abbrev pub is_narrow_of : ℕ → List Note → Bool
 is_narrow_of width runs = is_narrow width (runs_with runs) (length runs)
 

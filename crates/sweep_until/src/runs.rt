@@ -18,7 +18,7 @@ const MOST_RUNS: u64 = 1_000_000;
 pub struct SettingRuns {
     /// Their figures.
     figures: SettingFigures,
-    /// In how many of them members were thrown out.
+    /// How many of them have a false death.
     runs_with: u64,
 }
 
@@ -37,7 +37,7 @@ impl SettingRuns {
         }
     }
 
-    /// Whether the 95 % interval of the share of runs in which members were thrown out is at most so many hundredths wide.
+    /// Whether the 95 % interval of the share of runs with a false death is at most so many hundredths wide.
     pub fn is_narrow(&self, width: u64) -> bool
         requires { width ≤ 100 }
         ensures { (runs : List Note) → AreKept runs self.now → result ≡ is_narrow_of width runs }
@@ -73,7 +73,7 @@ impl Gather for SettingRuns {
     }
 }
 
-/// Whether members were thrown out in a run, as its number of such runs: that of a setting which has this run alone.
+/// Whether a run has a false death, as its number of such runs: that of a setting which has this run alone.
 fn runs_with(alloc: Global, note: &RunMetadata) -> Result<u64, Memory>
     ensures { IfOk result (λ n. n ≡ runs_with (note.now ∷ [])) }
 {

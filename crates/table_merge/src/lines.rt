@@ -12,7 +12,7 @@ ghost use Rattle.table_merge.specs.Tables.{starts_in};
 use crate::plans::count_of;
 use base::Memory;
 use std::alloc::Global;
-use sweep::{LineKey, NothingGathered, are_lines_of};
+use sweep::{LineKey, NothingKept, are_lines_of};
 use sweep_plan::{Plan, Seeds};
 use table_rows::{LineFault, read_line};
 
@@ -55,7 +55,7 @@ fn starts_of<'a>(alloc: Global, text: &'a str, count: usize) -> Result<Vec<&'a s
     let mut left = text;
     for _line in 0..count {
         push(&mut starts, left)?;
-        left = read_line(alloc, left, &mut NothingGathered)?;
+        left = read_line(alloc, left, &mut NothingKept)?;
     }
     if left.is_empty() {
         return Ok(starts);

@@ -1,4 +1,4 @@
--- Of which run a gate is told.
+-- Of which run a gate gets the windows.
 use Rattle.std.specs.Prelude.{◌≡◌, ℕ, Option, Some}
 use Rattle.scenario.specs.Setup.{Setup}
 use Rattle.scenario.specs.Division.{Deal}
@@ -11,6 +11,6 @@ pub record OneRun : Type 0 where
 abbrev pub one_run : Setup → Deal → OneRun
 one_run s deal = record { setup = s; deal = deal }
 
--- a gate is told of that run, and of nothing else
+-- a gate gets windows of that run, and of nothing else
 abbrev pub IsToldOfOne : Option OneRun → ℕ → ℕ → ℕ → Type 0
 IsToldOfOne given window part bound = (run : OneRun) × (given ≡ Some run) × IsToldOf run.setup run.deal window part bound

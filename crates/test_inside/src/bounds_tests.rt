@@ -72,12 +72,12 @@ const WALKS: [[u64; 3]; 3] = [[110, 10, 20], [100, 110, 10], [100, 100, 110]];
 /// A gate that keeps how far the windows of three parts go in the first rounds.
 #[derive(Drop)]
 struct Bounds {
-    /// By round and part; 0 where none was told.
+    /// By round and part; 0 where none has come.
     told: Vec<AtomicU64>,
 }
 
 impl Bounds {
-    /// Nothing was told.
+    /// None has come yet.
     fn new(alloc: Global) -> Result<Self, Memory> {
         let mut told = Vec::new(alloc);
         for _ in 0..9 {
@@ -98,7 +98,7 @@ impl Bounds {
         self.told.get(place)
     }
 
-    /// How far the part's window went in the round: 0 where none was told.
+    /// How far the part's window went in the round: 0 where none has come.
     fn bound(&self, round: u64, part: usize) -> u64 {
         match self.cell(round.saturating_add(1), part) {
             Some(cell) => cell.load(Ordering::SeqCst),
@@ -136,7 +136,7 @@ fn by_members(rt: &(impl Abort + AllocGlobal), scenario: &Scenario) -> Result<Di
     divided(rt, scenario, 3, part_of)
 }
 
-/// Runs the chain by so many workers, told to the gate. The report is dropped.
+/// Runs the chain by so many workers, with the gate. The report is dropped.
 fn run_result(
     rt: &(impl Abort + AllocGlobal + Threads + Wait + Sync),
     gate: &Bounds,
@@ -227,7 +227,7 @@ fn windows_of_a_chain_go_to_bounds_of_their_own(rt: HostRuntime) -> Result<(), F
     Ok(())
 }
 
-/// Of which run a gate may be told. A type parameter of this kind stands for the scenario and the division that a call
+/// Of which run a gate may get the windows. A type parameter of this kind stands for the scenario and the division that a call
 /// picks.
 trait OfOne {
     ghost use Rattle.std.specs.Prelude.{Option};
@@ -242,7 +242,7 @@ impl OfOne for Brand {
     ghost run = { None };
 }
 
-/// A gate that may be told of the windows of one run alone, each below its part's own bound.
+/// A gate that may get the windows of one run alone, each below its part's own bound.
 #[derive(Drop)]
 struct Strict<K> {
     of: PhantomData<K>,
@@ -256,7 +256,7 @@ impl<K: OfOne + Sync> Gate for Strict<K> {
     fn enter(&self, _worker: usize, _window: u64, _part: usize, _bound: Moment) {}
 }
 
-/// Runs the scenario by three workers, told to such a gate.
+/// Runs the scenario by three workers, with such a gate.
 fn run_strictly<K: OfOne + Sync, R: Abort + AllocGlobal + Threads + Wait + Sync>(
     rt: &R,
     scenario: &Scenario,
@@ -274,7 +274,7 @@ fn run_strictly<K: OfOne + Sync, R: Abort + AllocGlobal + Threads + Wait + Sync>
     run_rings(rt, scenario, division, workers, &gate, trace, report)
 }
 
-/// The engine tells a gate of nothing else, or this would not be proved.
+/// The engine calls a gate with nothing else, or this would not be proved.
 #[test]
 fn a_gate_may_refuse_all_but_own_bounds(rt: HostRuntime) -> Result<(), Fail> {
     let scenario = chain(&rt);

@@ -64,7 +64,7 @@ fn the_gate_is_entered_before_the_part_is_run(rt: HostRuntime) -> Result<(), Fai
     Ok(())
 }
 
-/// One worker alone goes by windows of parts too, and tells of each, also of one that has nobody.
+/// One worker alone goes by windows of parts too, and calls the gate for each, also for one that has nobody.
 #[test]
 fn one_worker_tells_of_each_part(rt: HostRuntime) -> Result<(), Fail> {
     for parts in 2..=3 {

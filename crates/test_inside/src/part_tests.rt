@@ -131,7 +131,7 @@ fn window<Q: EventQueue<Event> + Drop>(
     }
 }
 
-/// What the window has written: moments, members, and what each row tells of.
+/// What the window has written: moments, members, and the kind of each row.
 pub(crate) fn assert_rows(rt: &impl Abort, rows: &[Row], wanted: &[(u64, u16, What)]) {
     assert!(rt; rows.len() == wanted.len());
     for (row, wanted) in rows.iter().zip(wanted) {

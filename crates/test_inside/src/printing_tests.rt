@@ -5,7 +5,7 @@ use files::testing::{Failing, MemoryWriter};
 use scenario::DivisionFault;
 use std::process::Abort;
 
-/// The lines that tell of a division's faults, and of a run's.
+/// The lines that report a division's faults, and a run's.
 const DIVISIONS: &[(DivisionFault, &str)] = &[
     (DivisionFault::Length, "swimsim: division V1\n"),
     (DivisionFault::PartNumber, "swimsim: division V2\n"),
@@ -19,7 +19,7 @@ const RUNS: &[(Fault, &str)] = &[
     (Fault::ThreadLost, "swimsim: run F4\n"),
 ];
 
-/// Asserts that a failure has this status, also where standard error takes nothing, and tells this line.
+/// Asserts that a failure has this status, also where standard error takes nothing, and prints this line.
 fn assert_told(rt: &(impl Abort + AllocGlobal), failure: &Failure, line: &str, status: u8) {
     let mut err = MemoryWriter::new(rt.alloc(), Failing::Never);
     assert!(rt; refuse(failure, &mut err) == status, "{line}");

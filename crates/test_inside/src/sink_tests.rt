@@ -3,10 +3,10 @@ use std::io;
 use std::io::Write;
 use trace::{Put, Sink, write_head};
 
-/// The header as it is told to users, with its line feed.
+/// The header as it is documented for users, with its line feed.
 const HEADER: &[u8; 48] = b"moment,member,from,number,what,about,value,lost\n";
 
-/// A writer that takes a few bytes a write, and whose flushes end as they are told.
+/// A writer that takes a few bytes a write, and whose flushes fail where `flush_fails` is set.
 #[derive(Drop)]
 struct Scripted {
     got: Vec<u8>,
@@ -40,7 +40,7 @@ impl Write for Scripted {
     }
 }
 
-/// What is written is taken in pieces, and a flush reaches the writer, whose failure is told and counted.
+/// What is written is taken in pieces, and a flush reaches the writer, whose failure is reported and counted.
 #[test]
 fn a_writer_is_written_and_flushed(rt: HostRuntime) {
     let mut sink = Put::new(obedient(&rt));

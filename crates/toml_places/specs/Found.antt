@@ -1,8 +1,8 @@
 -- What stands at a place, and where a path leads.
 use Rattle.std.specs.Prelude.{ℕ, List, [], ◌∷◌, Option, Some, None, slice_get, option_map, option_and_then}
 use Rattle.std.specs.HashMap.{get_by_text}
-use Rattle.toml_places.specs.declared.nodes.Content.{Content}
-use Rattle.toml_places.specs.declared.nodes.Content.TheVariants as content
+use Rattle.toml_places.specs.declared.nodes.NodeContent.{NodeContent}
+use Rattle.toml_places.specs.declared.nodes.NodeContent.TheVariants as content
 use Rattle.toml_places.specs.declared.places.Places.{Places}
 use Rattle.toml_places.specs.declared.places.Step.{Step}
 use Rattle.toml_places.specs.declared.places.Step.TheVariants.{Key, Item}
@@ -12,11 +12,11 @@ abbrev pub text_length : Places → ℕ
 text_length p = p.length
 
 -- what stands at a place, if there is one of this number
-abbrev pub content_at : Places → ℕ → Option Content
+abbrev pub content_at : Places → ℕ → Option NodeContent
 content_at p place = option_map (λ n. n.content) (slice_get p.nodes.items place)
 
 -- the place of the value of a key: only a table has keys
-abbrev pub value_of : List ℕ → Content → Option ℕ
+abbrev pub value_of : List ℕ → NodeContent → Option ℕ
 value_of key (content.Table keys) = get_by_text keys key
 value_of key (content.List items) = None
 value_of key (content.Whole n) = None
@@ -26,7 +26,7 @@ value_of key content.Float = None
 value_of key content.Datetime = None
 
 -- the place of the item of a number: only a list has items
-abbrev pub item_of : ℕ → Content → Option ℕ
+abbrev pub item_of : ℕ → NodeContent → Option ℕ
 item_of number (content.List items) = slice_get items.items number
 item_of number (content.Table keys) = None
 item_of number (content.Whole n) = None
@@ -36,7 +36,7 @@ item_of number content.Float = None
 item_of number content.Datetime = None
 
 -- where a step leads from what stands at a place
-abbrev pub step_of : Step → Content → Option ℕ
+abbrev pub step_of : Step → NodeContent → Option ℕ
 step_of (Key key) = value_of key.now
 step_of (Item number) = item_of number
 

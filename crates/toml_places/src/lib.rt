@@ -13,7 +13,7 @@ mod span;
 #[cfg(test)]
 mod tests;
 
-pub use nodes::Content;
+pub use nodes::NodeContent;
 pub use places::{Places, Step};
 pub use position::{Position, position_of};
 pub use reading::read;

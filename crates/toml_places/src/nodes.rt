@@ -6,7 +6,7 @@ use std::alloc::Global;
 
 /// What stands at a place.
 #[derive(Drop)]
-pub enum Content {
+pub enum NodeContent {
     /// A whole number.
     Whole(i64),
     /// A boolean.
@@ -32,7 +32,7 @@ pub(crate) struct Node {
     pub(crate) value: Span,
     /// Whether it is a table or a list that has a header.
     pub(crate) has_header: bool,
-    pub(crate) content: Content,
+    pub(crate) content: NodeContent,
 }
 
 /// The places so far, each known by its number.
@@ -50,7 +50,7 @@ impl Nodes {
             key: None,
             value: Span { start: 0, end: 0 },
             has_header: false,
-            content: Content::Table(IndexMap::new(alloc)),
+            content: NodeContent::Table(IndexMap::new(alloc)),
         })?;
         Ok(Nodes { alloc, list })
     }
@@ -59,7 +59,7 @@ impl Nodes {
     pub(crate) fn child(&self, table: usize, key: &str) -> Option<usize> {
         match self.list.get(table) {
             Some(node) => match &node.content {
-                Content::Table(keys) => keys.get(key).copied(),
+                NodeContent::Table(keys) => keys.get(key).copied(),
                 _ => None,
             },
             None => None,
@@ -69,7 +69,7 @@ impl Nodes {
     /// Whether a place is a list.
     pub(crate) fn is_list(&self, place: usize) -> bool {
         match self.list.get(place) {
-            Some(node) => matches!(node.content, Content::List(_)),
+            Some(node) => matches!(node.content, NodeContent::List(_)),
             None => false,
         }
     }
@@ -78,7 +78,7 @@ impl Nodes {
     pub(crate) fn latest(&self, place: usize) -> usize {
         match self.list.get(place) {
             Some(node) => match &node.content {
-                Content::List(items) => items.last().copied().unwrap_or(place),
+                NodeContent::List(items) => items.last().copied().unwrap_or(place),
                 _ => place,
             },
             None => place,
@@ -119,15 +119,15 @@ impl Nodes {
 }
 
 /// Makes a place the value of a key of a table, or the next item of a list.
-fn attach(content: &mut Content, key: Option<String>, place: usize) -> Result<(), Memory> {
+fn attach(content: &mut NodeContent, key: Option<String>, place: usize) -> Result<(), Memory> {
     match content {
-        Content::Table(keys) => match key {
+        NodeContent::Table(keys) => match key {
             Some(name) => {
                 keys.insert(name, place)?;
             }
             None => {}
         },
-        Content::List(items) => items.push(place)?,
+        NodeContent::List(items) => items.push(place)?,
         _ => {}
     }
     Ok(())

@@ -3,7 +3,7 @@ ghost use Rattle.std.specs.Prelude.{◌≡◌, option_copied, option_and_then};
 ghost use Rattle.toml_places.specs.Places.{IsWithin};
 ghost use Rattle.toml_places.specs.Found.{text_length, content_at, value_of, item_of, step_of, path_end};
 
-use crate::nodes::{Content, Node};
+use crate::nodes::{Node, NodeContent};
 use crate::span::Span;
 
 /// A step of a path: to the value of a key, or to the item of a number, counted from 0.
@@ -33,7 +33,7 @@ impl Places {
     }
 
     /// What stands at a place.
-    pub fn content(&self, place: usize) -> Option<&Content>
+    pub fn content(&self, place: usize) -> Option<&NodeContent>
         ensures { option_copied result ≡ content_at self.now place }
     {
         match self.nodes.get(place) {
@@ -47,7 +47,7 @@ impl Places {
         ensures { result ≡ option_and_then (value_of key.now) (content_at self.now table) }
     {
         match self.content(table) {
-            Some(Content::Table(keys)) => keys.get(key).copied(),
+            Some(NodeContent::Table(keys)) => keys.get(key).copied(),
             _ => None,
         }
     }
@@ -57,7 +57,7 @@ impl Places {
         ensures { result ≡ option_and_then (item_of number) (content_at self.now list) }
     {
         match self.content(list) {
-            Some(Content::List(items)) => items.get(number).copied(),
+            Some(NodeContent::List(items)) => items.get(number).copied(),
             _ => None,
         }
     }

@@ -3,7 +3,7 @@ ghost use Rattle.std.specs.Prelude.{◌≡◌, length, IfOk};
 ghost use Rattle.toml_places.specs.Found.{text_length};
 
 use crate::keys::{after, read_part};
-use crate::nodes::{Content, Node, Nodes};
+use crate::nodes::{Node, NodeContent, Nodes};
 use crate::places::Places;
 use crate::span::Span;
 use base::Memory;
@@ -134,7 +134,7 @@ impl Reader {
         let list = match self.nodes.child(leaf.table, leaf.name.as_str()) {
             Some(place) => place,
             None => {
-                let content = Content::List(Vec::new(self.alloc));
+                let content = NodeContent::List(Vec::new(self.alloc));
                 let node = Node {
                     key: Some(leaf.span),
                     value: header,
@@ -148,7 +148,7 @@ impl Reader {
             key: None,
             value: header,
             has_header: true,
-            content: Content::Table(IndexMap::new(self.alloc)),
+            content: NodeContent::Table(IndexMap::new(self.alloc)),
         };
         self.nodes.add(list, None, node)
     }
@@ -185,7 +185,7 @@ impl Reader {
                     key: Some(span),
                     value: span,
                     has_header: false,
-                    content: Content::Table(IndexMap::new(self.alloc)),
+                    content: NodeContent::Table(IndexMap::new(self.alloc)),
                 };
                 self.nodes.add(table, Some(name), node)
             }
@@ -212,8 +212,8 @@ impl Reader {
         s: &'t str,
     ) -> Result<Option<&'t str>, Memory> {
         let opened = match first(s) {
-            b'[' => Content::List(Vec::new(self.alloc)),
-            b'{' => Content::Table(IndexMap::new(self.alloc)),
+            b'[' => NodeContent::List(Vec::new(self.alloc)),
+            b'{' => NodeContent::Table(IndexMap::new(self.alloc)),
             _ => return self.plain_value(parent, name, key, s),
         };
         let next = after(s, 1);
@@ -252,7 +252,7 @@ impl Reader {
         key: Option<Span>,
         from: &str,
         to: &str,
-        content: Content,
+        content: NodeContent,
     ) -> Result<usize, Memory> {
         let node = Node {
             key,
@@ -267,7 +267,7 @@ impl Reader {
 /// A value that is neither a list nor a table, and what follows it.
 #[derive(Drop)]
 struct Plain<'t> {
-    content: Content,
+    content: NodeContent,
     rest: &'t str,
 }
 
@@ -278,7 +278,7 @@ fn read_string<'t>(alloc: Global, s: &'t str) -> Result<Option<Plain<'t>>, Memor
     }
     match quoted(alloc, s) {
         Ok((text, rest)) => Ok(Some(Plain {
-            content: Content::Text(text),
+            content: NodeContent::Text(text),
             rest,
         })),
         Err(ParseError::OutOfMemory) => Err(Memory),
@@ -299,11 +299,11 @@ fn read_scalar<'t>(alloc: Global, s: &'t str) -> Result<Option<Plain<'t>>, Memor
 }
 
 /// What a value without quotes is.
-fn content_of(scalar: Scalar) -> Content {
+fn content_of(scalar: Scalar) -> NodeContent {
     match scalar {
-        Scalar::Boolean(switch) => Content::Switch(switch),
-        Scalar::Integer(number) => Content::Whole(number),
-        Scalar::Float(_) => Content::Float,
-        Scalar::Datetime(_) => Content::Datetime,
+        Scalar::Boolean(switch) => NodeContent::Switch(switch),
+        Scalar::Integer(number) => NodeContent::Whole(number),
+        Scalar::Float(_) => NodeContent::Float,
+        Scalar::Datetime(_) => NodeContent::Datetime,
     }
 }

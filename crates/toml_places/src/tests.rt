@@ -1,5 +1,5 @@
 //! Where the keys and values of documents stand.
-use crate::{Content, Places, Position, Span, Step, position_of, read};
+use crate::{NodeContent, Places, Position, Span, Step, position_of, read};
 use std::process::Abort;
 
 /// Tables by headers, dotted and quoted keys, strings of several lines, lists and inline tables.
@@ -141,10 +141,10 @@ fn places_stand_where_they_are_written(rt: HostRuntime) {
 fn values_are_read(rt: HostRuntime) {
     let places = read(rt.alloc(), "a = -5\nb = \"x\\u0041\"").expect(&rt, "memory");
     let number = places.find(&[Step::Key("a")]).expect(&rt, "a");
-    assert!(rt; matches!(places.content(number), Some(Content::Whole(-5))));
+    assert!(rt; matches!(places.content(number), Some(NodeContent::Whole(-5))));
     let text = places.find(&[Step::Key("b")]).expect(&rt, "b");
     match places.content(text) {
-        Some(Content::Text(text)) => assert!(rt; text.as_str() == "xA"),
+        Some(NodeContent::Text(text)) => assert!(rt; text.as_str() == "xA"),
         _ => assert!(rt; false, "a text"),
     }
 }

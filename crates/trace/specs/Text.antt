@@ -11,7 +11,7 @@ use Rattle.trace.specs.declared.row.What.TheVariants as what
 unfoldable pub header : List ℕ
 header = codes "moment,member,from,number,what,about,value,lost\n"
 
--- the word of what a row tells of
+-- the word for what a row reports
 abbrev pub word_of : What → List ℕ
 word_of what.Start = codes "start"
 word_of what.Crash = codes "crash"
@@ -52,7 +52,7 @@ abbrev pub lost_text : Bool → List ℕ
 lost_text true = codes "1"
 lost_text false = codes "0"
 
--- what a line shows of a row: the event's moment, its handler's name, its maker's name and number, and what the row tells
+-- what a line shows of a row: the event's moment, its handler's name, its maker's name and number, and what the row reports
 abbrev pub fields_of : Setup → Row → List (List ℕ)
 fields_of s row =
     decimal row.at ∷ name_of s row.member ∷ name_of s row.from ∷ decimal row.number ∷ word_of row.what ∷ about_text s row.about ∷ decimal row.value ∷ lost_text row.lost ∷ []

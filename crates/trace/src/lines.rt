@@ -119,7 +119,7 @@ fn about_name(about: Option<MemberId>, scenario: &Scenario) -> &str
     }
 }
 
-/// The word of what a row tells of.
+/// The word for what a row reports.
 fn word_of(what: What) -> &'static str
     ensures value { result.now ≡ word_of what }
     ensures short { length result.now ≤ 9 }

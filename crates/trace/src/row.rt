@@ -5,7 +5,7 @@ ghost use Rattle.trace.specs.Text.{word_of};
 
 use base::{MemberId, Moment};
 
-/// What a row tells of.
+/// What a row reports.
 #[derive(Clone, Copy, Debug, PartialEq, Eq, PartialOrd, Ord, Hash)]
 pub enum What {
     /// The member starts.
@@ -24,7 +24,7 @@ pub enum What {
     PingReq,
     /// The answer to a probe.
     Ack,
-    /// A helper tells that its own probe was not answered in time (Lifeguard, LHA Probe).
+    /// A helper reports that its own probe was not answered in time (Lifeguard, LHA Probe).
     Nack,
     /// A probe failed at the end of its period.
     Fail,
@@ -44,7 +44,7 @@ pub enum What {
     Dead,
     /// The member leaves.
     Leave,
-    /// A member that leaves tells another.
+    /// A member that leaves announces that to another.
     Bye,
     /// Updates on their way by themselves (memberlist's rules, as what follows).
     Gossip,
@@ -52,9 +52,9 @@ pub enum What {
     Call,
     /// The answer to a call.
     Answer,
-    /// A member tells another all that it knows.
+    /// A member sends another all that it knows.
     Push,
-    /// And is told all that the other knows.
+    /// And receives all that the other knows.
     Pull,
     /// The member starts again.
     Restart,
@@ -107,7 +107,7 @@ impl What {
     }
 }
 
-/// A row of the trace: the key of the event in whose handling it arose, and what it tells. Rows are
+/// A row of the trace: the key of the event in whose handling it arose, and what it reports. Rows are
 /// ordered by their fields as they stand here, and no two rows of a run agree in the first five.
 #[derive(Clone, Copy, Debug, PartialEq, Eq, PartialOrd, Ord, Hash)]
 pub struct Row {
@@ -121,12 +121,12 @@ pub struct Row {
     pub number: u64,
     /// The place among the rows of the event, from 0. The text does not show it.
     pub index: u32,
-    /// What the row tells of.
+    /// What the row reports.
     pub what: What,
     /// The member that the row is about, where it is about one.
     pub about: Option<MemberId>,
-    /// A number whose meaning depends on `what`, as a sequence number or an incarnation.
-    pub value: u64,
     /// Whether what was sent was lost.
     pub lost: bool,
+    /// A number whose meaning depends on `what`, as a sequence number or an incarnation.
+    pub value: u64,
 }

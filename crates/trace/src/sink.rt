@@ -14,7 +14,7 @@ pub struct Stopped;
 /// What takes the bytes of a text, piece by piece. It counts its failures: a caller hands it in
 /// with fewer than 2^63 of them.
 pub trait Sink {
-    // the bytes that it holds, where it tells
+    // the bytes that it holds, where they are known
     ghost held: { Self → Option (List ℕ) };
 
     // how often it has failed
@@ -98,7 +98,7 @@ impl<W: Write> Put<W> {
 }
 
 impl<W: Write> Sink for Put<W> {
-    // what the writer tells
+    // the bytes that the writer holds, where they are known
     ghost held = { λ put. W.contents (writer_under put) };
 
     ghost failed = { put_failures };

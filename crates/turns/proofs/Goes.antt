@@ -257,7 +257,7 @@ module _ {Q : Type 0} (set : Q → FinMap key_cmp Event) (course : Course) (is :
           met = λ m t met. so_far.met m t (met_led set s is.sound deal bounded done is.divides may_turn windows m t met);
         }
 
-    -- a counter that a window wears out the run wears out
+    -- a counter that overflows in a window overflows in the run
     pub one_wears : OneWears set s bounded → CounterOverflows s
     one_wears one =
         let i = length one.before in

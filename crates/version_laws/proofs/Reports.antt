@@ -17,7 +17,7 @@ use Rattle.reports.proofs.Versions.{second_report}
 use Rattle.version_laws.specs.Versions.{in_version_2}
 use Rattle.version_laws.proofs.Runs.{by_version_1}
 
--- where no row tells of this, none counts
+-- where no row is of this kind, none counts
 none_counted : (kind : What) (rows : List Row) → All (λ (row : Row). row.what ≢ kind) rows → count_of kind rows ≡ 0
 none_counted kind [] none = refl
 none_counted kind (row ∷ rows) none =

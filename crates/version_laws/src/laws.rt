@@ -10,7 +10,7 @@ ghost use Rattle.member_laws.specs.Runs.{IsRunOf, CounterOverflows};
 ghost use Rattle.version_laws.specs.Versions.{in_version_2};
 
 /// A scenario of version 1 is one of version 2 too: it is as sound, and has the same run, so the same
-/// trace, and in its report the line that no bye was sent more. Its counters wear out where they did.
+/// trace, and in its report the line that no bye was sent more. Its counters overflow where they did.
 pub fn version_2_keeps_runs()
     ensures sound { (s : Setup) → IsSound s → s.version ≡ One → IsSound (in_version_2 s) }
     ensures runs { (s : Setup) (rows : List Row) → s.version ≡ One → IsRunOf s rows → IsRunOf (in_version_2 s) rows }

@@ -65,7 +65,7 @@ told_of_pause s k p =
     ++ told_if (is_down s p.member p.from) (warning.PauseWhileDown k)
     ++ told_if (is_pause_long s p) (warning.LongPause k)
 
--- what is told of the crashes of the first n members
+-- the warnings about the crashes of the first n members
 abbrev pub crashes_below : Setup → ℕ → List Warning
 crashes_below s n = flat_map (λ m. told_of_crash s m (crash_of s m)) (range_with_len 0 n)
 

@@ -11,7 +11,7 @@ use base::{MemberId, Memory};
 use meaning::item_at;
 use scenario::Scenario;
 
-/// Appends what is told of each member's crash.
+/// Appends the warnings about each member's crash.
 pub(crate) fn push_crashes(told: &mut Vec<Warning>, scenario: &Scenario) -> Result<(), Memory>
     ensures { OnOk result (told.new.items ≡ told.old.items ++ told_of_crashes scenario.now) }
 {
@@ -21,7 +21,7 @@ pub(crate) fn push_crashes(told: &mut Vec<Warning>, scenario: &Scenario) -> Resu
     Ok(())
 }
 
-/// Appends what is told of the crash of a member, if it crashes.
+/// Appends the warnings about the crash of a member, if it crashes.
 #[tactic(auto, unfolding(crate::specs::Told::told_of_crash))]
 fn push_crash(told: &mut Vec<Warning>, scenario: &Scenario, member: usize) -> Result<(), Memory>
     requires { member < member_count scenario.now }
@@ -39,7 +39,7 @@ fn push_crash(told: &mut Vec<Warning>, scenario: &Scenario, member: usize) -> Re
     )
 }
 
-/// Appends what is told of each leave.
+/// Appends the warnings about each leave.
 pub(crate) fn push_leaves(told: &mut Vec<Warning>, scenario: &Scenario) -> Result<(), Memory>
     ensures { OnOk result (told.new.items ≡ told.old.items ++ made_of_each (told_of_leave scenario.now) scenario.now.leaves) }
 {
@@ -49,7 +49,7 @@ pub(crate) fn push_leaves(told: &mut Vec<Warning>, scenario: &Scenario) -> Resul
     Ok(())
 }
 
-/// Appends what is told of the leave at this place.
+/// Appends the warnings about the leave at this place.
 #[tactic(auto, unfolding(crate::specs::Told::told_of_leave))]
 fn push_leave(told: &mut Vec<Warning>, scenario: &Scenario, place: usize) -> Result<(), Memory>
     ensures { OnOk result (told.new.items
@@ -65,7 +65,7 @@ fn push_leave(told: &mut Vec<Warning>, scenario: &Scenario, place: usize) -> Res
     )
 }
 
-/// Appends what is told of each cut.
+/// Appends the warnings about each cut.
 pub(crate) fn push_cuts(told: &mut Vec<Warning>, scenario: &Scenario) -> Result<(), Memory>
     ensures { OnOk result (told.new.items ≡ told.old.items ++ made_of_each (told_of_cut scenario.now) scenario.now.cuts) }
 {
@@ -75,7 +75,7 @@ pub(crate) fn push_cuts(told: &mut Vec<Warning>, scenario: &Scenario) -> Result<
     Ok(())
 }
 
-/// Appends what is told of the cut at this place.
+/// Appends the warnings about the cut at this place.
 #[tactic(auto, unfolding(crate::specs::Told::told_of_cut))]
 fn push_cut(told: &mut Vec<Warning>, scenario: &Scenario, place: usize) -> Result<(), Memory>
     ensures { OnOk result (told.new.items

@@ -13,7 +13,7 @@ use meaning::{groups_of, is_hidden, item_at, size_of};
 use scenario::{Path, Scenario};
 use std::alloc::Global;
 
-/// Appends what is told of each path.
+/// Appends the warnings about each path.
 pub(crate) fn push_paths(
     alloc: Global,
     told: &mut Vec<Warning>,
@@ -28,7 +28,7 @@ pub(crate) fn push_paths(
     Ok(())
 }
 
-/// Appends what is told of the path at this place.
+/// Appends the warnings about the path at this place.
 #[tactic(auto, unfolding(crate::specs::Told::told_of_path))]
 fn push_path(
     told: &mut Vec<Warning>,

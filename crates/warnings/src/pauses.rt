@@ -11,7 +11,7 @@ use base::Memory;
 use meaning::{item_at, least_suspicion};
 use scenario::{Pause, Scenario};
 
-/// Appends what is told of each pause.
+/// Appends the warnings about each pause.
 pub(crate) fn push_pauses(told: &mut Vec<Warning>, scenario: &Scenario) -> Result<(), Memory>
     ensures { OnOk result (told.new.items ≡ told.old.items ++ made_of_each (told_of_pause scenario.now) scenario.now.pauses) }
 {
@@ -21,7 +21,7 @@ pub(crate) fn push_pauses(told: &mut Vec<Warning>, scenario: &Scenario) -> Resul
     Ok(())
 }
 
-/// Appends what is told of the pause at this place.
+/// Appends the warnings about the pause at this place.
 #[tactic(auto, unfolding(crate::specs::Told::told_of_pause))]
 fn push_pause(told: &mut Vec<Warning>, scenario: &Scenario, place: usize) -> Result<(), Memory>
     ensures { OnOk result (told.new.items

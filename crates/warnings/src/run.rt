@@ -13,7 +13,7 @@ use crate::warning::Warning;
 use base::{MemberId, Memory, Profile};
 use scenario::{Path, Scenario};
 
-/// Appends what is told of the version's rules, and of the run as a whole.
+/// Appends the warnings about the version's rules, and about the run as a whole.
 #[tactic(auto, unfolding(crate::specs::Told::told_of_run))]
 pub(crate) fn push_run(
     told: &mut Vec<Warning>,

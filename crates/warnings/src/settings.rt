@@ -11,7 +11,7 @@ use base::Memory;
 use meaning::{least_suspicion, most_accusers, push_period};
 use scenario::{Lifeguard, Link, Scenario};
 
-/// Appends what is told of single settings.
+/// Appends the warnings about single settings.
 #[tactic(auto, unfolding(crate::specs::Told::told_of_settings))]
 pub(crate) fn push_settings(
     told: &mut Vec<Warning>,

@@ -11,7 +11,7 @@ use base::Memory;
 use meaning::item_at;
 use scenario::{Scenario, Slow};
 
-/// Appends what is told of each slow time.
+/// Appends the warnings about each slow time.
 pub(crate) fn push_slows(
     told: &mut Vec<Warning>,
     scenario: &Scenario,
@@ -26,7 +26,7 @@ pub(crate) fn push_slows(
     Ok(())
 }
 
-/// Appends what is told of the slow time at this place.
+/// Appends the warnings about the slow time at this place.
 #[tactic(auto, unfolding(crate::specs::Told::told_of_slow))]
 fn push_slow(
     told: &mut Vec<Warning>,

@@ -4,7 +4,7 @@ use base::{MemberId, Memory};
 use indexmap::IndexMap;
 use scenario::Scenario;
 use std::alloc::Global;
-use toml_places::{Content, Places, Span};
+use toml_places::{NodeContent, Places, Span};
 
 /// The items of the list of crashes, by their members' names.
 pub(crate) fn crash_items(
@@ -24,7 +24,7 @@ pub(crate) fn crash_items(
 fn items_of<'p>(places: &'p Places, list: &str) -> &'p [usize] {
     match places.child(Places::TOP, list) {
         Some(place) => match places.content(place) {
-            Some(Content::List(items)) => items.as_slice(),
+            Some(NodeContent::List(items)) => items.as_slice(),
             _ => &[],
         },
         None => &[],
@@ -35,7 +35,7 @@ fn items_of<'p>(places: &'p Places, list: &str) -> &'p [usize] {
 fn member_of(places: &Places, item: usize) -> Option<&str> {
     let place = places.child(item, "member")?;
     match places.content(place) {
-        Some(Content::Text(name)) => Some(name.as_str()),
+        Some(NodeContent::Text(name)) => Some(name.as_str()),
         _ => None,
     }
 }

@@ -24,7 +24,7 @@ use Rattle.member.specs.StateOf.{pair_of}
 use Rattle.windows.specs.Parts.{for_own, for_others}
 use Rattle.windows.specs.Handling.{Handles, made_of, members_after}
 
--- what follows from what a success tells
+-- what follows from what holds on success
 pub if_ok : {T E P Q : Type 0} (r : Result T E) → OnOk r P → (P → Q) → OnOk r Q
 if_ok (Ok _) p so = so p
 if_ok (Err _) p so = tt

@@ -90,7 +90,7 @@ is_least : (s : Setup) (d : Option ℕ) → IfSome d (IsDelayOfAPair (λ i j. (l
 is_least s None reached least alone = alone refl
 is_least s (Some d) reached least alone = (reached, least)
 
--- what the links tell of it
+-- what follows from the links for it
 pub least_of_links : (s : Setup) (d : Option ℕ) → IfSome d (IsDelayOfAPair (λ i j. (link_between s i j).delay) (member_count s))
     → IfSome d (IsNoGreater (λ i j. (link_between s i j).delay) (member_count s)) → (d ≡ None ↔ member_count s ≡ 1) → IsLeastDelay s d
 least_of_links s d reached least alone = is_least s d reached least alone.0

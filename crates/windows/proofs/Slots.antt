@@ -1,12 +1,15 @@
 -- The members of a part at their places as the map of their states.
-use Rattle.std.proofs.Common.{◌≡◌, ℕ, zero, suc, ◌+◌, ◌<◌, ◌≤◌, Bool, true, false, cond, eqb, nat_lt, List, [], ◌∷◌, ◌++◌, length, Option, Some, None, slice_set, ap, ◌∙◌, sym, subst, refl, arith}
+use Rattle.std.proofs.Common.{◌≡◌, ℕ, zero, suc, ◌+◌, ◌<◌, ◌≤◌, Bool, true, false, cond, eqb, nat_lt, List, [], ◌∷◌, ◌++◌, length, Option, Some, None, Ok, Err, Result, slice_set, ap, ◌∙◌, sym, subst, refl, arith}
 use Rattle.std.specs.Option.{is_some, option_map}
-use Rattle.std.specs.List.{slice_get, slice_index_or}
+use Rattle.std.specs.Result.{is_ok}
+use Rattle.std.specs.Bool.{if◌then◌else◌}
+use Rattle.std.specs.List.{slice_get, slice_index_or, list_all}
 use Rattle.std.specs.Ordering.{nat_cmp, eq_by_cmp}
 use Rattle.std.specs.Cmp.{nat_cmp_total, unsigned_tied}
 use Rattle.std.specs.FinMap.{FinMap, nat_cmp-IsAntisymmetric, from_entries, get, contains_key, insert, empty, find, get-from_entries, get-insert, get-empty, same_map}
-use Rattle.std.proofs.lemmas.Bool.{false≢true, eqb-true, eqb-false, eq-eqb, ltb-true}
-use Rattle.std.proofs.lemmas.List.{get_or-set_same, get_or-set_other, set-get_or}
+use Rattle.std.proofs.lemmas.Bool.{false≢true, eqb-true, eqb-false, eq-eqb, ltb-true, and_parts, and_from}
+use Rattle.std.proofs.lemmas.List.{get_or-set_same, get_or-set_other, set-get_or, length_push}
+use Rattle.std.proofs.lemmas.List.Folds.{list_all-append}
 use Rattle.std.proofs.lemmas.Option.{same_Some, get_or_from_slice_get}
 use Rattle.member.specs.declared.member.Member.{Member}
 use Rattle.member.specs.State.{State}
@@ -91,6 +94,18 @@ one_more_place [] a = refl
 one_more_place (None ∷ slots) a = one_more_place slots (a + 1)
 one_more_place (Some x ∷ slots) a = ap (λ l. (a, state_of x) ∷ l) (one_more_place slots (a + 1))
 
+one_at_end : (slots : List (Option Member)) (i : ℕ) (x : Member) → i ≡ length slots → slice_set (slots ++ None ∷ []) i (Some x) ≡ slots ++ Some x ∷ []
+one_at_end [] zero x is = refl
+one_at_end [] (suc i) x is = absurd (omega arith)
+one_at_end (o ∷ slots) zero x is = absurd (omega arith)
+one_at_end (o ∷ slots) (suc i) x is = ap (λ l. o ∷ l) (one_at_end slots i x (omega arith))
+
+-- to put a member behind all places is to insert its state there
+pub put_last : (slots : List (Option Member)) (i : ℕ) (x : Member) → i ≡ length slots → by_place (slots ++ Some x ∷ []) ≡ insert (by_place slots) i (state_of x)
+put_last slots i x is =
+    let longer = length_push slots None in
+    ap by_place (sym (one_at_end slots i x is)) ∙ put_at (slots ++ None ∷ []) i x (omega arith) ∙ ap (λ m. insert m i (state_of x)) (ap from_entries (one_more_place slots 0))
+
 past : (slots : List (Option Member)) (q : ℕ) → length slots ≤ q → slot_at slots q ≡ None
 past [] zero over = refl
 past [] (suc q) over = refl
@@ -121,6 +136,31 @@ not_less i n over = by_test (nat_lt i n) refl
     by_test : (b : Bool) → nat_lt i n ≡ b → b ≡ false
     by_test true h = let low = ltb-true i n h in absurd (omega arith)
     by_test false h = refl
+
+-- ---- where each place has a member
+
+all_there : (slots : List (Option Member)) (i : ℕ) → list_all is_some slots ≡ true → i < length slots → is_some (slot_at slots i) ≡ true
+all_there [] i all within = absurd (omega arith)
+all_there (o ∷ slots) zero all within = (and_parts (is_some o) (list_all is_some slots) all).0
+all_there (o ∷ slots) (suc i) all within = all_there slots i (and_parts (is_some o) (list_all is_some slots) all).1 (omega arith)
+
+pub has_each : (slots : List (Option Member)) (i : ℕ) → list_all is_some slots ≡ true → i < length slots → true ≡ contains_key (by_place slots) i
+has_each slots i all within = sym (is_there slots i ∙ all_there slots i all within)
+
+-- each place still has one when a member is written at one of them
+pub all_with : (slots : List (Option Member)) (i : ℕ) (x : Member) → list_all is_some slots ≡ true → list_all is_some (slice_set slots i (Some x)) ≡ true
+all_with [] i x all = refl
+all_with (o ∷ slots) zero x all = (and_parts (is_some o) (list_all is_some slots) all).1
+all_with (o ∷ slots) (suc i) x all =
+    let both = and_parts (is_some o) (list_all is_some slots) all in and_from (is_some o) (list_all is_some (slice_set slots i (Some x))) both.0 (all_with slots i x both.1)
+
+all_with_last : (slots : List (Option Member)) (x : Member) → list_all is_some slots ≡ true → list_all is_some (slots ++ Some x ∷ []) ≡ true
+all_with_last slots x all = list_all-append is_some slots (Some x ∷ []) ∙ and_from (list_all is_some slots) true all refl
+
+-- and when one comes behind all of them, or is refused
+pub all_pushed : {A F : Type 0} (slots after : List (Option Member)) (x : Member) (result : Result A F) → after ≡ (if is_ok result then slots ++ Some x ∷ [] else slots) → list_all is_some slots ≡ true → list_all is_some after ≡ true
+all_pushed slots after x (Ok _) is all = ap (list_all is_some) is ∙ all_with_last slots x all
+all_pushed slots after x (Err _) is all = ap (list_all is_some) is ∙ all
 
 no_overflow_slot : (slot : Option Member) (t : State) → option_map state_of slot ≡ Some t → ¬ (IsOverflowed t)
 no_overflow_slot None t is = absurd (false≢true (ap is_some is))

@@ -30,7 +30,7 @@ module _ {Q : Type 0} (set : Q → FinMap key_cmp Event) where
   RanWindows s (b ∷ bs) (d ∷ ds) = RanWindow s b d × RanWindows s bs ds
   RanWindows s _ _ = ⊥
 
-  -- one of these parts wears a counter out within its window
+  -- a counter overflows in one of these parts within its window
   pub record OneWears (s : Setup) (parts : List (Bounded Q)) : Type 0 where
     pub before : List (Bounded Q)
     pub one : Bounded Q

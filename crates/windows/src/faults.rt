@@ -4,7 +4,7 @@ ghost use Rattle.std.specs.Prelude.{◌≡◌, ◌≢◌, ◌⊎◌, Ok, IfOk, I
 use base::Fault;
 use member::StepError;
 
-/// What came of steps, their error as the fault of a run: a worn counter is told as that, and want of memory as that.
+/// What came of steps, their error as the fault of a run: a counter overflow is reported as that, and want of memory as that.
 pub fn with_run_fault<T: Drop>(came: Result<T, StepError>) -> Result<T, Fault>
     ensures ok { IfOk result (λ value. came ≡ Ok value) }
     ensures overflow { IsErrOf result Fault.CounterOverflow → IsErrOf came StepError.CounterOverflow }

@@ -1,12 +1,12 @@
 //! A part's own members, stored by member number, so that an event finds its receiver without a search.
-ghost use Rattle.std.specs.Prelude.{◌≡◌, ◌<◌, Some, OnOk, IsErrOf, vec_len};
+ghost use Rattle.std.specs.Prelude.{◌≡◌, ◌<◌, true, Some, OnOk, IsErrOf, vec_len};
+ghost use Rattle.std.specs.Option.{is_some};
+ghost use Rattle.std.specs.List.{list_all};
 ghost use Rattle.std.specs.FinMap.{get, contains_key, insert, empty};
 ghost use Rattle.scenario.specs.Setup.{member_count};
 ghost use Rattle.member.specs.Here.{IsSoundSetting, HoldsMembers, MentionsMembers};
 ghost use Rattle.member.specs.State.{State};
 ghost use Rattle.member.specs.StateOf.{state_of};
-ghost use Rattle.windows.specs.WorldOf.{states_in};
-ghost use Rattle.windows.specs.Handling.{Handles, OverflowsReceiver};
 
 use crate::cluster::Cluster;
 use crate::steps::in_parts;
@@ -18,15 +18,22 @@ use std::alloc::Global;
 #[derive(Drop)]
 pub struct OwnMembers {
     slots: Vec<Option<Member>>,
+    /// Whether each slot has a member: then no receiver is looked at before its event comes.
+    is_full: bool,
+    ghost filled: { is_full ≡ true → list_all is_some slots.items ≡ true },
 }
 
 impl OwnMembers {
+    ghost use Rattle.windows.specs.WorldOf.{states_in};
+    ghost use Rattle.windows.specs.Handling.{Handles, OverflowsReceiver};
+
     /// Nobody. It takes no memory.
     pub(crate) fn new(alloc: Global) -> Self
         ensures { states_in result ≡ empty }
     {
         OwnMembers {
             slots: Vec::new(alloc),
+            is_full: true,
         }
     }
 
@@ -35,15 +42,30 @@ impl OwnMembers {
         ensures { result ≡ contains_key (states_in self.now) number.now }
     {
         let place = number.index();
-        place < self.slots.len() && self.slots[place].is_some()
+        place < self.slots.len() && self.has_at(place)
+    }
+
+    /// Whether a member stands at this place.
+    fn has_at(&self, place: usize) -> bool
+        requires { place < vec_len self.now.slots }
+        ensures { result ≡ contains_key (states_in self.now) place }
+    {
+        if self.is_full {
+            return true;
+        }
+        self.slots[place].is_some()
     }
 
     /// Takes in a member under its number.
     pub(crate) fn insert(&mut self, number: MemberId, member: Member) -> Result<(), Memory>
         ensures { OnOk result (states_in self.new ≡ insert (states_in self.old) number (state_of member)) }
     {
-        self.grow_to_member(number)?;
         let place = number.index();
+        if self.slots.len() == place {
+            self.slots.push(Some(member))?;
+            return Ok(());
+        }
+        self.grow_to_member(number)?;
         self.slots[place] = Some(member);
         Ok(())
     }
@@ -54,6 +76,7 @@ impl OwnMembers {
         ensures place { OnOk result (number < vec_len self.new.slots) }
     {
         while self.slots.len() <= number.index() {
+            self.is_full = false;
             self.slots.push(None)?;
         }
         Ok(())

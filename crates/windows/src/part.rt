@@ -137,12 +137,40 @@ impl<Q: EventQueue<Event> + Drop> Part<Q> {
         // Memory apart, only a counter that has no room refuses the window.
         ensures overflow { IsErrOf result StepError.CounterOverflow → OverflowsInWindow cluster.entry.scenario.now (min bound (cluster.entry.scenario.now.end + 1)) (world_of Q.set self) }
     {
+        self.run_in(alloc, bound, cluster, Vec::new(alloc))
+    }
+
+    /// The same. The rows go into this room, which has none yet: handed in again and again it grows once for many windows.
+    pub fn run_in(
+        self,
+        alloc: Global,
+        bound: Moment,
+        cluster: Cluster,
+        room: Vec<Row>,
+    ) -> Result<Done<Q>, StepError>
+        requires sound { IsSound cluster.scenario.now }
+        requires consistent { IsConsistentPart cluster.scenario.now (world_of Q.set self) }
+        requires no_rows { room.items ≡ [] }
+
+        // What went out, the rows and the part that is left are those of the part's window.
+        ensures ok { let before = world_of Q.set self in
+            IfOk result (λ done. RunsWindow cluster.entry.scenario.now (min bound (cluster.entry.scenario.now.end + 1)) before done.out.items done.rows.items (world_of Q.set done.part)) }
+        ensures number { IfOk result (λ done. done.part.number ≡ self.number) }
+        ensures consistent { IfOk result (λ done. IsConsistentPart cluster.entry.scenario.now (world_of Q.set done.part)) }
+        ensures among { IfOk result (λ done. All (λ (e : AnEvent). IsAmongMembers cluster.entry.scenario.now e.key e.content) done.out.items) }
+
+        // Each event that went out takes at least as long as the link of its pair.
+        ensures far { IfOk result (λ done. TakeTheirLinks cluster.entry.scenario.now (world_of Q.set self) done.out.items) }
+
+        // Memory apart, only a counter that has no room refuses the window.
+        ensures overflow { IsErrOf result StepError.CounterOverflow → OverflowsInWindow cluster.entry.scenario.now (min bound (cluster.entry.scenario.now.end + 1)) (world_of Q.set self) }
+    {
         let past_the_end = cluster.scenario.end().ticks() + 1;
         let setting = Setting {
             bound: Moment(bound.ticks().min(past_the_end)),
             cluster,
         };
-        run_from(alloc, self, &setting)
+        run_from(alloc, self, &setting, room)
     }
 }
 

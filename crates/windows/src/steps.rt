@@ -26,18 +26,21 @@ use crate::setting::Setting;
 use base::{Key, Memory};
 use member::{Effects, Event, StepError};
 use std::alloc::Global;
+use trace::Row;
 use worker_queue::EventQueue;
 
-/// Runs the window that begins in this part.
+/// Runs the window that begins in this part. Its rows go into this room, which has none yet.
 #[inline(always)]
 pub(crate) fn run_from<Q: EventQueue<Event> + Drop>(
     alloc: Global,
     mut part: Part<Q>,
     setting: &Setting,
+    room: Vec<Row>,
 ) -> Result<Done<Q>, StepError>
     requires sound { IsSound setting.now.cluster.scenario.now }
     requires in_time { setting.now.bound ≤ setting.now.cluster.scenario.now.end + 1 }
     requires consistent { IsConsistentPart setting.now.cluster.scenario.now (world_of Q.set part) }
+    requires no_rows { room.items ≡ [] }
     ensures ok { let before = world_of Q.set part in
         IfOk result (λ done. RunsWindow setting.now.cluster.scenario.now setting.now.bound before done.out.items done.rows.items (world_of Q.set done.part)) }
     ensures number { IfOk result (λ done. done.part.number ≡ part.number) }
@@ -46,7 +49,10 @@ pub(crate) fn run_from<Q: EventQueue<Event> + Drop>(
     ensures far { IfOk result (λ done. TakeTheirLinks setting.now.cluster.scenario.now (world_of Q.set part) done.out.items) }
     ensures overflow { IsErrOf result StepError.CounterOverflow → OverflowsInWindow setting.now.cluster.scenario.now setting.now.bound (world_of Q.set part) }
 {
-    let mut made = nothing(alloc);
+    let mut made = Effects {
+        events: Vec::new(alloc),
+        rows: room,
+    };
     let mut spare = nothing(alloc);
     while advance(alloc, &mut part, setting, &mut spare, &mut made)? {}
     let Effects { events: out, rows } = made;

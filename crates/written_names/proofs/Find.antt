@@ -90,7 +90,7 @@ apart_too : (a b : List ℕ) (r : Bool) → bytes_eq a b ≡ r → list_any dash
 apart_too a b true e some none = absurd (false≢true (sym none ∙ sym (ap (list_any dash) ((bytes_eq-Decides a b).0 e)) ∙ some))
 apart_too a b false e some none = refl
 
--- two names that are parted by their last dashes are the same where both parts are
+-- two names that are split at their last dashes are the same where both parts are
 same_parts : (pre tail name index : List ℕ) → list_any dash tail ≡ false → list_any dash index ≡ false
     → bytes_eq (pre ++ 45 ∷ tail) (name ++ 45 ∷ index) ≡ (bytes_eq pre name && bytes_eq tail index)
 same_parts [] tail [] index a b = refl
@@ -326,7 +326,7 @@ module _ (name pre tail : List ℕ) (parts : name ≡ pre ++ 45 ∷ tail) (plain
         list_any-append (bytes_eq name) (names_below group e.1.count) (names_of es)
         ∙ ap (λ c. c || list_any (bytes_eq name) (names_of es)) (other_group group e.1.count (omega (arith, numbered.1)) (sym (same e.0) ∙ here)) ∙ rest later
 
-    -- a group that has too few members, or is told no index, has no such member
+    -- a group has no such member where it has too few, or where the name gives no index
     pub none_found : (es : List Entry) (t : ℕ) (b : Block) → AreNumberedFrom t (map block es) → list_any bad (groups_of es) ≡ false → any_two bytes_eq (map (λ (g : Group). g.name) (groups_of es)) ≡ false
         → lookup test es ≡ Some b → ((i : ℕ) → i < b.count → bytes_eq tail (decimal i) ≡ false) → list_any (bytes_eq name) (names_of es) ≡ false
     none_found [] t b numbered fine differ found none = refl
@@ -334,7 +334,7 @@ module _ (name pre tail : List ℕ) (parts : name ≡ pre ++ 45 ∷ tail) (plain
         none_at e es t b (test e.0) numbered refl fine differ found none
         (λ later. none_found es (t + e.1.count) b numbered.2 (neither (bad (named_group e)) (list_any bad (groups_of es)) fine).1 (neither _ (any_two bytes_eq (map (λ (g : Group). g.name) (groups_of es))) differ).1 later none)
 
--- ---- what a name's parts tell
+-- ---- what a name's parts say
 
 -- takes the clause of `rsplit_once` at an ASCII character: the parts around its last place
 pub split_last : (c : ℕ) (bs : List ℕ) (r : Option (Bor (List ℕ) × Bor (List ℕ)))

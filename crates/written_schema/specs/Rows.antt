@@ -12,8 +12,8 @@ use Rattle.schema.specs.declared.schema.Kind.TheVariants as kind
 use Rattle.schema.specs.declared.schema.KeyRule.{KeyRule}
 use Rattle.schema.specs.declared.schema.Absence.TheVariants.{Default, Off, Optional}
 use Rattle.plain_document.specs.Keys.{kind_of}
-use Rattle.plain_document.specs.declared.keys.ValueKind.{ValueKind}
-use Rattle.plain_document.specs.declared.keys.ValueKind.TheVariants as value
+use Rattle.plain_document.specs.declared.keys.KeyKind.{KeyKind}
+use Rattle.plain_document.specs.declared.keys.KeyKind.TheVariants as value
 use Rattle.written_schema.specs.declared.rows.AddedKey.{AddedKey}
 use Rattle.written_schema.specs.declared.rows.AddedKey.TheVariants as added
 use Rattle.written_schema.specs.declared.rows.WrittenKey.{WrittenKey}
@@ -54,7 +54,7 @@ most_of key.Count most = 16384
 most_of key most = most
 
 -- a whole number that may be a length, or a share
-abbrev pub number_kind : ValueKind → (least most : ℕ) → WrittenKind
+abbrev pub number_kind : KeyKind → (least most : ℕ) → WrittenKind
 number_kind value.Ticks least most = Ticks least most
 number_kind value.Share least most = Share
 number_kind value.Plain least most = Whole least most

@@ -112,8 +112,33 @@ fn extra_of_last(times: &[SlowSpan], at: u64) -> u64
     if at < last.until { last.extra } else { 0 }
 }
 
-/// How many of the times have begun by the moment.
+/// How many of the times have begun by the moment. Where even the first is still to come, the others aren't looked at.
 fn begun_by(times: &[SlowSpan], at: u64) -> usize
+    requires { Rise times.now }
+    ensures few { result ≤ length times.now }
+    ensures begun { (i : ℕ) (d : ASpan) → i < result → (slice_index_or times.now i d).from ≤ at }
+    ensures later { (i : ℕ) (d : ASpan) → result ≤ i → i < length times.now → at < (slice_index_or times.now i d).from }
+{
+    if are_to_come(times, at) {
+        return 0;
+    }
+    count_begun(times, at)
+}
+
+/// Whether all of the times begin after the moment.
+fn are_to_come(times: &[SlowSpan], at: u64) -> bool
+    requires { Rise times.now }
+    ensures { OnTrue result ((i : ℕ) (d : ASpan) → i < length times.now → at < (slice_index_or times.now i d).from) }
+{
+    if times.is_empty() {
+        return true;
+    }
+    let first = times[0];
+    at < first.from
+}
+
+/// How many of the times have begun by the moment.
+fn count_begun(times: &[SlowSpan], at: u64) -> usize
     requires { Rise times.now }
     ensures few { result ≤ length times.now }
     ensures begun { (i : ℕ) (d : ASpan) → i < result → (slice_index_or times.now i d).from ≤ at }

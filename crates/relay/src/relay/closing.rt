@@ -4,13 +4,13 @@ ghost use Rattle.relay.specs.Lots.{has_last};
 ghost use Rattle.relay.specs.Seats.{sent_by, taken_by, IsSender, IsTaker};
 
 use super::{Relay, SendSeat, TakeSeat};
-use crate::item::ItemRule;
+use crate::item::BatchRule;
 use crate::roles::Both;
 use crate::rule::Left;
 
 /// Ends a relay, given both its seats: what was sent is what was received, and then what still lies in it. Where
 /// the last item was received, nothing lies there.
-pub fn close<T: Drop, L, G, S: ItemRule<T, L, G>>(
+pub fn close<T: Drop, L, G, S: BatchRule<T, L, G>>(
     relay: &Relay<T, L, G, S>,
     sender: SendSeat<T, L, G>,
     taker: TakeSeat<T, L, G>,

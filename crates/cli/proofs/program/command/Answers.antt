@@ -1,4 +1,4 @@
--- the status tells done from not done, and why
+-- the status says whether the command was done, and if not, why
 use Rattle.std.proofs.Common.{◌≡◌, ◌≢◌, ◌≤◌, ◌<◌, ◌⊎◌, ◌∙◌, ℕ, List, Option, Err, ap, sym, subst, refl, inl, inr, arith}
 use Rattle.clap.specs.Words.{Text}
 use Rattle.files.specs.Files.{Making}

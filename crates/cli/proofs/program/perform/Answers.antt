@@ -1,4 +1,4 @@
--- a run or a sweep that the words ask for, done and told or not done
+-- a command that the words ask for: done, with its result printed, or not
 use Rattle.std.proofs.lemmas.Result.{on_ok_weaker}
 use Rattle.cli.proofs.Commands.{asked_drive_done, asked_drive_failed, asked_undriven, asked_expand_done, asked_expand_fails, asked_expand_unprinted, asked_explain_done, asked_explain_failed, asked_init_done, asked_init_failed, asked_join_done, asked_join_fails, asked_join_unprinted, asked_page_done, asked_page_failed, asked_shard, asked_run_done, asked_run_fails, asked_run_unprinted, asked_run_untold, asked_sweep_done, asked_sweep_fails, asked_sweep_unprinted, asked_untold, asked_wants, is_command, joined_wants, on_done}
 use Rattle.scenario_files.proofs.Held.{handed_on}

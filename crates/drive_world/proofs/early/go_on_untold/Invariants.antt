@@ -5,7 +5,7 @@ use Rattle.drive_world.specs.Turns.{IsOnWay}
 use Rattle.drive_world.specs.UnderWay.{IsUnderWay}
 use Rattle.drive_world.proofs.early.go_on_untold.Given as goal
 
--- the drive is under way, as if the harness had been told some lines
+-- the drive is under way, as if the harness had been sent some lines
 abbrev pub invariant-loop-turn : goal.invariant-loop-turn
 invariant-loop-turn l = record {
   way : IsOnWay l.setting.scenario.now l.world;

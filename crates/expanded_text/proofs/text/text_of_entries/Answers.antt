@@ -5,7 +5,7 @@ use Rattle.scenario.specs.Setup.{names_in}
 use Rattle.plain_document.specs.Order.{sections_of}
 use Rattle.plain_text.specs.Document.{document_of, expression_of, IsPlainLine}
 use Rattle.plain_text.specs.Lines.{text_of}
-use Rattle.plain_text.specs.declared.line.Line.{Line}
+use Rattle.plain_text.specs.declared.line.PlainLine.{PlainLine}
 use Rattle.written_groups.specs.Groups.{IsExtraIn}
 use Rattle.written_groups.specs.Values.{items_at}
 use Rattle.written_names.specs.Roster.{group_of}
@@ -27,7 +27,7 @@ returns c =
       order = c.in_ok-order.ensures;
       plain = c.in_ok-made_lines.ensures;
       whole = c.in_ok-text.ensures.text ∙ ap text_of whole;
-      reads = λ plain. c.in_ok-text.ensures.read (subst (All IsPlainLine) (sym whole) plain) ∙ ap (λ (lines : List Line). document_of (map expression_of lines)) whole;
+      reads = λ plain. c.in_ok-text.ensures.read (subst (All IsPlainLine) (sym whole) plain) ∙ ap (λ (lines : List PlainLine). document_of (map expression_of lines)) whole;
     })
     c.requires.written.says c.requires.written.read
     (record {

@@ -1,4 +1,4 @@
--- what was told of the file, and printed
+-- the explanation of the file, which was printed
 use Rattle.std.proofs.Common.{string_bytes}
 use Rattle.scenario_files.proofs.Held.{handed_on}
 use Rattle.explain_command.proofs.Told.{meant, mistaken, unprinted, unread}

@@ -1,7 +1,7 @@
 use Rattle.std.proofs.Common.{◌<◌, ap, sym, subst, ◌∙◌, ◌++◌}
 use Rattle.std.specs.String.{string_bytes}
 use Rattle.scenario.specs.Setup.{member_count}
-use Rattle.series.specs.declared.lines.Line.{Line}
+use Rattle.series.specs.declared.lines.TraceLine.{TraceLine}
 use Rattle.series.specs.Accusers.{AreAccusers}
 use Rattle.series.specs.Deaths.{accusations}
 use Rattle.reports.proofs.Keeping.{on_ok}
@@ -12,7 +12,7 @@ pub push_words-requires-clause-subject : goal.push_words-requires-clause-subject
 push_words-requires-clause-subject c = of_some _ _ _ c.requires.is.subject c.requires.named.row.about
 
 pub push_words-requires-clause-by : goal.push_words-requires-clause-by
-push_words-requires-clause-by c = subst (λ (line : Line). line.member < member_count c.args.scenario.now) (sym c.requires.is.line) c.requires.named.row.member
+push_words-requires-clause-by c = subst (λ (line : TraceLine). line.member < member_count c.args.scenario.now) (sym c.requires.is.line) c.requires.named.row.member
 
 pub push_words-requires-clause-accusers : goal.push_words-requires-clause-accusers
 push_words-requires-clause-accusers c =

@@ -43,7 +43,7 @@ rounds_of-requires-clause-into g c =
     subst (λ ways. AreWaysInto c.args.scenario.now (part_number c.args.division.now) (way_at ways)) (sym c.deref.ensures.value)
     (c.in_ok-ways.ensures.into c.args.division.now c.requires.divides c.in_ok-parts.ensures.below (record { parts = c.in_ok-walks.ensures.parts; between = made.0; least = made.1; walks = made.2 }))
 
--- ---- what the gate is told
+-- ---- what the gate gets
 
 pub by_workers-requires-clause-windows : goal.by_workers-requires-clause-windows
 by_workers-requires-clause-windows g c _ _ =

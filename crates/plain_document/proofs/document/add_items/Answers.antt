@@ -1,6 +1,6 @@
 use Rattle.std.proofs.Common.{◌+◌, List, Vec, String, Global, ℕ, map, drop, string_bytes, subst}
 use Rattle.plain_text.specs.Document.{expression_of}
-use Rattle.plain_text.specs.declared.line.Line.{Line}
+use Rattle.plain_text.specs.declared.line.PlainLine.{PlainLine}
 use Rattle.toml.specs.View.{view}
 use Rattle.plain_document.specs.Document.{AddsItems}
 use Rattle.plain_document.specs.Order.{words}
@@ -27,7 +27,7 @@ loop-place-preserved c = λ after more.
           subst (λ (keys : List (String Global)). AddsItem c.args.tick name (view w.in-Some.item.now) (map string_bytes keys) before (map expression_of w.add_item.new.lines.items))
           w.as_slice.ensures.value w.in_ok-add_item.ensures in
           let rest : AddsItems c.args.tick name (map view (drop (place + 1) items)) (map keys_of (drop (place + 1) lists)) (map expression_of w.add_item.new.lines.items) after =
-          subst (λ (v : Vec Line Global). AddsItems c.args.tick name (map view (drop (place + 1) items)) (map keys_of (drop (place + 1) lists)) (map expression_of v.items) after)
+          subst (λ (v : Vec PlainLine Global). AddsItems c.args.tick name (map view (drop (place + 1) items)) (map keys_of (drop (place + 1) lists)) (map expression_of v.items) after)
           w.lines-is more in
           c.loop-place.invariant after
           (next_item view keys_of c.args.tick name items lists place w.in-Some.item.now own before (map expression_of w.add_item.new.lines.items) after it.0 c.loop-place-test.true
@@ -35,7 +35,7 @@ loop-place-preserved c = λ after more.
       | in_default w ↦
           let past = not_lent items place c.get.result w.in_default.is c.get.ensures.lookup in
           let rest : AddsItems c.args.tick name (map view (drop (place + 1) items)) (map keys_of (drop (place + 1) lists)) before after =
-          subst (λ (v : Vec Line Global). AddsItems c.args.tick name (map view (drop (place + 1) items)) (map keys_of (drop (place + 1) lists)) (map expression_of v.items) after)
+          subst (λ (v : Vec PlainLine Global). AddsItems c.args.tick name (map view (drop (place + 1) items)) (map keys_of (drop (place + 1) lists)) (map expression_of v.items) after)
           w.lines-is more in
           c.loop-place.invariant after (past_items view keys_of c.args.tick name items lists place before after past rest)
     ]

@@ -21,7 +21,7 @@ invariant_of-self-2 c = record {
       (rw c.unwrap.ensures refl) (omega (arith, c.below-place.ensures.within, c.len.ensures, c.reserve.ensures.len)) (grind (arith, nat_tests, c.mark_with-self-inside.ensures))
       (c.see_numbers.ensures 0 0 (omega arith))
       (ap (λ (order : ProbeOrder). times_in order.members c.args.member) c.self.view_is ∙ c.requires);
-  ahead = rw c.deref.ensures.value at c.member_at-self-inside.ensures;
+  ahead = rw c.deref.ensures.value at c.sixteen_from-self-inside.ensures;
 }
 
 pub returns-clause-sound : goal.returns-clause-sound

@@ -1,9 +1,10 @@
-use Rattle.std.proofs.Common.{◌≡◌, ◌<◌, length, slice_get, Some, arith}
+use Rattle.std.proofs.Common.{◌<◌, length, refl, arith}
 use Rattle.std.specs.List.Sorted.{IsPermutation}
 use Rattle.std.proofs.lemmas.List.{with_items_is}
 use Rattle.std.proofs.lemmas.List.Sorted.{length_permutation}
 use Rattle.std.proofs.lemmas.Bool.Decides.{nat_tests}
 use Rattle.streams.specs.Draw.{words_of}
+use Rattle.probing.specs.Ahead.{AreAhead}
 use Rattle.probing.proofs.CallLemmas.{IsReady, ready_after_shuffle, ready_within, next_from_ready}
 use Rattle.probing.proofs.Rota.next.Goals as goal
 use Rattle.probing.proofs.Rota.next.Goals.{then-self-len, else-self-len}
@@ -16,7 +17,7 @@ some_members c = grind (arith, nat_tests, c.if-is_empty.ensures)
 ready_here : (c : goal.After-self-3-1)
     → IsReady (words_of c.args.stream.now) (record { members = c.self.inside.members.items; mark = c.self.inside.mark })
     (words_of c.if-self-len.stream) c.if-self-len.self-inside.members.items c.if-self-len.self-inside.mark
-    × (slice_get c.if-self-len.self-inside.members.items c.if-self-len.self-inside.mark ≡ Some c.if-self-len.self-inside.ahead)
+    × AreAhead c.if-self-len.self-inside.members.items c.if-self-len.self-inside.mark c.if-self-len.self-inside.ahead
 ready_here c =
     elim c.if-self-len.branch [
       | then-self-len w ↦
@@ -27,10 +28,10 @@ ready_here c =
           (omega (arith, w.if-self-len.true, c.len.ensures)) same
           (rw w.deref_mut.ensures.value at w.shuffle.ensures.drawn)
           (with_items_is c.self.inside.members w.shuffle.new.items (omega (arith, length_kept, w.deref_mut.ensures.len))) in
-          rw (w.self-inside-is, w.stream-is) (ready, (rw w.deref.ensures.value at w.member_at-self-inside.ensures) ready.within)
+          rw (w.self-inside-is, w.stream-is) (ready, rw w.deref.ensures.value at w.sixteen_from-self-inside.ensures)
       | else-self-len w ↦
           let ready = ready_within _ _ _ c.self.invariant.sound (λ end. w.if-self-len.false (omega (arith, end, c.len.ensures))) in
-          rw (w.self-inside-is, w.stream-is) (ready, c.self.invariant.ahead ready.within)
+          rw (w.self-inside-is, w.stream-is) (ready, c.self.invariant.ahead)
     ]
 
 pub invariant_of-self : goal.invariant_of-self
@@ -38,12 +39,12 @@ invariant_of-self c =
     let ready = (ready_here c).0 in
     record {
       sound = record { listed = ready.listed; within = omega (arith, ready.within) };
-      ahead = rw c.deref-2.ensures.value at c.member_at-self-inside-2.ensures;
+      ahead = (rw c.deref-2.ensures.value at c.sixteen_at-self-inside.ensures) _ refl (ready_here c).1;
     }
 
 pub returns-clause-drawn : goal.returns-clause-drawn
 returns-clause-drawn c =
-    rw (← c.self.view_is) (next_from_ready _ _ _ _ _ _ (some_members c) (ready_here c).0 (ready_here c).1)
+    rw (← c.self.view_is) (next_from_ready _ _ _ _ _ _ (some_members c) (ready_here c).0 ((ready_here c).1 _ _ (omega arith) refl (ready_here c).0.within))
 
 pub returns-clause-sound : goal.returns-clause-sound
 returns-clause-sound c = (invariant_of-self c).sound

@@ -27,6 +27,7 @@ loop-from-init g c =
       come = subst (HasComeTo s 0 world) (sym c.new-tallies.ensures) (at_opening s c.requires.sound world c.requires.opened);
       written = λ first wrote. subst (λ rows. HasWritten {T = Unit {0}} s rows first (g.T.RowSink.held c.args.place.now) rows (Ok (tt {0}))) (sym c.new-tallies.ensures) wrote;
       gathered = subst (g.T.RowSink.gathered c.args.place.now s) (sym c.new-tallies.ensures) c.requires.none_gathered;
+      empty = c.new-room.ensures.items;
       few = subst (λ l. length l ≤ 2 ^ 63) (sym c.new-tallies.ensures) (omega arith);
       unfailed = refl;
     }
@@ -108,6 +109,7 @@ loop-from-preserved g c =
           subst (λ l. HasWritten {T = Unit {0}} s l first (g.T.RowSink.held c.take.new.place) c.take.new.tallies (Ok (tt {0}))) (sym same)
           (written_on s before rows _ _ _ before c.take.new.tallies _ (c.loop-from.invariant.written first wrote) c.in_ok-take.ensures.whole same c.in_ok-take.ensures.part c.in_ok-take.ensures.lasts c.in_ok-take.ensures.overflow);
       gathered = c.in_ok-take.ensures.gathered;
+      empty = c.clear.ensures.items;
       few = c.in_ok-take.ensures.lasts;
       unfailed = omega (arith, none, so_far);
     }

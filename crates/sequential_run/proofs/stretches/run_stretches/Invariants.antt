@@ -12,6 +12,7 @@ invariant-loop-from g l = record {
   written : (first : Option (List ℕ)) → HasWritten {T = Unit {0}} l.cluster.scenario.now [] first (g.T.RowSink.held l.fn.place) [] (Ok (tt {0}))
       → HasWritten {T = Unit {0}} l.cluster.scenario.now l.tallies first (g.T.RowSink.held l.place) l.tallies (Ok (tt {0}));
   gathered : g.T.RowSink.gathered l.place l.cluster.scenario.now l.tallies;
+  empty : l.room.items ≡ [];
   few : length l.tallies ≤ 2 ^ 63;
   unfailed : g.T.RowSink.failed l.place ≡ g.T.RowSink.failed l.fn.place;
 }

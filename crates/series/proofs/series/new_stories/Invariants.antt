@@ -5,7 +5,7 @@ use Rattle.series.specs.Stories.{IsStoryOf}
 use Rattle.series.specs.Watched.{crashed}
 use Rattle.series.proofs.series.new_stories.Given as goal
 
--- there is a story for each number so far, none of which tells of any row, and so many of these members crash
+-- there is a story for each number so far, each of which has no row yet, and so many of these members crash
 abbrev pub invariant-loop-number : goal.invariant-loop-number
 invariant-loop-number l = record {
   many : length l.stories.items ≡ l.number;

@@ -1,7 +1,7 @@
 use Rattle.std.proofs.Common.{◌≤◌, ◌^◌, ap, ◌∙◌, length, subst, sym}
 use Rattle.std.proofs.lemmas.List.FromFn.{length-map-range_with_len}
 use Rattle.scenario.specs.Setup.{group_at, member_count}
-use Rattle.scenario.specs.declared.settings.Stream.{Stream}
+use Rattle.scenario.specs.declared.settings.StreamTimes.{StreamTimes}
 use Rattle.links.specs.Entries.{route}
 use Rattle.links.proofs.Served.{routes_of_all, spans_of_all, outages_of_all, links_are, links_sound, cuts_are, extras_are, extras_small}
 use Rattle.links.proofs.table.Links.of.Goals as goal
@@ -14,8 +14,8 @@ invariant_of-result c =
     record {
       links_sound = links_sound s c.in_ok-groups_of.field-0.items c.link.result (route c.in_ok-routes_of.field-0) c.in_ok-groups_of.ensures c.link.ensures.value last c.link.ensures.sound;
       waits_sound = (
-        subst (λ (x : Stream). x.connect ≤ 2 ^ 24) (sym c.stream-stream.ensures.value) c.stream-stream.ensures.sound.connect.1,
-        subst (λ (x : Stream). x.again ≤ 2 ^ 24) (sym c.stream-stream.ensures.value) c.stream-stream.ensures.sound.again.1,
+        subst (λ (x : StreamTimes). x.connect ≤ 2 ^ 24) (sym c.stream-stream.ensures.value) c.stream-stream.ensures.sound.connect.1,
+        subst (λ (x : StreamTimes). x.again ≤ 2 ^ 24) (sym c.stream-stream.ensures.value) c.stream-stream.ensures.sound.again.1,
       );
       extras_sound = extras_small s c.in_ok-spans_of.field-0.items kept c.link.ensures.sound;
     }
@@ -32,6 +32,6 @@ returns c =
       links = links_are s c.in_ok-groups_of.field-0.items c.link.result (route c.in_ok-routes_of.field-0) c.in_ok-groups_of.ensures c.link.ensures.value last;
       cuts = cuts_are s c.in_ok-groups_of.field-0.items c.in_ok-outages_of.field-0.entries c.in_ok-groups_of.ensures cuts;
       extras = extras_are s c.in_ok-spans_of.field-0.items kept;
-      connect = ap (λ (x : Stream). x.connect) c.stream-stream.ensures.value;
-      again = ap (λ (x : Stream). x.again) c.stream-stream.ensures.value;
+      connect = ap (λ (x : StreamTimes). x.connect) c.stream-stream.ensures.value;
+      again = ap (λ (x : StreamTimes). x.again) c.stream-stream.ensures.value;
     }

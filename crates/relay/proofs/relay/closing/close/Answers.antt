@@ -12,4 +12,4 @@ learn_as-requires-clause-rule g c = let is = c.absorb.ensures.rule in tells _ _ 
 
 pub returns-clause-whole : goal.returns-clause-whole
 returns-clause-whole g c has = let is = c.absorb.ensures.rule in let told = c.learn_as.ensures.rule in
-    received g.S.ItemRule.stands_for g.S.ItemRule.is_last g.S.ItemRule.belongs (view c.absorb.new.pass) told.0 _ _ (ap (λ (v : Log _ _). v.sent) is) (ap (λ (v : Log _ _). v.taken) is) told.1 has
+    received g.S.BatchRule.stands_for g.S.BatchRule.is_last g.S.BatchRule.belongs (view c.absorb.new.pass) told.0 _ _ (ap (λ (v : Log _ _). v.sent) is) (ap (λ (v : Log _ _). v.taken) is) told.1 has

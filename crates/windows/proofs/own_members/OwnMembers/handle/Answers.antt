@@ -1,6 +1,7 @@
-use Rattle.std.proofs.Common.{◌<◌, length, ap, ◌∙◌, sym, subst, refl, arith}
+use Rattle.std.proofs.Common.{◌≡◌, ◌<◌, true, length, ap, ◌∙◌, sym, subst, refl, arith}
 use Rattle.std.specs.Result.{OnOk}
-use Rattle.std.specs.Option.{option_map}
+use Rattle.std.specs.Option.{option_map, is_some}
+use Rattle.std.specs.List.{list_all}
 use Rattle.std.specs.FinMap.{insert}
 use Rattle.std.proofs.lemmas.Option.{slice_get_read}
 use Rattle.member.specs.StateOf.{state_of}
@@ -9,7 +10,7 @@ use Rattle.member.specs.Step.{step}
 use Rattle.member.specs.Steps.{Steps}
 use Rattle.member.specs.CounterOverflow.{IsOverflowed}
 use Rattle.member.specs.declared.event.Event.{Event}
-use Rattle.windows.proofs.Slots.{by_place, nobody_past, receiver_at, put_at, put_back}
+use Rattle.windows.proofs.Slots.{by_place, nobody_past, receiver_at, put_at, put_back, all_with}
 use Rattle.windows.proofs.Deliveries.{if_ok, handled_by, handled_by_none}
 use Rattle.windows.proofs.own_members.OwnMembers.handle.Goals as goal
 
@@ -74,3 +75,16 @@ returns-clause-overflow c = λ overflow.
       overflow =
           subst (λ (e : Event). IsOverflowed (step c.args.cluster.scenario.now e.key e.content (state_of c.in-Some.member)).state) c.in_parts.ensures (c.step.ensures.overflow overflow);
     }
+
+pub invariant_of-self-2 : goal.invariant_of-self-2
+invariant_of-self-2 c = record { filled = λ full. all_with c.args.self.now.slots.items c.receiver_of-receiver.result c.step.new.self (c.args.self.now.filled full) }
+
+pub invariant_of-self : goal.invariant_of-self
+invariant_of-self c =
+    let slots = c.args.self.now.slots.items in
+    let i = c.receiver_of-receiver.result in
+    let low = c.if-len-receiver.false in
+    let count = c.len.ensures in
+    let within : i < length slots = omega (arith, low, count) in
+    let here = slice_get_read slots (length slots) i c.index_mut.result.now refl within c.index_mut.ensures.value in
+    record { filled = λ full. subst (λ l. list_all is_some l ≡ true) (sym (put_back slots i c.index_mut.result.now here)) (c.args.self.now.filled full) }

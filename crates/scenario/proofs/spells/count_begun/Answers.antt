@@ -3,7 +3,7 @@ use Rattle.std.proofs.lemmas.Bool.{leb-true, leb-false}
 use Rattle.std.proofs.lemmas.List.Sorted.{IsPartitionPoint-from_clause, IsPartitionedBy-leb}
 use Rattle.scenario.specs.declared.spells.Spell.{Spell}
 use Rattle.scenario.proofs.Apart.{rising}
-use Rattle.scenario.proofs.spells.begun_by.Goals as goal
+use Rattle.scenario.proofs.spells.count_begun.Goals as goal
 
 pub returns-clause-begun : goal.returns-clause-begun
 returns-clause-begun c =

@@ -3,7 +3,7 @@ use Rattle.std.proofs.lemmas.Bool.{leb-true, leb-false}
 use Rattle.std.proofs.lemmas.List.Sorted.{IsPartitionPoint-from_clause, IsPartitionedBy-leb}
 use Rattle.links.specs.declared.spans.times.SlowSpan.{SlowSpan}
 use Rattle.links.proofs.SlowOnes.{rising}
-use Rattle.links.proofs.spans.times.begun_by.Goals as goal
+use Rattle.links.proofs.spans.times.count_begun.Goals as goal
 
 pub returns-clause-begun : goal.returns-clause-begun
 returns-clause-begun c =

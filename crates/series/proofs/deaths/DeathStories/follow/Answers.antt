@@ -1,7 +1,7 @@
 use Rattle.std.proofs.Common.{sym, subst, arith}
 use Rattle.series.specs.Deaths.{AreGoneOf, AreStandingsOf, AreProbesOf, AreAnswersOf}
 use Rattle.series.proofs.Dying.{deaths_few}
-use Rattle.series.proofs.deaths.Deaths.follow.Goals as goal
+use Rattle.series.proofs.deaths.DeathStories.follow.Goals as goal
 
 pub keep-requires-clause-few : goal.keep-requires-clause-few
 keep-requires-clause-few c =
