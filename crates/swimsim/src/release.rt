@@ -1,8 +1,8 @@
 //! Which release of the program this is.
 
 /// The number of the version.
-pub const VERSION: &str = "1.17.0";
+pub const VERSION: &str = "1.18.0";
 /// The digest of the sources.
-pub const SOURCES: &str = "5704da65ed84338657111974e6a6ba18e5353b17e1071b566a06a26c204cc2bd";
+pub const SOURCES: &str = "23fe7fb21b4bbf8907b92781f9ce836c1a18578fbaf71f5f9ff08d33722672c9";
 /// The kit.
-pub const KIT: &str = "rattle-kit-13f logic dac8208d650f15bf";
+pub const KIT: &str = "rattle-kit-13b logic dac8208d650f15bf";
