@@ -113,7 +113,8 @@ fn push_first_cells(
     text.push_str("<tr><th scope=\"row\">")?;
     push_escaped(text, run.scenario.name(member))?;
     text.push_str("</th>")?;
-    push_claim(text, run, first)
+    push_claim(text, run, first)?;
+    Ok(())
 }
 
 /// Appends a cell with a number.
