@@ -348,7 +348,7 @@ class Page:
             reached = [sum(time < (nth + 1) * step for time in times) for nth in range(MOST_SPANS)]
             text += line(kind, reached, step, most)
         text += f'{PLOT_END}{axis_across(width, "ticks since the crash", self.tick, "time since the crash")}</div>'
-        text += opening('How long after the crash so many of those up had heard of it', ['of those up', 'first', '50 %', '90 %', '99 %', 'all'])
+        text += opening('How long after the crash these shares of the members up had heard of it', ['of those up', 'first', '50 %', '90 %', '99 %', 'all'])
         text += self.shares('suspected it after', suspected, len(stay)) + self.shares('declared it dead after', dead, len(stay))
         return text + '</table></div></div>\n'
 

@@ -112,7 +112,7 @@ share_row time words shares = codes "<tr><th scope=\"row\">" ++ words ++ codes "
 -- what the table shows, and what its columns are
 unfoldable pub share_heads : List ℕ
 share_heads =
-    codes "<div class=\"wide\"><table><caption>How long after the crash so many of those up had heard of it</caption><thead><tr><th scope=\"col\">of those up</th>"
+    codes "<div class=\"wide\"><table><caption>How long after the crash these shares of the members up had heard of it</caption><thead><tr><th scope=\"col\">of those up</th>"
     ++ codes "<th scope=\"col\">first</th><th scope=\"col\">50 %</th><th scope=\"col\">90 %</th><th scope=\"col\">99 %</th><th scope=\"col\">all</th></tr></thead><tbody>"
 
 -- after which times shares of those who stay had suspected the member, and declared it dead

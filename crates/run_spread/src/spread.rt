@@ -291,7 +291,7 @@ fn push_heads(text: &mut String) -> Result<(), AllocError>
     ensures { OnOk result (string_bytes text.new ≡ string_bytes text.old ++ share_heads) }
 {
     text.push_str(
-        "<div class=\"wide\"><table><caption>How long after the crash so many of those up had heard of it</caption>\
+        "<div class=\"wide\"><table><caption>How long after the crash these shares of the members up had heard of it</caption>\
          <thead><tr><th scope=\"col\">of those up</th>",
     )?;
     text.push_str(
