@@ -43,14 +43,13 @@ def differs(value, usual):
     return usual is not None and value != usual
 
 
-def folded(summary, columns):
-    return f'<details><summary>{summary}</summary><div class="wide"><table><tr>{columns}</tr>\n'
+def opening(caption, columns):
+    """A table begins, which says what it shows, and of what its heads are."""
+    return f'<div class="wide"><table><caption>{caption}</caption><thead><tr>{heads(columns)}</tr></thead><tbody>'
 
 
-def captioned(summary, caption, columns):
-    """A folded table that says what it shows, and of what its heads are."""
-    return (f'<details><summary>{summary}</summary><div class="wide"><table><caption>{caption}</caption>'
-            f'<thead><tr>{heads(columns)}</tr></thead><tbody>\n')
+def folded(summary, caption, columns):
+    return f'<details><summary>{summary}</summary>{opening(caption, columns)}\n'
 
 
 def row_head(words):
@@ -206,12 +205,14 @@ class Page:
         return '; '.join(words) or ('suspected, and refuted it' if story.last_refute else 'never declared dead')
 
     def lane_table(self):
-        text = folded('The lanes as a table', '<th>member<th>from moment<th>suspect it<th>have declared it dead')
+        text = folded('The lanes as a table',
+                      'How many members suspect each member, and how many have declared it dead, from each moment at which that changes',
+                      ['member', 'from moment', 'suspect it', 'have declared it dead'])
         for member in self.lanes[:MOST_LANES]:
             last = 0, 0
             for span, both in enumerate(zip(*self.claims(member))):
                 if both != last:
-                    text += f'<tr><td>{self.series.names[member]}{self.from_cell(span)}<td>{both[0]}<td>{both[1]}'
+                    text += f'{row_head(self.series.names[member])}{self.from_cell(span)}<td>{both[0]}<td>{both[1]}'
                 last = both
         return text + TABLE_END
 
@@ -222,14 +223,15 @@ class Page:
         if not members:
             return ''
         text = figure('false-deaths', 'False deaths')
-        text += ('<div class="wide"><table><tr><th>member<th>first declared dead<th>by<th>line of the trace<th>false deaths'
-                 '<th>declared alive again<th>failed probes of it</tr>\n')
+        text += opening('Members that were declared dead although they were up',
+                        ['member', 'first declared dead', 'by', 'line of the trace', 'false deaths', 'declared alive again',
+                         'failed probes of it']) + '\n'
         return text + ''.join(map(self.false_deaths_row, members[:MOST_FALSE_DEATHS])) + '</table></div>' + FIGURE_END
 
     def false_deaths_row(self, member):
         story = self.series.stories[member]
         moment, accuser, place = story.first_confirm
-        return (f'<tr><td>{self.series.names[member]}{self.time_cell(moment)}<td>{self.series.names[accuser]}<td>{place}'
+        return (f'{row_head(self.series.names[member])}{self.time_cell(moment)}<td>{self.series.names[accuser]}<td>{place}'
                 f'<td>{grouped(story.false_deaths)}<td>{grouped(sum(story.recovered.values()))}'
                 f'<td>{grouped(story.failed_probes)}\n')
 
@@ -346,13 +348,13 @@ class Page:
             reached = [sum(time < (nth + 1) * step for time in times) for nth in range(MOST_SPANS)]
             text += line(kind, reached, step, most)
         text += f'{PLOT_END}{axis_across(width, "ticks since the crash", self.tick, "time since the crash")}</div>'
-        text += '<div class="wide"><table><tr><th>of those up<th>first<th>50 %<th>90 %<th>99 %<th>all</tr>'
+        text += opening('How long after the crash these shares of the members up had heard of it', ['of those up', 'first', '50 %', '90 %', '99 %', 'all'])
         text += self.shares('suspected it after', suspected, len(stay)) + self.shares('declared it dead after', dead, len(stay))
         return text + '</table></div></div>\n'
 
     def shares(self, words, times, of_all):
         ranks = [max(1, (of_all * percent + 99) // 100) for percent in (0, 50, 90, 99, 100)]
-        return f'<tr><td>{words}' + ''.join(self.time_cell(times[rank - 1]) if rank <= len(times) else '<td>-' for rank in ranks)
+        return row_head(words) + ''.join(self.time_cell(times[rank - 1]) if rank <= len(times) else '<td>-' for rank in ranks)
 
     # messages, and health
 
@@ -391,9 +393,9 @@ class Page:
 
     def messages_table(self, columns):
         """Of each kind that was sent its name, and how many were sent and lost in each span."""
-        text = captioned('The messages as a table',
-                         'How many messages of each kind were sent in each span of time, and how many of them were lost',
-                         ['from moment', *(head for kind, _, _ in columns for head in (kind, f'{kind} lost'))])
+        text = folded('The messages as a table',
+                      'How many messages of each kind were sent in each span of time, and how many of them were lost',
+                      ['from moment', *(head for kind, _, _ in columns for head in (kind, f'{kind} lost'))])
         for span in self.series.spans:
             text += row_head(self.begin(span)) + ''.join(f'<td>{ours[span]}<td>{theirs[span]}' for _, ours, theirs in columns)
         return text + TABLE_END
@@ -415,8 +417,8 @@ class Page:
         text += legend(zip(HEALTH_CLASSES, ('at 1', 'at 2', 'at 3', 'at 4 and more')))
         layers = [(HEALTH_CLASSES[min(value, 4) - 1], counts) for value, counts in zip(values, heights)]
         text += self.chart('low', 'Health scores', 'How many members have each health score.', layers, 1)
-        text += captioned('Health scores as a table', 'How many members have each health score, from each moment at which that changes',
-                          ['health score', 'from moment', 'members'])
+        text += folded('Health scores as a table', 'How many members have each health score, from each moment at which that changes',
+                       ['health score', 'from moment', 'members'])
         for value, counts in zip(values, heights):
             for span, count in enumerate(counts):
                 if count != (counts[span - 1] if span else 0):

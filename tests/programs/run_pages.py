@@ -19,6 +19,7 @@ SAYS = '# The page says: '
 # 320 to 327 and 405
 HELD = 'declared-dead-before-and-detected'
 HEARD = {'n-4': ('<td>-' * 5, '<td>0' * 5), 'n-5': ('<td>0' * 5, '<td>3,184<td>3,204<td>9,553<td>9,553<td>9,553')}
+ROW = '<tr><th scope="row">'
 # a name that is no markup in the page, and of which all is seen
 NAME = '<script>&"it\'s"\u202e.toml'
 
@@ -73,7 +74,7 @@ def check_held(program):
     page = program.held('p.html').decode()
     for member, (suspected, dead) in HEARD.items():
         table = page.partition(f'<h3>{member}</h3><div class="chart">')[2].partition('</table>')[0]
-        expect(f'table of {member}', table.partition('<tr><td>')[2], f'suspected it after{suspected}<tr><td>declared it dead after{dead}')
+        expect(f'table of {member}', table.partition(ROW)[2], f'suspected it after</th>{suspected}{ROW}declared it dead after</th>{dead}')
 
 
 def cases():

@@ -59,7 +59,7 @@ lane_rest all = if nat_le all 60 then [] else more_words (all - 60)
 -- one row of the table: how many suspect a member from a moment on, and how many have declared it dead
 unfoldable pub table_row : Option Tick → List ℕ → ℕ → ℕ → ℕ → List ℕ
 table_row time name from suspected dead =
-    codes "<tr><td>" ++ escaped name ++ codes "<td>" ++ moment_alone time from ++ codes "<td>" ++ decimal suspected ++ codes "<td>" ++ decimal dead
+    codes "<tr><th scope=\"row\">" ++ escaped name ++ codes "</th><td>" ++ moment_alone time from ++ codes "<td>" ++ decimal suspected ++ codes "<td>" ++ decimal dead
 
 -- the height of a span is the one before it
 abbrev pub is_unchanged : List ℕ → ℕ → Bool
@@ -82,7 +82,8 @@ member_rows time s rows member =
 -- the lanes of these members as a table
 unfoldable pub lane_table : Option Tick → Setup → List Row → List Chosen → List ℕ
 lane_table time s rows lanes =
-    codes "<details><summary>The lanes as a table</summary><div class=\"wide\"><table><tr><th>member<th>from moment<th>suspect it<th>have declared it dead</tr>\n"
+    codes "<details><summary>The lanes as a table</summary><div class=\"wide\"><table><caption>How many members suspect each member, and how many have declared it dead, from each moment at which that changes</caption>"
+    ++ codes "<thead><tr><th scope=\"col\">member</th><th scope=\"col\">from moment</th><th scope=\"col\">suspect it</th><th scope=\"col\">have declared it dead</th></tr></thead><tbody>\n"
     ++ flat_map (λ chosen. member_rows time s rows chosen.member) lanes ++ codes "</table></div></details>"
 
 -- one lane

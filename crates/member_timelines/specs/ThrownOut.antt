@@ -25,7 +25,7 @@ cell number = codes "<td>" ++ grouped number
 
 -- the first cells of a row: of whom it is, and who first declared it dead
 unfoldable pub first_cells : Option Tick → Setup → ℕ → Option TraceLine → List ℕ
-first_cells time s member first = codes "<tr><td>" ++ escaped (name_of s member) ++ claim_cells time s first
+first_cells time s member first = codes "<tr><th scope=\"row\">" ++ escaped (name_of s member) ++ codes "</th>" ++ claim_cells time s first
 
 -- the row of a member with so many false deaths
 unfoldable pub row : Option Tick → Setup → List Row → ℕ → ℕ → List ℕ
@@ -37,9 +37,12 @@ row time s rows member times =
 abbrev pub row_of : Option Tick → Setup → List Row → Chosen → List ℕ
 row_of time s rows chosen = row time s rows chosen.member (times_of chosen)
 
--- what the columns are
+-- what the table shows, and what the columns are
 unfoldable pub columns : List ℕ
-columns = codes "<div class=\"wide\"><table><tr><th>member<th>first declared dead<th>by<th>line of the trace<th>false deaths<th>declared alive again<th>failed probes of it</tr>\n"
+columns =
+    codes "<div class=\"wide\"><table><caption>Members that were declared dead although they were up</caption><thead><tr><th scope=\"col\">member</th>"
+    ++ codes "<th scope=\"col\">first declared dead</th><th scope=\"col\">by</th><th scope=\"col\">line of the trace</th><th scope=\"col\">false deaths</th>"
+    ++ codes "<th scope=\"col\">declared alive again</th><th scope=\"col\">failed probes of it</th></tr></thead><tbody>\n"
 
 -- the table of these
 unfoldable pub thrown_out_figure : Option Tick → Setup → List Row → List Chosen → List ℕ

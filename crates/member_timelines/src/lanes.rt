@@ -207,7 +207,13 @@ fn push_table(alloc: Global, text: &mut String, run: &Run, lanes: &[Chosen]) -> 
     ensures { OnOk result (string_bytes text.new ≡ string_bytes text.old ++ lane_table run.now.tick run.now.scenario.now run.now.tallies.now lanes.now) }
 {
     text.push_str(
-        "<details><summary>The lanes as a table</summary><div class=\"wide\"><table><tr><th>member<th>from moment<th>suspect it<th>have declared it dead</tr>\n",
+        "<details><summary>The lanes as a table</summary><div class=\"wide\"><table><caption>\
+         How many members suspect each member, and how many have declared it dead, \
+         from each moment at which that changes</caption>",
+    )?;
+    text.push_str(
+        "<thead><tr><th scope=\"col\">member</th><th scope=\"col\">from moment</th>\
+         <th scope=\"col\">suspect it</th><th scope=\"col\">have declared it dead</th></tr></thead><tbody>\n",
     )?;
     push_each_rows(alloc, text, run, lanes)?;
     text.push_str("</table></div></details>")?;
@@ -315,9 +321,9 @@ fn push_row(
 ) -> Result<(), AllocError>
     ensures { OnOk result (string_bytes text.new ≡ string_bytes text.old ++ table_row time name.now from suspected dead) }
 {
-    text.push_str("<tr><td>")?;
+    text.push_str("<tr><th scope=\"row\">")?;
     push_escaped(text, name)?;
-    text.push_str("<td>")?;
+    text.push_str("</th><td>")?;
     push_moment_alone(text, time, from)?;
     write!(text, "<td>{suspected}<td>{dead}")?;
     Ok(())

@@ -52,14 +52,23 @@ fn push_figure(text: &mut String, run: &Run, lanes: &[Chosen]) -> Result<(), All
     Ok(())
 }
 
-/// Appends what the columns are.
+/// Appends what the table shows, and what the columns are.
 #[tactic(auto, unfolding(crate::specs::ThrownOut::columns))]
 fn push_head(text: &mut String) -> Result<(), AllocError>
     ensures { OnOk result (string_bytes text.new ≡ string_bytes text.old ++ columns) }
 {
     text.push_str(
-        "<div class=\"wide\"><table><tr><th>member<th>first declared dead<th>by<th>line of the trace<th>false deaths<th>declared alive again<th>failed probes of it</tr>\n",
-    )
+        "<div class=\"wide\"><table><caption>Members that were declared dead although they were up</caption>\
+         <thead><tr><th scope=\"col\">member</th>",
+    )?;
+    text.push_str(
+        "<th scope=\"col\">first declared dead</th><th scope=\"col\">by</th>\
+         <th scope=\"col\">line of the trace</th><th scope=\"col\">false deaths</th>",
+    )?;
+    text.push_str(
+        "<th scope=\"col\">declared alive again</th><th scope=\"col\">failed probes of it</th></tr></thead><tbody>\n",
+    )?;
+    Ok(())
 }
 
 /// Appends the rows of these.
@@ -101,9 +110,11 @@ fn push_first_cells(
     requires named { IfSome first (λ line. line.member < member_count run.now.scenario.now) }
     ensures { OnOk result (string_bytes text.new ≡ string_bytes text.old ++ first_cells run.now.tick run.now.scenario.now member first) }
 {
-    text.push_str("<tr><td>")?;
+    text.push_str("<tr><th scope=\"row\">")?;
     push_escaped(text, run.scenario.name(member))?;
-    push_claim(text, run, first)
+    text.push_str("</th>")?;
+    push_claim(text, run, first)?;
+    Ok(())
 }
 
 /// Appends a cell with a number.

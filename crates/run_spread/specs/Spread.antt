@@ -107,13 +107,18 @@ unfoldable pub share_cells : Option Tick → ShareTimes → List ℕ
 share_cells time shares = time_cell time shares.first ++ time_cell time shares.half ++ time_cell time shares.nine_tenths ++ time_cell time shares.nearly_all ++ time_cell time shares.all
 
 unfoldable pub share_row : Option Tick → List ℕ → ShareTimes → List ℕ
-share_row time words shares = codes "<tr><td>" ++ words ++ share_cells time shares
+share_row time words shares = codes "<tr><th scope=\"row\">" ++ words ++ codes "</th>" ++ share_cells time shares
+
+-- what the table shows, and what its columns are
+unfoldable pub share_heads : List ℕ
+share_heads =
+    codes "<div class=\"wide\"><table><caption>How long after the crash these shares of the members up had heard of it</caption><thead><tr><th scope=\"col\">of those up</th>"
+    ++ codes "<th scope=\"col\">first</th><th scope=\"col\">50 %</th><th scope=\"col\">90 %</th><th scope=\"col\">99 %</th><th scope=\"col\">all</th></tr></thead><tbody>"
 
 -- after which times shares of those who stay had suspected the member, and declared it dead
 unfoldable pub share_table : Option Tick → ShareTimes → ShareTimes → List ℕ
 share_table time suspected dead =
-    codes "<div class=\"wide\"><table><tr><th>of those up<th>first" ++ codes "<th>50 %<th>90 %<th>99 %<th>all</tr>"
-    ++ share_row time (codes "suspected it after") suspected ++ share_row time (codes "declared it dead after") dead ++ codes "</table></div>"
+    share_heads ++ share_row time (codes "suspected it after") suspected ++ share_row time (codes "declared it dead after") dead ++ codes "</table></div>"
 
 -- what is shown of the crash of a member of that name, where so many stay
 unfoldable pub crash_part : Option Tick → List ℕ → ℕ → ℕ → List ℕ → ShareTimes → List ℕ → ShareTimes → List ℕ

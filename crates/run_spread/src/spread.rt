@@ -7,7 +7,7 @@ ghost use Rattle.series.specs.Watched.{crashed};
 ghost use Rattle.drawing.specs.Shapes.{line, plot_opening, step_start};
 ghost use Rattle.member_timelines.specs.Heights.{axis_height};
 ghost use Rattle.member_timelines.specs.Run.{IsTold};
-ghost use Rattle.run_spread.specs.Spread.{learned, staying, chart_opening, spread_chart, time_cell, share_cells, share_row, share_table, crash_part, crash_text, watched_crash, spread_legend, unwatched_words, spread_figure, spread_text};
+ghost use Rattle.run_spread.specs.Spread.{learned, staying, chart_opening, spread_chart, time_cell, share_cells, share_row, share_heads, share_table, crash_part, crash_text, watched_crash, spread_legend, unwatched_words, spread_figure, spread_text};
 
 use crate::news::{Heard, STEPS, ShareTimes, crashed, longest, news, staying};
 use base::{MemberId, Memory, Moment};
@@ -278,11 +278,26 @@ fn push_shares(
 ) -> Result<(), AllocError>
     ensures { OnOk result (string_bytes text.new ≡ string_bytes text.old ++ share_table time suspected dead) }
 {
-    text.push_str("<div class=\"wide\"><table><tr><th>of those up<th>first")?;
-    text.push_str("<th>50 %<th>90 %<th>99 %<th>all</tr>")?;
+    push_heads(text)?;
     push_row(text, time, "suspected it after", suspected)?;
     push_row(text, time, "declared it dead after", dead)?;
     text.push_str("</table></div>")?;
+    Ok(())
+}
+
+/// Appends what the table shows, and what its columns are.
+#[tactic(auto, unfolding(crate::specs::Spread::share_heads))]
+fn push_heads(text: &mut String) -> Result<(), AllocError>
+    ensures { OnOk result (string_bytes text.new ≡ string_bytes text.old ++ share_heads) }
+{
+    text.push_str(
+        "<div class=\"wide\"><table><caption>How long after the crash these shares of the members up had heard of it</caption>\
+         <thead><tr><th scope=\"col\">of those up</th>",
+    )?;
+    text.push_str(
+        "<th scope=\"col\">first</th><th scope=\"col\">50 %</th><th scope=\"col\">90 %</th>\
+         <th scope=\"col\">99 %</th><th scope=\"col\">all</th></tr></thead><tbody>",
+    )?;
     Ok(())
 }
 
@@ -296,8 +311,9 @@ fn push_row(
 ) -> Result<(), AllocError>
     ensures { OnOk result (string_bytes text.new ≡ string_bytes text.old ++ share_row time words.now shares) }
 {
-    text.push_str("<tr><td>")?;
+    text.push_str("<tr><th scope=\"row\">")?;
     text.push_str(words)?;
+    text.push_str("</th>")?;
     push_times(text, time, shares)?;
     Ok(())
 }

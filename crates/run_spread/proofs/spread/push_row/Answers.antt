@@ -4,4 +4,4 @@ use Rattle.run_spread.proofs.spread.push_row.Goals as goal
 
 pub returns : goal.returns
 unfolding share_row
-returns c = simp (c.in_ok-push_times.ensures, c.in_ok-push_str-2.ensures.bytes, c.in_ok-push_str.ensures.bytes, append_assoc) refl
+returns c = simp (c.in_ok-push_times.ensures, c.in_ok-push_str-3.ensures.bytes, c.in_ok-push_str-2.ensures.bytes, c.in_ok-push_str.ensures.bytes, append_assoc) refl

@@ -1,0 +1,7 @@
+use Rattle.std.proofs.Common.{append_assoc, refl}
+use Rattle.run_spread.specs.Spread.{share_heads}
+use Rattle.run_spread.proofs.spread.push_heads.Goals as goal
+
+pub returns : goal.returns
+unfolding share_heads
+returns c = simp (c.in_ok-push_str-2.ensures.bytes, c.in_ok-push_str.ensures.bytes, append_assoc) refl
