@@ -1,8 +1,8 @@
 -- The finer logarithm: the entries of its table, and a number's leading digits.
-use Rattle.std.proofs.Common.{◌≡◌, ℕ, zero, suc, ◌+◌, ◌-◌, ◌*◌, ◌/◌, ◌<◌, ◌≤◌, ◌^◌, Bool, true, false, cond, ◌&&◌, leb, ltb, ◌⊎◌, inl, inr, List, [], ◌∷◌, length, get_or, refl, sym, ap, subst, ◌∙◌, arith, lit≤}
-use Rattle.std.proofs.Math.Nat.{pow-le-pow_right, pow-suc, div-div-eq-div-mul}
+use Rattle.std.proofs.Common.{◌≡◌, ℕ, zero, suc, ◌+◌, ◌-◌, ◌*◌, ◌/◌, ◌%◌, ◌<◌, ◌≤◌, ◌^◌, Bool, true, false, cond, ◌&&◌, leb, ltb, ◌⊎◌, inl, inr, List, [], ◌∷◌, length, get_or, refl, sym, ap, subst, ◌∙◌, arith, lit≤}
+use Rattle.std.proofs.Math.Nat.{pow-le-pow_right, pow-suc, div-div-eq-div-mul, div-one, div-le_of_le-mul, mul-le-mul_left}
 use Rattle.std.proofs.lemmas.Bool.{leb-true, ltb-true, lt-leb}
-use Rattle.base.specs.Logarithm.{greatest, is_within_log, tenth_log_of}
+use Rattle.base.specs.Logarithm.{greatest, is_within_log, digit_count, tenth_log_of, fine_log_of, tenths_further, close_log_of}
 
 -- ---- the greatest number that passes a test
 
@@ -95,6 +95,14 @@ tenth_is d least most =
     let same : 10 + (d - 10) ≡ d = omega arith in
     entry_is d (get_or tenths (d - 10) 0) (subst (λ x. fits (x ^ 1000) (get_or tenths (d - 10) 0) ≡ true) same at)
 
+hundred_fits : fits (100 ^ 1000) 1000 ≡ true
+unfolding fits
+hundred_fits = refl
+
+-- and the logarithm of ten is 1
+pub hundred_is : tenth_log_of 100 ≡ 1000
+hundred_is = entry_is 100 1000 hundred_fits
+
 -- ---- the leading digits
 
 -- a quotient by one ten more
@@ -102,3 +110,46 @@ pub one_ten_more : (n k : ℕ) → n / 10 ^ (k + 1) ≡ n / 10 ^ k / 10
 one_ten_more n k =
     let next : 10 ^ (k + 1) ≡ 10 ^ k * 10 = ap (λ e. 10 ^ e) (let same : k + 1 ≡ suc k = omega arith in same) ∙ pow-suc 10 k in
     ap (λ p. n / p) next ∙ sym (div-div-eq-div-mul n (10 ^ k) 10)
+
+-- ---- between two tenths
+
+further-le : (a b t : ℕ) → a ≤ 1000 → b ≤ 1000 → t ≤ 10 → a + (b - a) * t / 10 ≤ 1000
+further-le a b t small next few =
+    let times = mul-le-mul_left (b - a) few in
+    let gone : (b - a) * t / 10 ≤ b - a = div-le_of_le-mul 10 (omega (arith, times)) in
+    omega (arith, small, next, gone)
+
+-- no way on goes past the next ten
+pub further-le_thousand : (d t : ℕ) → t ≤ 10 → tenths_further d t ≤ 1000
+further-le_thousand d t few = further-le (tenth_log_of d) (tenth_log_of (d + 1)) t (tenth-le d) (tenth-le (d + 1)) few
+
+no_further : (a b : ℕ) → a + (b - a) * 0 / 10 ≡ a
+no_further a b = let none : (b - a) * 0 ≡ 0 = omega arith in omega (arith, none)
+
+-- a number with its third digit 0 is where the two leading digits are
+at_start : (x n : ℕ) → x ≡ n * 10 → tenths_further (x / 10) (x % 10) ≡ tenth_log_of n
+at_start x n is =
+    let two : x / 10 ≡ n = omega (arith, is) in
+    let none : x % 10 ≡ 0 = omega (arith, is) in
+    ap (λ d. tenths_further d (x % 10)) two ∙ ap (tenths_further n) none ∙ no_further (tenth_log_of n) (tenth_log_of (n + 1))
+
+of_one_digit : (n : ℕ) → tenths_further (n * 100 / 10 ^ 0 / 10) (n * 100 / 10 ^ 0 % 10) ≡ tenth_log_of (n * 10 / 10 ^ 0)
+of_one_digit n =
+    at_start (n * 100 / 10 ^ 0) (n * 10 / 10 ^ 0) (div-one (n * 100) ∙ (let same : n * 100 ≡ n * 10 * 10 = omega arith in same) ∙ sym (ap (λ m. m * 10) (div-one (n * 10))))
+
+of_two_digits : (n : ℕ) → tenths_further (n * 100 / 10 ^ 1 / 10) (n * 100 / 10 ^ 1 % 10) ≡ tenth_log_of (n * 10 / 10 ^ 1)
+of_two_digits n = at_start (n * 100 / 10 ^ 1) (n * 10 / 10 ^ 1) (let same : n * 100 / 10 ≡ n * 10 / 10 * 10 = omega arith in same)
+
+up_to_one : (k : ℕ) → k ≤ 1 → (k ≡ 0) ⊎ (k ≡ 1)
+up_to_one k few = grind arith
+
+by_digits : (n k : ℕ) → k ≤ 1 → tenths_further (n * 100 / 10 ^ k / 10) (n * 100 / 10 ^ k % 10) ≡ tenth_log_of (n * 10 / 10 ^ k)
+by_digits n k few =
+    elim (up_to_one k few) [
+      | inl e ↦ subst (λ j. tenths_further (n * 100 / 10 ^ j / 10) (n * 100 / 10 ^ j % 10) ≡ tenth_log_of (n * 10 / 10 ^ j)) (sym e) (of_one_digit n)
+      | inr e ↦ subst (λ j. tenths_further (n * 100 / 10 ^ j / 10) (n * 100 / 10 ^ j % 10) ≡ tenth_log_of (n * 10 / 10 ^ j)) (sym e) (of_two_digits n)
+    ]
+
+-- of one or two digits all logarithms by two digits say the same
+pub close_is_fine : (n : ℕ) → digit_count n ≤ 2 → close_log_of n ≡ fine_log_of n
+close_is_fine n few = ap (λ m. 1000 * (digit_count n - 1) + m) (by_digits n (digit_count n - 1) (omega (arith, few)))

@@ -1,5 +1,5 @@
 -- Decimal logarithms in whole thousandths, by a number's decimal text.
-use Rattle.std.specs.Prelude.{ℕ, zero, suc, ◌+◌, ◌-◌, ◌*◌, ◌/◌, ◌^◌, Bool, nat_le, if◌then◌else◌, List, [], ◌∷◌, length, slice_index, decimal}
+use Rattle.std.specs.Prelude.{ℕ, zero, suc, ◌+◌, ◌-◌, ◌*◌, ◌/◌, ◌%◌, ◌^◌, Bool, nat_le, if◌then◌else◌, List, [], ◌∷◌, length, slice_index, decimal}
 
 -- the decimal logarithms of 1 to 10, in thousandths, rounded to the nearest
 abbrev pub thousandths_table : List ℕ
@@ -43,3 +43,18 @@ leading_digits n = n * 10 / 10 ^ (digit_count n - 1)
 -- a thousand times the decimal logarithm of the two leading digits and as many noughts as digits follow, rounded down
 abbrev pub fine_log_of : ℕ → ℕ
 fine_log_of n = 1000 * (digit_count n - 1) + tenth_log_of (leading_digits n)
+
+-- ---- by the three leading digits
+
+-- the three leading digits of a number: those of 7 are 700
+abbrev pub three_leading_digits : ℕ → ℕ
+three_leading_digits n = n * 100 / 10 ^ (digit_count n - 1)
+
+-- the same logarithm at so many tenths of the way from the two leading digits to those that follow them
+abbrev pub tenths_further : ℕ → ℕ → ℕ
+tenths_further d tenths = tenth_log_of d + (tenth_log_of (d + 1) - tenth_log_of d) * tenths / 10
+
+-- a thousand times the decimal logarithm: 1000 for each digit after the leading one; the two leading digits say the rest, and the third how far
+-- it is on the way from them to the next two. Up to 99 the third digit is 0.
+abbrev pub close_log_of : ℕ → ℕ
+close_log_of n = 1000 * (digit_count n - 1) + tenths_further (three_leading_digits n / 10) (three_leading_digits n % 10)

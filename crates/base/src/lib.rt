@@ -14,6 +14,6 @@ pub use beats::next_in_step;
 pub use fault::{Fault, Memory};
 pub use key::{Key, MemberId, Moment};
 pub use keyed::Keyed;
-pub use logarithm::{digits, fine_log_thousandths, log_thousandths};
+pub use logarithm::{close_log_thousandths, digits, fine_log_thousandths, log_thousandths};
 pub use order::key_order;
 pub use profile::Profile;

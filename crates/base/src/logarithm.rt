@@ -1,7 +1,7 @@
 //! Decimal logarithms of the cluster's size in whole numbers: digits limit how often an update is sent, and
 //! thousandths scale how long a suspicion lasts.
 ghost use Rattle.std.specs.Prelude.{◌≡◌, ◌-◌, ◌≤◌};
-ghost use Rattle.base.specs.Logarithm.{digit_count, leading_digit, log_of, leading_digits, tenth_log_of, fine_log_of};
+ghost use Rattle.base.specs.Logarithm.{digit_count, leading_digit, log_of, leading_digits, tenth_log_of, fine_log_of, three_leading_digits, tenths_further, close_log_of};
 
 /// The decimal logarithms of 1 to 10, in thousandths, rounded to the nearest.
 const THOUSANDTHS: [u32; 10] = [0, 301, 477, 602, 699, 778, 845, 903, 954, 1000];
@@ -57,7 +57,7 @@ const TENTHS: [u32; 90] = [
     939, 944, 949, 954, 959, 963, 968, 973, 977, 982, 986, 991, 995,
 ];
 
-/// A number's two leading decimal digits as a number, and how many digits follow the first.
+/// A number's two or three leading decimal digits as a number, and how many digits follow the first.
 #[derive(Clone, Copy)]
 struct Leading {
     digits: u32,
@@ -104,9 +104,65 @@ pub fn fine_log_thousandths(n: u32) -> u32
     1000 * following + tenth_log(digits)
 }
 
+fn three_leading_of(n: u32) -> Leading
+    requires { 1 ≤ n }
+    ensures digits { result.digits ≡ three_leading_digits n }
+    ensures following { result.following ≡ digit_count n - 1 }
+    ensures at_least_100 { 100 ≤ result.digits }
+    ensures at_most_999 { result.digits ≤ 999 }
+    ensures at_most_9 { result.following ≤ 9 }
+{
+    let mut digits = u64::from(n) * 100;
+    let mut following = 0;
+    while digits >= 1000 {
+        digits /= 10;
+        following += 1;
+    }
+    Leading {
+        digits: digits as u32,
+        following,
+    }
+}
+
+/// The logarithm of a tenth of a number of two digits, or of 100, in thousandths, rounded down.
+fn tenth_log_to_100(digits: u32) -> u32
+    requires at_least_10 { 10 ≤ digits }
+    requires at_most_100 { digits ≤ 100 }
+    ensures value { result ≡ tenth_log_of digits }
+    ensures small { result ≤ 1000 }
+{
+    if digits == 100 {
+        return 1000;
+    }
+    tenth_log(digits)
+}
+
+/// The logarithm at so many tenths of the way from a number of two digits to the next.
+fn tenths_further(digits: u32, tenths: u32) -> u32
+    requires at_least_10 { 10 ≤ digits }
+    requires at_most_99 { digits ≤ 99 }
+    requires few { tenths ≤ 9 }
+    ensures value { result ≡ tenths_further digits tenths }
+    ensures small { result ≤ 10000 }
+{
+    let here = tenth_log(digits);
+    let way = tenth_log_to_100(digits + 1).saturating_sub(here);
+    here + way * tenths / 10
+}
+
+/// About a thousand times a number's decimal logarithm, closer than `fine_log_thousandths` from 100 on:
+/// the third digit says how far it is on the way from the two leading digits to the next two.
+pub fn close_log_thousandths(n: u32) -> u32
+    requires { 1 ≤ n }
+    ensures { result ≡ close_log_of n }
+{
+    let Leading { digits, following } = three_leading_of(n);
+    1000 * following + tenths_further(digits / 10, digits % 10)
+}
+
 #[cfg(test)]
 mod tests {
-    use super::{digits, fine_log_thousandths, log_thousandths};
+    use super::{close_log_thousandths, digits, fine_log_thousandths, log_thousandths};
 
     #[test]
     fn logarithms_are_exact_at_powers_of_ten(rt: HostRuntime) {
@@ -134,6 +190,13 @@ mod tests {
             (4096, 3602),
         ] {
             assert_eq!(rt; fine_log_thousandths(n), wanted, "of {n}");
+        }
+    }
+
+    #[test]
+    fn closer_logarithms_go_by_three_digits(rt: HostRuntime) {
+        for (n, wanted) in [(19, 1278), (128, 2106), (999, 2999), (16384, 4211)] {
+            assert_eq!(rt; close_log_thousandths(n), wanted, "of {n}");
         }
     }
 

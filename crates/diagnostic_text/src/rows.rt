@@ -122,7 +122,7 @@ pub(crate) fn version_of(context: &Context<'_>) -> Version {
 pub(crate) fn told_version(context: &Context<'_>) -> Version {
     match version_of(context) {
         Version::One | Version::Two => Version::Two,
-        Version::Three => Version::Three,
+        Version::Three | Version::Four => Version::Three,
     }
 }
 
@@ -132,5 +132,6 @@ pub(crate) fn version_number(version: Version) -> u64 {
         Version::One => 1,
         Version::Two => 2,
         Version::Three => 3,
+        Version::Four => 4,
     }
 }

@@ -175,7 +175,7 @@ pub(crate) fn size_words(
 fn size_note(alloc: Global, version: Version) -> Result<String, AllocError> {
     match version {
         Version::One => more_note(alloc),
-        Version::Two | Version::Three => Ok(String::new(alloc)),
+        Version::Two | Version::Three | Version::Four => Ok(String::new(alloc)),
     }
 }
 

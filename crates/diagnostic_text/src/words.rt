@@ -106,7 +106,9 @@ fn later_rule_words(context: &Context<'_>, diagnostic: &Diagnostic) -> Result<Wo
 fn stretches_rule(version: Version) -> &'static str {
     match version {
         Version::One | Version::Two => "a member goes twice, or is slow twice at one time",
-        Version::Three => "a member goes twice, or is slow or paused twice at one time",
+        Version::Three | Version::Four => {
+            "a member goes twice, or is slow or paused twice at one time"
+        }
     }
 }
 

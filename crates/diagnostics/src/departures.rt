@@ -29,7 +29,7 @@ struct Stretch {
 pub(crate) fn judge_departures(walk: &mut Walk<'_>, roster: &Roster) -> Result<(), Memory> {
     judge_gone(walk, roster)?;
     judge_stretches(walk, roster, Section::Slow, FormatKey::Slow)?;
-    if walk.version == Version::Three {
+    if matches!(walk.version, Version::Three | Version::Four) {
         judge_stretches(walk, roster, Section::Pause, FormatKey::Pause)?;
     }
     Ok(())

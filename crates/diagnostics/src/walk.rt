@@ -41,7 +41,7 @@ impl<'p> Walk<'p> {
     pub(crate) fn added_items(&self, key: FormatKey) -> &'p [usize] {
         match self.version {
             Version::One => &[],
-            Version::Two | Version::Three => self.items(key),
+            Version::Two | Version::Three | Version::Four => self.items(key),
         }
     }
 
@@ -49,7 +49,7 @@ impl<'p> Walk<'p> {
     pub(crate) fn pauses(&self) -> &'p [usize] {
         match self.version {
             Version::One | Version::Two => &[],
-            Version::Three => self.items(FormatKey::Pause),
+            Version::Three | Version::Four => self.items(FormatKey::Pause),
         }
     }
 

@@ -4,7 +4,7 @@ use Rattle.std.specs.Prelude.{count_by, sum_by}
 use Rattle.std.proofs.lemmas.List.Sums.{sum_by-cons, sum_by-le-sum_by, sum_by_more, sum_by_more_le}
 use denote.Enum.Bare.{sameb}
 use Rattle.schema.specs.declared.schema.Version.{Version}
-use Rattle.schema.specs.declared.schema.Version.TheVariants.{One, Two, Three}
+use Rattle.schema.specs.declared.schema.Version.TheVariants.{One, Two, Three, Four}
 use Rattle.trace.specs.contracts.row.What.{the_type}
 use Rattle.trace.specs.declared.row.What.{What}
 use Rattle.trace.specs.declared.row.What.TheVariants as what
@@ -31,6 +31,8 @@ one_kind Two what.Join = lit≤ tt
 one_kind Two _ = lit≤ tt
 one_kind Three what.Join = lit≤ tt
 one_kind Three _ = lit≤ tt
+one_kind Four what.Join = lit≤ tt
+one_kind Four _ = lit≤ tt
 
 pub few_sent : (version : Version) (rows : List Row) → messages_sent version rows ≤ length rows
 few_sent version [] = omega (arith, none (message_kinds version))

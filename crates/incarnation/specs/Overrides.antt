@@ -1,7 +1,7 @@
 -- Which claim takes the place of which (SWIM, section 4.2).
 use Rattle.std.specs.Prelude.{ℕ, ◌<◌, ◌≤◌}
 use Rattle.base.specs.declared.profile.Profile.{Profile}
-use Rattle.base.specs.declared.profile.Profile.TheVariants.{Papers, Memberlist}
+use Rattle.base.specs.declared.profile.Profile.TheVariants.{Papers, Memberlist, Hashicorp}
 use Rattle.incarnation.specs.declared.Claim.{Claim}
 use Rattle.incarnation.specs.declared.Claim.TheVariants.{Alive, Suspect, Confirm}
 
@@ -32,3 +32,4 @@ OverridesUntilRefuted (Confirm, i) (Confirm, j) = ⊥
 abbrev pub Overrides : Profile → Claim × ℕ → Claim × ℕ → Type 0
 Overrides Papers new old = OverridesForGood new old
 Overrides Memberlist new old = OverridesUntilRefuted new old
+Overrides Hashicorp new old = OverridesUntilRefuted new old

@@ -1,7 +1,7 @@
 -- Which claims about itself a member refutes, by the incarnation number after the claim's (SWIM, section 4.2).
 use Rattle.std.specs.Prelude.{ℕ, Bool, false, nat_eq, nat_le}
 use Rattle.base.specs.declared.profile.Profile.{Profile}
-use Rattle.base.specs.declared.profile.Profile.TheVariants.{Papers, Memberlist}
+use Rattle.base.specs.declared.profile.Profile.TheVariants.{Papers, Memberlist, Hashicorp}
 use Rattle.incarnation.specs.declared.Claim.{Claim}
 use Rattle.incarnation.specs.declared.Claim.TheVariants.{Alive, Suspect, Confirm}
 
@@ -14,3 +14,6 @@ does_refute Papers own Confirm number = false
 does_refute Memberlist own Alive number = false
 does_refute Memberlist own Suspect number = nat_le own number
 does_refute Memberlist own Confirm number = nat_le own number
+does_refute Hashicorp own Alive number = false
+does_refute Hashicorp own Suspect number = nat_le own number
+does_refute Hashicorp own Confirm number = nat_le own number

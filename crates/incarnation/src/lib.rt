@@ -37,7 +37,7 @@ pub fn overrides(profile: Profile, new: (Claim, u64), old: (Claim, u64)) -> bool
 {
     match profile {
         Profile::Papers => overrides_for_good(new, old),
-        Profile::Memberlist => overrides_until_refuted(new, old),
+        Profile::Memberlist | Profile::Hashicorp => overrides_until_refuted(new, old),
     }
 }
 
@@ -73,7 +73,7 @@ pub fn refutes(profile: Profile, own: u64, claim: Claim, inc: u64) -> bool
         (_, Claim::Alive) => false,
         (Profile::Papers, Claim::Suspect) => inc == own,
         (Profile::Papers, Claim::Confirm) => false,
-        (Profile::Memberlist, Claim::Suspect | Claim::Confirm) => inc >= own,
+        (Profile::Memberlist | Profile::Hashicorp, Claim::Suspect | Claim::Confirm) => inc >= own,
     }
 }
 

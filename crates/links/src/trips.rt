@@ -4,6 +4,7 @@ ghost use Rattle.std.specs.Prelude.{◌≡◌, ℕ, ◌+◌, ◌^◌, ◌<◌, �
 ghost use Rattle.streams.specs.Draw.{Words, words_of};
 ghost use Rattle.scenario.specs.Setup.{Setup, member_count, link_between};
 ghost use Rattle.links.specs.Arrival.{AreLinksOf};
+ghost use Rattle.links.specs.Dials.{dial_of};
 ghost use Rattle.links.specs.Trips.{try_of, trip_of, call_of, answer_of, kept_arrival_of, comes_of};
 
 use crate::table::Links;
@@ -92,6 +93,31 @@ impl Links {
         let answered = self.trip(to, from, begun, self.connect, stream)?;
         let sent = self.trip(from, to, answered, self.again, stream)?;
         Some(self.comes(from, to, now, sent))
+    }
+
+    /// When a connection is there that a member opens: after a trip to the other end and one back. None where one of
+    /// them is lost, or it would be there more than `limit` ticks from now.
+    #[tactic(auto, unfolding(crate::specs::Dials::dial_of))]
+    pub fn dial(
+        &self,
+        from: MemberId,
+        to: MemberId,
+        now: Moment,
+        limit: u64,
+        stream: &mut Stream,
+    ) -> Option<Moment>
+        requires early { now ≤ 2 ^ 40 }
+        requires short { limit ≤ 2 ^ 24 }
+        ensures drawn { (s : Setup) → AreLinksOf self.now s → from < member_count s → to < member_count s
+            → (result, words_of stream.new) ≡ dial_of s from to now limit (words_of stream.old) }
+        ensures soon { IfSome result (λ at. at ≤ now + limit) }
+    {
+        let begun = self.trip(from, to, now, self.connect, stream)?;
+        let there = self.trip(to, from, begun, self.connect, stream)?;
+        if there.ticks() > now.ticks() + limit {
+            return None;
+        }
+        Some(there)
     }
 
     /// When the answer to a call comes to its receiver, over the stream that is open; None where it is

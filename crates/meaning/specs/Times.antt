@@ -1,7 +1,7 @@
 -- The times of a member by its health.
 use Rattle.std.specs.Prelude.{ℕ, ◌+◌, ◌*◌, if◌then◌else◌}
 use Rattle.base.specs.declared.profile.Profile.{Profile}
-use Rattle.base.specs.declared.profile.Profile.TheVariants.{Papers, Memberlist}
+use Rattle.base.specs.declared.profile.Profile.TheVariants.{Papers, Memberlist, Hashicorp}
 use Rattle.scenario.specs.Setup.{Setup}
 use Rattle.scenario.specs.Profile.{profile_of}
 use Rattle.lifeguard.specs.Health.{LocalHealth, scaled}
@@ -19,6 +19,7 @@ health_at s counter = record { counter = counter; ceiling = s.lifeguard.ceiling 
 abbrev pub timeouts_at : Profile → ℕ → ℕ
 timeouts_at Papers counter = counter + 1
 timeouts_at Memberlist counter = 1
+timeouts_at Hashicorp counter = 1
 
 -- the period scaled by that health, and the timeout as the version has it
 abbrev pub pace_at : Setup → ℕ → Pace

@@ -29,8 +29,8 @@ pub fn most_accusers(scenario: &Scenario) -> u64
     let wanted = scenario.lifeguard().confirmations;
     match scenario.profile() {
         Profile::Papers => wanted.min(others),
-        Profile::Memberlist if wanted <= others => wanted,
-        Profile::Memberlist => 0,
+        Profile::Memberlist | Profile::Hashicorp if wanted <= others => wanted,
+        Profile::Memberlist | Profile::Hashicorp => 0,
     }
 }
 
@@ -84,7 +84,7 @@ fn timeouts(scenario: &Scenario, health: u64) -> u64
 {
     match scenario.profile() {
         Profile::Papers => health + 1,
-        Profile::Memberlist => 1,
+        Profile::Memberlist | Profile::Hashicorp => 1,
     }
 }
 

@@ -3,7 +3,7 @@ use Rattle.std.specs.Prelude.{ℕ, Bool, ◌+◌, nat_eq, if◌then◌else◌, L
 use Rattle.std.specs.List.{range_with_len}
 use Rattle.std.specs.Option.{option_map_or}
 use Rattle.base.specs.declared.profile.Profile.{Profile}
-use Rattle.base.specs.declared.profile.Profile.TheVariants.{Papers, Memberlist}
+use Rattle.base.specs.declared.profile.Profile.TheVariants.{Papers, Memberlist, Hashicorp}
 use Rattle.scenario.specs.Profile.{profile_of}
 use Rattle.scenario.specs.Setup.{Setup, member_count, name_of, group_at, start_of, contact_of}
 use Rattle.scenario.specs.declared.settings.Link.{Link}
@@ -103,6 +103,7 @@ called_with least suspicions health nack fallback stream =
 abbrev pub times_by : Profile → ℕ → ℕ → Setup → Data
 times_by Papers least nack s = times_with least (suspicions_data s) (health_data s) nack
 times_by Memberlist least nack s = called_with least (suspicions_data s) (health_data s) nack s.swim.fallback (stream_data s.stream)
+times_by Hashicorp least nack s = called_with least (suspicions_data s) (health_data s) nack s.swim.fallback (stream_data s.stream)
 
 -- the times of the protocol among all members
 abbrev pub times_data : Setup → Data

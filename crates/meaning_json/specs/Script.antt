@@ -9,7 +9,7 @@ use Rattle.scenario.specs.declared.settings.Cut.{Cut}
 use Rattle.scenario.specs.declared.settings.Pause.{Pause}
 use Rattle.scenario.specs.Profile.{profile_of}
 use Rattle.base.specs.declared.profile.Profile.{Profile}
-use Rattle.base.specs.declared.profile.Profile.TheVariants.{Papers, Memberlist}
+use Rattle.base.specs.declared.profile.Profile.TheVariants.{Papers, Memberlist, Hashicorp}
 use Rattle.serde_json.specs.Data.{Data, string, object, put, no_members}
 use Rattle.meaning.specs.Groups.{group_name}
 use Rattle.meaning_json.specs.Figures.{whole, list_of}
@@ -80,6 +80,7 @@ paused_with crashes leaves slows cuts pauses =
 abbrev pub script_by : Profile → Setup → Data
 script_by Papers s = script_with (crashes_data s) (leaves_data s) (slows_data s) (cuts_data s)
 script_by Memberlist s = paused_with (crashes_data s) (leaves_data s) (slows_data s) (cuts_data s) (pauses_data s)
+script_by Hashicorp s = paused_with (crashes_data s) (leaves_data s) (slows_data s) (cuts_data s) (pauses_data s)
 
 abbrev pub script_data : Setup → Data
 script_data s = script_by (profile_of s) s

@@ -191,7 +191,7 @@ pub(crate) fn times_value(alloc: Global, scenario: &Scenario) -> Result<Value, A
     let nack = nack_delay(scenario);
     match scenario.profile() {
         Profile::Papers => times_with(alloc, least, suspicions, health, nack),
-        Profile::Memberlist => {
+        Profile::Memberlist | Profile::Hashicorp => {
             let fallback = scenario.swim().fallback;
             let stream = stream_value(alloc, scenario.stream())?;
             called_with(alloc, least, suspicions, health, nack, fallback, stream)

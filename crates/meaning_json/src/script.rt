@@ -30,7 +30,7 @@ pub(crate) fn script_value(
     let cuts = cuts_value(alloc, scenario, groups, scenario.cuts())?;
     match scenario.profile() {
         Profile::Papers => script_with(alloc, crashes, leaves, slows, cuts),
-        Profile::Memberlist => {
+        Profile::Memberlist | Profile::Hashicorp => {
             let pauses = pauses_value(alloc, scenario, scenario.pauses())?;
             paused_with(alloc, crashes, leaves, slows, cuts, pauses)
         }

@@ -3,7 +3,7 @@ use Rattle.std.specs.Prelude.{ℕ, Bool, ◌+◌, ◌*◌, nat_eq, nat_le, if◌
 use Rattle.std.specs.List.{range_with_len}
 use Rattle.std.specs.Option.{option_map_or}
 use Rattle.base.specs.declared.profile.Profile.{Profile}
-use Rattle.base.specs.declared.profile.Profile.TheVariants.{Papers, Memberlist}
+use Rattle.base.specs.declared.profile.Profile.TheVariants.{Papers, Memberlist, Hashicorp}
 use Rattle.scenario.specs.Profile.{profile_of}
 use Rattle.scenario.specs.Setup.{Setup, member_count, name_of, group_at, start_of, contact_of, crash_of}
 use Rattle.scenario.specs.declared.settings.Link.{Link}
@@ -126,6 +126,7 @@ stream_line t = line (codes "stream" ∷ codes "connect" ∷ decimal t.connect �
 abbrev pub call_lines_by : Profile → Setup → List ℕ
 call_lines_by Papers s = []
 call_lines_by Memberlist s = fallback_line s.swim.fallback ++ stream_line s.stream
+call_lines_by Hashicorp s = fallback_line s.swim.fallback ++ stream_line s.stream
 
 abbrev pub call_lines : Setup → List ℕ
 call_lines s = call_lines_by (profile_of s) s

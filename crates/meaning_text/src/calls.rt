@@ -14,7 +14,7 @@ pub(crate) fn push_calls(text: &mut String, scenario: &Scenario) -> Result<(), A
 {
     match scenario.profile() {
         Profile::Papers => Ok(()),
-        Profile::Memberlist => {
+        Profile::Memberlist | Profile::Hashicorp => {
             push_fallback(text, scenario.swim().fallback)?;
             push_stream(text, scenario.stream())
         }

@@ -6,7 +6,7 @@ use Rattle.std.specs.FinMap.{get}
 use Rattle.std.proofs.lemmas.Bool.{false≢true, eqb-true, leb-true}
 use Rattle.base.specs.declared.key.Key.{Key}
 use Rattle.base.specs.declared.profile.Profile.{Profile}
-use Rattle.base.specs.declared.profile.Profile.TheVariants.{Papers, Memberlist}
+use Rattle.base.specs.declared.profile.Profile.TheVariants.{Papers, Memberlist, Hashicorp}
 use Rattle.scenario.specs.Setup.{Setup, contact_of}
 use Rattle.scenario.specs.Profile.{profile_of}
 use Rattle.scenario.specs.declared.settings.Gossip as settings
@@ -32,12 +32,17 @@ use Rattle.incarnation.specs.Refutations.{does_refute}
 use Rattle.lifeguard.specs.Health.{LocalHealth, scaled}
 use Rattle.suspicion.specs.declared.suspicions.Accused.{Accused}
 use Rattle.membership.specs.Table.{is_confirm, does_override}
-use Rattle.member.specs.Apply.{gossip_set, with_put, passed_on, with_health, refuted, heard_dead, is_own_death, own_applied, with_told, claim_kept, without_suspicion, alive_heard, suspect_heard, death_kept, confirm_heard, claim_heard, news_heard, accusation_counted, accusation_heard, is_repeated, is_heeded, other_applied, applied, all_applied}
+use Rattle.suspicion.specs.Suspicions.{is_over_of}
+use Rattle.member.specs.LateAccusations.{death_of, accused_confirmed, accusation_answered, prompt_accusation_heard, accusation_by}
+use Rattle.member.specs.LoneBuddy.{lone_buddy_of, plain_ping_sent, ping_with_lone, probe_ping_sent}
+use Rattle.member.specs.SingleBeat.{is_in_step, deadline_between_beats, both_timers_set, single_probe_begun, single_target_probed, turn_probed, next_single_probed, next_if_waiting, next_of_beat, single_beat_taken, single_answered}
+use Rattle.member.specs.Apply.{gossip_set, with_put, passed_on, with_health, refuted, heard_dead, is_own_death, own_applied, with_told, with_claim, claim_kept, with_turn_of, newcomer_kept, claim_kept_by, without_suspicion, alive_heard, suspect_heard, death_kept, confirm_heard, claim_heard, news_heard, accusation_counted, accusation_heard, is_repeated, is_heeded, other_applied, applied, all_applied}
 use Rattle.lifeguard.specs.declared.probe.Probe.{Probe}
 use Rattle.lifeguard.specs.Probe.{fresh_probe, timed_probe}
-use Rattle.member.specs.Step.{suspected, probe_failed, probe_ended, probe_begun, target_probed, next_probed, with_relay, ack_taken, push_begun, first_push_set, first_period_set, suspected_at, timed_probe_failed, probe_settled, needs_timer, deadline_set, probe_timers_set, timed_probe_begun, timed_target_probed, next_timed_probed, waiting_probed, has_time, probed_in_turn, timed_answered, timed_ack_taken, called, gossip_set_again, merged}
+use Rattle.member.specs.Step.{suspected, probe_failed, probe_ended, probe_begun, target_probed, next_probed, with_relay, ack_taken, push_begun, even_push_begun, push_begun_by, first_push_set, first_period_set, suspected_at, timed_probe_failed, probe_settled, needs_timer, deadline_set, probe_timers_set, timed_probe_begun, timed_target_probed, next_timed_probed, waiting_probed, has_time, probed_in_turn, timed_answered, timed_ack_taken, called, gossip_set_again, merged}
 use Rattle.member.specs.StateOf.{state_of, effect_of}
 use Rattle.member.specs.CounterOverflow.{IsOverflowed}
+use Rattle.member.proofs.ForgottenOnes.{overflow_ended}
 
 -- no member in memory has a counter past its limit
 pub not_overflow : (m : Member) → ¬ (IsOverflowed (state_of m))
@@ -193,6 +198,9 @@ refutes_over Papers own Confirm number refutes = absurd (false≢true refutes)
 refutes_over Memberlist own Alive number refutes = absurd (false≢true refutes)
 refutes_over Memberlist own Suspect number refutes = leb-true own number refutes
 refutes_over Memberlist own Confirm number refutes = leb-true own number refutes
+refutes_over Hashicorp own Alive number refutes = absurd (false≢true refutes)
+refutes_over Hashicorp own Suspect number refutes = leb-true own number refutes
+refutes_over Hashicorp own Confirm number refutes = leb-true own number refutes
 
 kept_own : (s : Setup) (k : Key) (claim : Claim) (number : ℕ) (o : Effect) → IsOverflowed o.state → IsOverflowed (own_applied s k claim number o).state
 kept_own s k claim number o overflow =
@@ -211,9 +219,23 @@ pub kept_claim : (u : Update) (t : State) → IsOverflowed t → IsOverflowed (c
 unfolding claim_kept
 kept_claim u t overflow = kept_state (is_confirm u.claim) _ _ overflow (kept_state (is_probed (get t.table u.subject)) _ _ overflow overflow)
 
+kept_turn_of : (held : Option (Claim × ℕ)) (subject : ℕ) (t : State) → IsOverflowed t → IsOverflowed (with_turn_of held subject t)
+kept_turn_of None subject t overflow = overflow
+kept_turn_of (Some held) subject t overflow = kept_state (is_confirm held.0) _ _ overflow overflow
+
+kept_newcomer : (u : Update) (t : State) → IsOverflowed t → IsOverflowed (newcomer_kept u t)
+unfolding newcomer_kept
+kept_newcomer u t overflow = kept_state (is_confirm u.claim) _ _ overflow (kept_turn_of (get t.table u.subject) u.subject (with_claim u t) overflow)
+
+pub kept_claim_by : (profile : Profile) (u : Update) (t : State) → IsOverflowed t → IsOverflowed (claim_kept_by profile u t)
+kept_claim_by Papers u t overflow = kept_claim u t overflow
+kept_claim_by Memberlist u t overflow = kept_claim u t overflow
+kept_claim_by Hashicorp u t overflow = kept_newcomer u t overflow
+
 pub kept_death : (profile : Profile) (subject now : ℕ) (t : State) → IsOverflowed t → IsOverflowed (death_kept profile subject now t)
 kept_death Papers subject now t overflow = overflow
 kept_death Memberlist subject now t overflow = overflow
+kept_death Hashicorp subject now t overflow = overflow
 
 pub kept_claim_heard : (s : Setup) (telling : Announce) (k : Key) (u : Update) (claim : Claim) (o : Effect) → IsOverflowed o.state → IsOverflowed (claim_heard s telling k u claim o).state
 unfolding alive_heard suspect_heard confirm_heard
@@ -221,9 +243,9 @@ kept_claim_heard s telling k u Alive o overflow = kept_told telling k _ _ _ _ ov
 kept_claim_heard s telling k u Suspect o overflow = kept_event s k _ _ _ _ (kept_told telling k _ _ _ _ overflow)
 kept_claim_heard s telling k u Confirm o overflow = kept_told telling k _ _ _ _ (kept_death (profile_of s) u.subject k.at (without_suspicion u.subject o.state) overflow)
 
-kept_news : (s : Setup) (telling : Announce) (k : Key) (u : Update) (o : Effect) → IsOverflowed o.state → IsOverflowed (news_heard s telling k u o).state
+pub kept_news : (s : Setup) (telling : Announce) (k : Key) (u : Update) (o : Effect) → IsOverflowed o.state → IsOverflowed (news_heard s telling k u o).state
 unfolding news_heard
-kept_news s telling k u o overflow = kept_passed_on s k telling u _ (kept_claim_heard s telling k u u.claim _ (kept_claim u o.state overflow))
+kept_news s telling k u o overflow = kept_passed_on s k telling u _ (kept_claim_heard s telling k u u.claim _ (kept_claim_by (profile_of s) u o.state overflow))
 
 kept_counted : (s : Setup) (telling : Announce) (k : Key) (u : Update) (accused : Option Accused) (o : Effect) → IsOverflowed o.state → IsOverflowed (accusation_counted s telling k u accused o).state
 kept_counted s telling k u None o overflow = overflow
@@ -233,11 +255,32 @@ kept_accusation : (s : Setup) (telling : Announce) (k : Key) (u : Update) (o : E
 unfolding accusation_heard
 kept_accusation s telling k u o overflow = kept_counted s telling k u _ _ overflow
 
+kept_accused_confirmed : (s : Setup) (telling : Announce) (k : Key) (u : Update) (number : ℕ) (accused : Accused) (o : Effect) → IsOverflowed o.state
+    → IsOverflowed (accused_confirmed s telling k u number accused o).state
+kept_accused_confirmed s telling k u number accused o overflow =
+    kept_news s telling k (death_of k.to u.subject number) _ (kept_passed_on s k telling u _ (kept_told telling k _ _ _ _ overflow))
+
+kept_answered : (s : Setup) (telling : Announce) (k : Key) (u : Update) (number : ℕ) (accused : Option Accused) (o : Effect) → IsOverflowed o.state
+    → IsOverflowed (accusation_answered s telling k u number accused o).state
+kept_answered s telling k u number None o overflow = overflow
+kept_answered s telling k u number (Some accused) o overflow =
+    kept_choice (is_over_of o.state.suspicions u.subject k.at) _ _ (kept_accused_confirmed s telling k u number accused o overflow) (kept_counted s telling k u (Some accused) o overflow)
+
+kept_prompt : (s : Setup) (telling : Announce) (k : Key) (u : Update) (number : ℕ) (o : Effect) → IsOverflowed o.state → IsOverflowed (prompt_accusation_heard s telling k u number o).state
+unfolding prompt_accusation_heard
+kept_prompt s telling k u number o overflow = kept_answered s telling k u number _ _ overflow
+
+kept_accusation_by : (profile : Profile) (s : Setup) (telling : Announce) (k : Key) (u : Update) (number : ℕ) (o : Effect) → IsOverflowed o.state
+    → IsOverflowed (accusation_by profile s telling k u number o).state
+kept_accusation_by Papers s telling k u number o overflow = kept_accusation s telling k u o overflow
+kept_accusation_by Memberlist s telling k u number o overflow = kept_accusation s telling k u o overflow
+kept_accusation_by Hashicorp s telling k u number o overflow = kept_prompt s telling k u number o overflow
+
 kept_other : (s : Setup) (telling : Announce) (k : Key) (u : Update) (held : Option (Claim × ℕ)) (o : Effect) → IsOverflowed o.state → IsOverflowed (other_applied s telling k u held o).state
 kept_other s telling k u None o overflow = kept_choice (is_heeded (profile_of s) telling u.claim) _ _ (kept_news s telling k u o overflow) overflow
 kept_other s telling k u (Some held) o overflow =
     kept_choice (does_override (profile_of s) (u.claim, u.inc) held) _ _ (kept_news s telling k u o overflow)
-    (kept_choice (is_repeated (profile_of s) u held) _ _ (kept_accusation s telling k u o overflow) overflow)
+    (kept_choice (is_repeated (profile_of s) u held) _ _ (kept_accusation_by (profile_of s) s telling k u held.1 o overflow) overflow)
 
 pub kept_applied : (s : Setup) (telling : Announce) (k : Key) (u : Update) (o : Effect) → IsOverflowed o.state → IsOverflowed (applied s telling k u o).state
 unfolding applied
@@ -288,7 +331,7 @@ pub kept_next : (s : Setup) (k : Key) (o : Effect) → IsOverflowed o.state → 
 unfolding next_probed
 kept_next s k o overflow = kept_target s k _ _ overflow
 
-kept_relay : (s : Setup) (k : Key) (seq : ℕ) (o : Effect) → IsOverflowed o.state → IsOverflowed (with_relay s k seq o).state
+pub kept_relay : (s : Setup) (k : Key) (seq : ℕ) (o : Effect) → IsOverflowed o.state → IsOverflowed (with_relay s k seq o).state
 kept_relay s k seq o overflow = kept_timer s k _ _ _ overflow
 
 -- an answer that is owed, or not
@@ -308,10 +351,15 @@ overflow_pinged s k target o p is overflow =
     kept_timer s k _ _ _
     (subst (λ (q : Probe). IsOverflowed (ping_sent s k target k.to (o.state.sequence + 1) (on_state (λ t. record t { sequence = o.state.sequence + 1; probe = Some q }) o)).state) is overflow)
 
+kept_push_begun : (profile : Profile) (s : Setup) (k : Key) (beat push : ℕ) (o : Effect) → IsOverflowed o.state → IsOverflowed (push_begun_by profile s k beat push o).state
+unfolding push_begun even_push_begun
+kept_push_begun Papers s k beat push o overflow = kept_event s k _ _ _ _ overflow
+kept_push_begun Memberlist s k beat push o overflow = kept_event s k _ _ _ _ overflow
+kept_push_begun Hashicorp s k beat push o overflow = kept_event s k _ _ _ _ overflow
+
 pub kept_first_push : (s : Setup) (k : Key) (beat : ℕ) (gossip : Option settings.Gossip) (o : Effect) → IsOverflowed o.state → IsOverflowed (first_push_set s k beat gossip o).state
-unfolding push_begun
 kept_first_push s k beat None o overflow = overflow
-kept_first_push s k beat (Some gossip) o overflow = kept_choice (nat_eq gossip.push 0) _ _ overflow (kept_event s k _ _ _ _ overflow)
+kept_first_push s k beat (Some gossip) o overflow = kept_choice (nat_eq gossip.push 0) _ _ overflow (kept_push_begun (profile_of s) s k beat gossip.push o overflow)
 
 pub kept_first_period : (s : Setup) (k : Key) (o : Effect) → IsOverflowed o.state → IsOverflowed (first_period_set s k o).state
 unfolding first_period_set
@@ -388,3 +436,67 @@ overflow_timed_pinged s k next_beat target deadline o p at is overflow =
 
 pub kept_gossip_set_again : (s : Setup) (k : Key) (o : Effect) → IsOverflowed o.state → IsOverflowed (gossip_set_again s k o).state
 kept_gossip_set_again s k o overflow = kept_choice _ _ _ overflow (kept_gossip_set s k s.gossip o overflow)
+
+-- ---- probes by memberlist 0.5.0's rules
+
+pub kept_plain_ping : (s : Setup) (k : Key) (to initiator seq : ℕ) (o : Effect) → IsOverflowed o.state → IsOverflowed (plain_ping_sent s k to initiator seq o).state
+unfolding plain_ping_sent
+kept_plain_ping s k to initiator seq o overflow = kept_sent s k _ _ _ _ _ overflow
+
+kept_lone : (s : Setup) (k : Key) (to seq : ℕ) (buddy : Option Update) (o : Effect) → IsOverflowed o.state → IsOverflowed (ping_with_lone s k to seq buddy o).state
+kept_lone s k to seq None o overflow = kept_plain_ping s k to k.to seq o overflow
+kept_lone s k to seq (Some buddy) o overflow = kept_sent s k _ _ _ _ _ overflow
+
+pub kept_probe_ping : (s : Setup) (k : Key) (to seq : ℕ) (o : Effect) → IsOverflowed o.state → IsOverflowed (probe_ping_sent s k to seq o).state
+unfolding probe_ping_sent
+kept_probe_ping s k to seq o overflow = kept_lone s k to seq _ o overflow
+
+pub kept_between_beats : (s : Setup) (k : Key) (seq deadline : ℕ) (o : Effect) → IsOverflowed o.state → IsOverflowed (deadline_between_beats s k seq deadline o).state
+kept_between_beats s k seq deadline o overflow = kept_choice (is_in_step o.state.beat s.swim.period deadline) _ _ (kept_number o.state overflow) (kept_event s k _ _ _ _ overflow)
+
+kept_both_timers : (s : Setup) (k : Key) (seq timeout deadline : ℕ) (o : Effect) → IsOverflowed o.state → IsOverflowed (both_timers_set s k seq timeout deadline o).state
+kept_both_timers s k seq timeout deadline o overflow = kept_between_beats s k seq deadline _ (kept_timer s k _ _ _ overflow)
+
+-- a probe when the sequence number stands at its limit
+pub overflow_single_probe : (s : Setup) (k : Key) (target : ℕ) (o : Effect) → 2 ^ 63 ≤ o.state.sequence → IsOverflowed (single_probe_begun s k target o).state
+unfolding single_probe_begun
+overflow_single_probe s k target o h = kept_both_timers s k _ _ _ _ (kept_probe_ping s k _ _ _ (inr (inl (omega arith))))
+
+kept_single_begun : (s : Setup) (k : Key) (target : ℕ) (o : Effect) → IsOverflowed o.state → IsOverflowed (single_probe_begun s k target o).state
+unfolding single_probe_begun
+kept_single_begun s k target o overflow =
+    kept_both_timers s k _ _ _ _
+    (kept_probe_ping s k _ _ _
+    (kept_more o.state (Some (timed_probe (o.state.sequence + 1) target (option_map_or (λ held. held.1) (get o.state.table target) 0) (k.at + scaled o.state.health s.swim.period))) overflow))
+
+kept_single_target : (s : Setup) (k : Key) (target : Option ℕ) (o : Effect) → IsOverflowed o.state → IsOverflowed (single_target_probed s k target o).state
+kept_single_target s k None o overflow = overflow
+kept_single_target s k (Some target) o overflow = kept_single_begun s k target o overflow
+
+pub kept_turn_probed : (s : Setup) (k : Key) (o : Effect) → IsOverflowed o.state → IsOverflowed (turn_probed s k o).state
+unfolding turn_probed
+kept_turn_probed s k o overflow = kept_single_target s k _ _ overflow
+
+pub kept_next_single : (s : Setup) (k : Key) (o : Effect) → IsOverflowed o.state → IsOverflowed (next_single_probed s k o).state
+unfolding next_single_probed
+kept_next_single s k o overflow = kept_turn_probed s k _ (overflow_ended s k o overflow)
+
+pub kept_if_waiting : (s : Setup) (k : Key) (o : Effect) → IsOverflowed o.state → IsOverflowed (next_if_waiting s k o).state
+kept_if_waiting s k o overflow = kept_choice o.state.waits _ _ (kept_next_single s k _ overflow) overflow
+
+kept_next_of_beat : (s : Setup) (k : Key) (o : Effect) → IsOverflowed o.state → IsOverflowed (next_of_beat s k o).state
+kept_next_of_beat s k o overflow = kept_next_single s k _ (kept_settled s k o.state.probe _ overflow)
+
+pub kept_beat_taken : (s : Setup) (k : Key) (o : Effect) → IsOverflowed o.state → IsOverflowed (single_beat_taken s k o).state
+kept_beat_taken s k o overflow = kept_choice (has_time k.at o.state.probe) _ _ overflow (kept_next_of_beat s k o overflow)
+
+-- a counter that the ping of a new probe wears
+pub overflow_single_pinged : (s : Setup) (k : Key) (target deadline : ℕ) (o : Effect) (p : Probe) → deadline ≡ k.at + scaled o.state.health s.swim.period
+    → p ≡ timed_probe (o.state.sequence + 1) target (option_map_or (λ held. held.1) (get o.state.table target) 0) deadline
+    → IsOverflowed (probe_ping_sent s k target (o.state.sequence + 1) (on_state (λ t. record t { sequence = o.state.sequence + 1; probe = Some p }) o)).state
+    → IsOverflowed (single_probe_begun s k target o).state
+unfolding single_probe_begun
+overflow_single_pinged s k target deadline o p at is overflow =
+    kept_both_timers s k _ _ _ _
+    (subst (λ (q : Probe). IsOverflowed (probe_ping_sent s k target (o.state.sequence + 1) (on_state (λ t. record t { sequence = o.state.sequence + 1; probe = Some q }) o)).state)
+    (is ∙ ap (timed_probe (o.state.sequence + 1) target (option_map_or (λ held. held.1) (get o.state.table target) 0)) at) overflow)

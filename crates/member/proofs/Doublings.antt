@@ -8,6 +8,10 @@ use Rattle.std.proofs.lemmas.Grind.{pow_more}
 use Rattle.piggyback.proofs.Tally.{count_by-cons}
 use Rattle.member.specs.Step.{doublings_to}
 
+at_most_one : (b : Bool) → cond {A = ℕ} b 1 0 ≤ 1
+at_most_one true = omega arith
+at_most_one false = omega arith
+
 -- of numbers in a row, so many first ones pass a test and no other does
 counted : (p : ℕ → Bool) (c a len : ℕ) → ((m : ℕ) → a ≤ m → m < a + c → p m ≡ true) → ((m : ℕ) → a + c ≤ m → p m ≡ false) → c ≤ len → count_by p (range_with_len a len) ≡ c
 counted p zero a zero passed others few = refl
@@ -41,6 +45,20 @@ doublings_are n d small reached before = counted (λ m. nat_lt (32 * 2 ^ m) n) d
     others m from =
         let up : d ≤ m = omega (arith, from) in
         le-ltb (32 * 2 ^ m) n (omega (arith, reached, pow_mono up))
+
+-- of numbers in a row, at most so many first ones pass a test that no other passes
+count_few : (p : ℕ → Bool) (c a len : ℕ) → ((m : ℕ) → a + c ≤ m → p m ≡ false) → count_by p (range_with_len a len) ≤ c
+count_few p c a zero others = let none : ◌≡◌ {A = ℕ} (count_by p (range_with_len a zero)) 0 = refl in omega (arith, none)
+count_few p zero a (suc len) others =
+    let none : count_by p (range_with_len a (suc len)) ≡ 0 = counted p zero a (suc len) (λ m from below. absurd (omega (arith, from, below))) others (omega arith) in
+    omega (arith, none)
+count_few p (suc c) a (suc len) others =
+    let rest = count_few p c (a + 1) len (λ m from. others m (omega (arith, from))) in
+    omega (arith, count_by-cons p a (range_with_len (a + 1) len), rest, at_most_one (p a))
+
+-- seven doublings reach 4,096 members
+pub few_doublings : (n : ℕ) → n ≤ 4096 → doublings_to n ≤ 7
+few_doublings n few = count_few (λ m. nat_lt (32 * 2 ^ m) n) 7 0 n (λ m from. le-ltb (32 * 2 ^ m) n (omega (arith, few, pow_mono from)))
 
 -- one doubling more
 pub doubled : (reached d : ℕ) → reached ≡ 32 * 2 ^ d → reached * 2 ≡ 32 * 2 ^ (d + 1)

@@ -1,5 +1,5 @@
 -- The events and the rows of a step, part by part.
-use Rattle.std.proofs.Common.{◌≡◌, ◌≢◌, ℕ, zero, suc, ◌+◌, ◌-◌, ◌*◌, ◌%◌, ◌^◌, ◌<◌, ◌≤◌, Bool, true, false, cond, not, nat_eq, nat_lt, ◌&&◌, List, [], ◌∷◌, ◌++◌, map, length, Option, Some, None, ap, ◌∙◌, sym, subst, refl, arith}
+use Rattle.std.proofs.Common.{◌≡◌, ◌≢◌, ℕ, zero, suc, ◌+◌, ◌-◌, ◌*◌, ◌%◌, ◌^◌, ◌<◌, ◌≤◌, Bool, true, false, cond, not, nat_eq, nat_lt, ◌==◌, ◌&&◌, List, [], ◌∷◌, ◌++◌, map, length, Option, Some, None, ap, ◌∙◌, sym, subst, refl, arith}
 use Rattle.std.specs.Option.{option_map, IfSome}
 use Rattle.std.specs.List.{AllByRecursion, range_with_len}
 use Rattle.std.specs.FinMap.{get}
@@ -14,8 +14,8 @@ use Rattle.base.specs.Rising.{CountsRows, UsesNumbers}
 use Rattle.base.proofs.Rising.{all_append, all_weaker, rising_append}
 use Rattle.base.specs.Beats.{next_in_step}
 use Rattle.base.specs.declared.profile.Profile.{Profile}
-use Rattle.base.specs.declared.profile.Profile.TheVariants.{Papers, Memberlist}
-use Rattle.scenario.specs.Setup.{Setup, IsSound, IsSoundGossip, link_between, contact_of, extra_of, start_of, is_cut, awake}
+use Rattle.base.specs.declared.profile.Profile.TheVariants.{Papers, Memberlist, Hashicorp}
+use Rattle.scenario.specs.Setup.{Setup, IsSound, IsSoundGossip, member_count, link_between, contact_of, extra_of, start_of, is_cut, awake}
 use Rattle.scenario.specs.Profile.{profile_of}
 use Rattle.scenario.specs.declared.settings.Gossip as settings
 use Rattle.scenario.proofs.Pauses.{is_awake_at}
@@ -33,7 +33,7 @@ use Rattle.lifeguard.specs.Health.{LocalHealth, scaled}
 use Rattle.suspicion.specs.Ranges.{AreSound}
 use Rattle.suspicion.specs.Settings.{terms_of}
 use Rattle.suspicion.specs.Suspicions.{HeldSuspicion, accused_of, answer_of as answer_to, is_due}
-use Rattle.probing.specs.ProbeOrder.{next_of}
+use Rattle.probing.specs.ProbeOrder.{round_over, next_of}
 use Rattle.suspicion.proofs.Timeouts.{min-le-timeout}
 use Rattle.member.specs.declared.member.Phase.{Phase}
 use Rattle.member.specs.declared.member.Phase.TheVariants.{Waiting, Joining, Running}
@@ -44,11 +44,18 @@ use Rattle.member.specs.declared.announce.Announce.TheVariants.{Aloud, Quietly}
 use Rattle.member.specs.Announce.{is_aloud}
 use Rattle.member.specs.State.{State, is_probed}
 use Rattle.incarnation.specs.Refutations.{does_refute}
-use Rattle.membership.specs.Table.{is_confirm, does_override, live_count}
+use Rattle.membership.specs.Table.{is_confirm, does_override, size_by, all_alive}
 use Rattle.member.specs.Effects.{Effect, on_state, unchanged, with_row, with_number, with_event, with_timer}
 use Rattle.member.specs.Send.{posted, sent, sent_off, sent_to_each, carried, gossip_sent, call_sent, answer_sent, push_sent, pull_sent, ping_sent, ping_req_sent, ack_sent, nack_sent, join_sent, join_sent_to, welcome_sent, bye_sent}
-use Rattle.member.specs.Apply.{gossip_set, with_put, passed_on, with_health, refuted, heard_dead, is_own_death, own_applied, with_told, claim_kept, without_suspicion, alive_heard, suspect_heard, death_kept, confirm_heard, claim_heard, news_heard, accusation_counted, accusation_heard, is_repeated, is_heeded, other_applied, applied, all_applied}
-use Rattle.member.specs.Step.{push_begun, first_push_set, push_period, doublings_to, pushed, first_period_set, suspected_at, timed_probe_failed, probe_settled, needs_timer, deadline_set, timed_probe_begun, timed_target_probed, next_timed_probed, waiting_probed, has_time, period_beaten, is_under_way, probed_in_turn, deadline_over, timed_answered, timed_ack_heard, sampled_help, called, timed_out_timed, answer_heard, is_told_out, gossip_spread, gossip_set_again, gossip_due, merged, push_due, push_heard, timed_handled, handled_by, began, join_asked, joining_begun, started, crashed, join_handled, joined, suspected, probe_failed, probe_ended, probe_begun, target_probed, next_probed, period_begun, help_asked, timed_out, nack_heard, ping_heard, ping_req_heard, ack_taken, ack_heard, nack_due, confirmed, suspicion_over, withdrawn, byes_said, departed, plain_handled, handled, step}
+use Rattle.member.specs.Apply.{gossip_set, with_put, passed_on, with_health, refuted, heard_dead, is_own_death, own_applied, with_told, with_claim, claim_kept, with_turn_of, newcomer_kept, claim_kept_by, without_suspicion, alive_heard, suspect_heard, death_kept, confirm_heard, claim_heard, news_heard, accusation_counted, accusation_heard, is_repeated, is_heeded, other_applied, applied, all_applied}
+use Rattle.suspicion.specs.Suspicions.{is_over_of}
+use Rattle.member.specs.LateAccusations.{death_of, accusation_answered, prompt_accusation_heard, accusation_by}
+use Rattle.member.specs.LoneBuddy.{lone_buddy_of, plain_ping_sent, ping_with_lone, probe_ping_sent}
+use Rattle.member.specs.SingleBeat.{is_in_step, deadline_between_beats, single_probe_begun, single_target_probed, turn_probed, next_single_probed, next_if_waiting, single_beat_taken, single_beaten, single_deadline_over, single_answered}
+use Rattle.member.specs.LateAcks.{ping_answered, help_asked_for, ack_passed_on, single_ack_heard, help_over}
+use Rattle.member.specs.Step.{single_handled, push_begun, even_push_begun, push_begun_by, first_push_set, push_period, doublings_to, pushed, first_period_set, suspected_at, timed_probe_failed, probe_settled, needs_timer, deadline_set, timed_probe_begun, timed_target_probed, next_timed_probed, waiting_probed, has_time, period_beaten, is_under_way, probed_in_turn, deadline_over, timed_answered, timed_ack_heard, sampled_help, called, timed_out_timed, answer_heard, is_told_out, gossip_spread, gossip_set_again, gossip_due, merged, push_due, push_heard, timed_handled, handled_by, first_others, began, join_asked, joining_begun, started, crashed, join_handled, joined, suspected, probe_failed, probe_ended, probe_begun, target_probed, next_probed, period_begun, help_asked, timed_out, nack_heard, ping_heard, ping_req_heard, ack_taken, ack_heard, nack_due, confirmed, suspicion_over, withdrawn, byes_said, departed, plain_handled, handled, step}
+use Rattle.member.specs.FirstRounds.{first_round}
+use Rattle.member.specs.Forgetting.{kept_for, is_long_dead, forgotten_if, all_forgotten, round_ended}
 use Rattle.member.specs.Places.{place_of}
 use Rattle.member.specs.Fair.{IsWellMade}
 
@@ -157,7 +164,7 @@ further now beat a b h = omega arith
 ahead : (now n r : ℕ) → r < n → now < now + n - r
 ahead now n r few = omega arith
 
-long_period : (push doublings : ℕ) → 0 < push → 0 < push * (1 + doublings)
+pub long_period : (push doublings : ℕ) → 0 < push → 0 < push * (1 + doublings)
 long_period push doublings some = omega (arith, some)
 
 length_more : (rows : List Row) (row : Row) → length (rows ++ row ∷ []) ≡ length rows + 1
@@ -359,21 +366,36 @@ module _ (s : Setup) (sound : IsSound s) (k : Key) (n : ℕ) where
   same_choice true t v number a b = a
   same_choice false t v number a b = b
 
-  fair_kept : (u : Update) (o : Effect) → IsWellMade s k n o → IsWellMade s k n (on_state (claim_kept u) o)
+  same_kept : (u : Update) (t : State) → (claim_kept u t).next_number ≡ t.next_number
   unfolding claim_kept
-  fair_kept u o fair =
-      fair_state (claim_kept u o.state) o
-      (same_choice (is_confirm u.claim) _ _ o.state.next_number refl (same_choice (is_probed (get o.state.table u.subject)) _ _ o.state.next_number refl refl)) fair
+  same_kept u t = same_choice (is_confirm u.claim) _ _ t.next_number refl (same_choice (is_probed (get t.table u.subject)) _ _ t.next_number refl refl)
+
+  same_turn : (held : Option (Claim × ℕ)) (subject : ℕ) (t : State) → (with_turn_of held subject t).next_number ≡ t.next_number
+  same_turn None subject t = refl
+  same_turn (Some held) subject t = same_choice (is_confirm held.0) _ _ t.next_number refl refl
+
+  same_newcomer : (u : Update) (t : State) → (newcomer_kept u t).next_number ≡ t.next_number
+  unfolding newcomer_kept
+  same_newcomer u t = same_choice (is_confirm u.claim) _ _ t.next_number refl (same_turn (get t.table u.subject) u.subject (with_claim u t))
+
+  same_kept_by : (profile : Profile) (u : Update) (t : State) → (claim_kept_by profile u t).next_number ≡ t.next_number
+  same_kept_by Papers u t = same_kept u t
+  same_kept_by Memberlist u t = same_kept u t
+  same_kept_by Hashicorp u t = same_newcomer u t
+
+  fair_kept : (u : Update) (o : Effect) → IsWellMade s k n o → IsWellMade s k n (on_state (claim_kept_by (profile_of s) u) o)
+  fair_kept u o fair = fair_state (claim_kept_by (profile_of s) u o.state) o (same_kept_by (profile_of s) u o.state) fair
 
   same_death : (profile : Profile) (subject now : ℕ) (t : State) → (death_kept profile subject now t).next_number ≡ t.next_number
   same_death Papers subject now t = refl
   same_death Memberlist subject now t = refl
+  same_death Hashicorp subject now t = refl
 
   fair_claim : (telling : Announce) (u : Update) (claim : Claim) (o : Effect) → IsWellMade s k n o → IsWellMade s k n (claim_heard s telling k u claim o)
   unfolding alive_heard suspect_heard confirm_heard
   fair_claim telling u Alive o fair = fair_told telling _ _ _ _ (fair_state _ o refl fair)
   fair_claim telling u Suspect o fair =
-      fair_own _ _ _ (omega (arith, min-le-timeout (terms_of s) (live_count o.state.table) 0 (terms_sound s sound))) (fair_told telling _ _ _ _ (fair_state _ o refl fair))
+      fair_own _ _ _ (omega (arith, min-le-timeout (terms_of s) (size_by (profile_of s) o.state.table) 0 (terms_sound s sound))) (fair_told telling _ _ _ _ (fair_state _ o refl fair))
   fair_claim telling u Confirm o fair = fair_told telling _ _ _ _ (fair_state _ o (same_death (profile_of s) u.subject k.at (without_suspicion u.subject o.state)) fair)
 
   fair_news : (telling : Announce) (u : Update) (o : Effect) → IsWellMade s k n o → IsWellMade s k n (news_heard s telling k u o)
@@ -389,10 +411,27 @@ module _ (s : Setup) (sound : IsSound s) (k : Key) (n : ℕ) where
   fair_accusation telling u o fair =
       fair_counted telling u (accused_of o.state.suspicions u.subject u.accuser o.state.next_number) _ (fair_state _ o refl fair)
 
+  fair_answered : (telling : Announce) (u : Update) (number : ℕ) (found : Option HeldSuspicion) (o : Effect) → IsWellMade s k n o
+      → IsWellMade s k n (accusation_answered s telling k u number (option_map (answer_to k.at) found) o)
+  fair_answered telling u number None o fair = fair
+  fair_answered telling u number (Some suspicion) o fair =
+      fair_choice (is_over_of o.state.suspicions u.subject k.at) _ _
+      (fair_news telling (death_of k.to u.subject number) _ (fair_passed_on telling u _ (fair_told telling _ _ _ o fair))) (fair_counted telling u (Some suspicion) o fair)
+
+  fair_prompt : (telling : Announce) (u : Update) (number : ℕ) (o : Effect) → IsWellMade s k n o → IsWellMade s k n (prompt_accusation_heard s telling k u number o)
+  unfolding prompt_accusation_heard
+  fair_prompt telling u number o fair =
+      fair_answered telling u number (accused_of o.state.suspicions u.subject u.accuser o.state.next_number) _ (fair_state _ o refl fair)
+
+  fair_accusation_by : (profile : Profile) (telling : Announce) (u : Update) (number : ℕ) (o : Effect) → IsWellMade s k n o → IsWellMade s k n (accusation_by profile s telling k u number o)
+  fair_accusation_by Papers telling u number o fair = fair_accusation telling u o fair
+  fair_accusation_by Memberlist telling u number o fair = fair_accusation telling u o fair
+  fair_accusation_by Hashicorp telling u number o fair = fair_prompt telling u number o fair
+
   fair_other : (telling : Announce) (u : Update) (held : Option (Claim × ℕ)) (o : Effect) → IsWellMade s k n o → IsWellMade s k n (other_applied s telling k u held o)
   fair_other telling u None o fair = fair_choice (is_heeded (profile_of s) telling u.claim) _ _ (fair_news telling u o fair) fair
   fair_other telling u (Some held) o fair =
-      fair_choice (does_override (profile_of s) (u.claim, u.inc) held) _ _ (fair_news telling u o fair) (fair_choice (is_repeated (profile_of s) u held) _ _ (fair_accusation telling u o fair) fair)
+      fair_choice (does_override (profile_of s) (u.claim, u.inc) held) _ _ (fair_news telling u o fair) (fair_choice (is_repeated (profile_of s) u held) _ _ (fair_accusation_by (profile_of s) telling u held.1 o fair) fair)
 
   fair_applied : (telling : Announce) (u : Update) (o : Effect) → IsWellMade s k n o → IsWellMade s k n (applied s telling k u o)
   unfolding applied
@@ -406,10 +445,15 @@ module _ (s : Setup) (sound : IsSound s) (k : Key) (n : ℕ) where
 
   -- ---- joins
 
+  fair_push_begun : (profile : Profile) (beat push : ℕ) (o : Effect) → k.at < beat → IsWellMade s k n o → IsWellMade s k n (push_begun_by profile s k beat push o)
+  unfolding push_begun even_push_begun
+  fair_push_begun Papers beat push o h fair = fair_own _ PushTimer _ (further k.at beat _ _ h) (fair_state _ o refl fair)
+  fair_push_begun Memberlist beat push o h fair = fair_own _ PushTimer _ (further k.at beat _ _ h) (fair_state _ o refl fair)
+  fair_push_begun Hashicorp beat push o h fair = fair_own _ PushTimer _ (further k.at beat 1 _ h) (fair_state _ o refl fair)
+
   fair_first_push : (beat : ℕ) (gossip : Option settings.Gossip) (o : Effect) → k.at < beat → IsWellMade s k n o → IsWellMade s k n (first_push_set s k beat gossip o)
-  unfolding push_begun
   fair_first_push beat None o h fair = fair
-  fair_first_push beat (Some gossip) o h fair = fair_choice (nat_eq gossip.push 0) _ _ fair (fair_own _ PushTimer _ (further k.at beat _ _ h) (fair_state _ o refl fair))
+  fair_first_push beat (Some gossip) o h fair = fair_choice (nat_eq gossip.push 0) _ _ fair (fair_push_begun (profile_of s) beat gossip.push o h fair)
 
   fair_first_period : (o : Effect) → IsWellMade s k n o → IsWellMade s k n (first_period_set s k o)
   unfolding first_period_set
@@ -419,11 +463,23 @@ module _ (s : Setup) (sound : IsSound s) (k : Key) (n : ℕ) where
   unfolding join_asked
   fair_asked_join o fair = fair_timer _ _ _ (omega (arith, sound.timeout.0, sound.timeout.1)) (fair_join o fair)
 
+  same_round : (profile : Profile) (t : State) → (first_round profile t).next_number ≡ t.next_number
+  same_round Papers t = refl
+  same_round Memberlist t = refl
+  same_round Hashicorp t = refl
+
+  fair_began : (o : Effect) → IsWellMade s k n o → IsWellMade s k n (began s k o)
+  unfolding began
+  fair_began o fair =
+      let others = first_others s k.to in
+      let t : State = record o.state { phase = Running; incarnation = 0; table = all_alive others; rota = round_over others } in
+      fair_first_period _ (fair_state (first_round (profile_of s) t) o (same_round (profile_of s) t) fair)
+
   fair_started : (o : Effect) → IsWellMade s k n o → IsWellMade s k n (started s k o)
-  unfolding started began joining_begun
+  unfolding started joining_begun
   fair_started o fair =
       let told = fair_row _ _ _ _ o fair in
-      fair_choice (nat_eq (start_of s k.to) 0) _ _ (fair_first_period _ (fair_state _ _ refl told)) (fair_asked_join _ (fair_state _ _ refl told))
+      fair_choice (nat_eq (start_of s k.to) 0) _ _ (fair_began _ told) (fair_asked_join _ (fair_state _ _ refl told))
 
   fair_crashed : (o : Effect) → IsWellMade s k n o → IsWellMade s k n (crashed k o)
   unfolding crashed
@@ -630,7 +686,7 @@ module _ (s : Setup) (sound : IsSound s) (k : Key) (n : ℕ) where
   fair_pushed : (push : ℕ) (o : Effect) → 0 < push → IsWellMade s k n o → IsWellMade s k n (pushed s k push o)
   unfolding pushed
   fair_pushed push o some fair =
-      fair_each _ fair_push _ _ (fair_timer (push_period push (live_count o.state.table)) PushTimer _ (long_period push (doublings_to (live_count o.state.table)) some) (fair_state _ o refl fair))
+      fair_each _ fair_push _ _ (fair_timer (push_period push (size_by (profile_of s) o.state.table)) PushTimer _ (long_period push (doublings_to (size_by (profile_of s) o.state.table)) some) (fair_state _ o refl fair))
 
   fair_push_due : (gossip : Option settings.Gossip) (o : Effect) → IsWellMade s k n o → IsWellMade s k n (push_due s k gossip o)
   fair_push_due None o fair = fair
@@ -682,8 +738,108 @@ module _ (s : Setup) (sound : IsSound s) (k : Key) (n : ℕ) where
   fair_timed_handled (Pull us) o fair = fair_merged us o fair
   fair_timed_handled content o fair = fair_handled content Running o fair
 
+  -- ---- by memberlist 0.5.0's rules
+
+  fair_plain_ping : (to initiator seq : ℕ) (o : Effect) → IsWellMade s k n o → IsWellMade s k n (plain_ping_sent s k to initiator seq o)
+  unfolding plain_ping_sent
+  fair_plain_ping to initiator seq o fair = fair_sent _ to seq _ _ (fair_state _ o refl fair)
+
+  fair_lone : (to seq : ℕ) (buddy : Option Update) (o : Effect) → IsWellMade s k n o → IsWellMade s k n (ping_with_lone s k to seq buddy o)
+  fair_lone to seq None o fair = fair_plain_ping to k.to seq o fair
+  fair_lone to seq (Some buddy) o fair = fair_sent _ to seq _ o fair
+
+  fair_probe_ping : (to seq : ℕ) (o : Effect) → IsWellMade s k n o → IsWellMade s k n (probe_ping_sent s k to seq o)
+  unfolding probe_ping_sent
+  fair_probe_ping to seq o fair = fair_lone to seq (lone_buddy_of s k.to to o.state) o fair
+
+  fair_between_beats : (seq deadline : ℕ) (o : Effect) → k.at < deadline → IsWellMade s k n o → IsWellMade s k n (deadline_between_beats s k seq deadline o)
+  fair_between_beats seq deadline o later fair = fair_choice (is_in_step o.state.beat s.swim.period deadline) _ _ (fair_number o fair) (fair_own deadline _ o later fair)
+
+  fair_single_begun : (target : ℕ) (o : Effect) → IsWellMade s k n o → IsWellMade s k n (single_probe_begun s k target o)
+  unfolding single_probe_begun
+  fair_single_begun target o fair =
+      fair_between_beats (o.state.sequence + 1) (k.at + scaled o.state.health s.swim.period) _ (omega (arith, sound.timeout.0, sound.timeout.1))
+      (fair_timer s.swim.timeout _ _ (omega (arith, sound.timeout.0)) (fair_probe_ping target _ _ (fair_state _ o refl fair)))
+
+  fair_single_target : (target : Option ℕ) (o : Effect) → IsWellMade s k n o → IsWellMade s k n (single_target_probed s k target o)
+  fair_single_target None o fair = fair_state _ o refl fair
+  fair_single_target (Some target) o fair = fair_single_begun target o fair
+
+  fair_forgotten_if : (member : ℕ) (held : Option (Claim × ℕ)) (o : Effect) → IsWellMade s k n o → IsWellMade s k n (forgotten_if s k member held o)
+  fair_forgotten_if member None o fair = fair
+  fair_forgotten_if member (Some held) o fair =
+      fair_choice (is_long_dead k.at (kept_for s.gossip) (o.state.since member) held.0) _ _ (fair_row _ _ _ _ _ (fair_state _ o refl fair)) fair
+
+  fair_forgotten : (count : ℕ) (o : Effect) → IsWellMade s k n o → IsWellMade s k n (all_forgotten s k count o)
+  unfolding all_forgotten
+  fair_forgotten zero o fair = fair
+  fair_forgotten (suc count) o fair = fair_forgotten_if count _ _ (fair_forgotten count o fair)
+
+  fair_round_ended : (o : Effect) → IsWellMade s k n o → IsWellMade s k n (round_ended s k o)
+  unfolding round_ended
+  fair_round_ended o fair = fair_choice (o.state.rota.mark == length o.state.rota.members) _ _ (fair_forgotten (member_count s) o fair) fair
+
+  fair_turn : (o : Effect) → IsWellMade s k n o → IsWellMade s k n (turn_probed s k o)
+  unfolding turn_probed
+  fair_turn o fair = fair_single_target (next_of o.state.words o.state.rota).0 _ (fair_state _ o refl fair)
+
+  fair_next_single : (o : Effect) → IsWellMade s k n o → IsWellMade s k n (next_single_probed s k o)
+  unfolding next_single_probed
+  fair_next_single o fair = fair_turn _ (fair_round_ended o fair)
+
+  fair_if_waiting : (o : Effect) → IsWellMade s k n o → IsWellMade s k n (next_if_waiting s k o)
+  fair_if_waiting o fair = fair_choice o.state.waits _ _ (fair_next_single _ (fair_state _ o refl fair)) fair
+
+  fair_beat_taken : (o : Effect) → IsWellMade s k n o → IsWellMade s k n (single_beat_taken s k o)
+  fair_beat_taken o fair =
+      fair_choice (has_time k.at o.state.probe) _ _ (fair_state _ o refl fair) (fair_next_single _ (fair_settled o.state.probe _ (fair_state _ o refl fair)))
+
+  fair_single_beaten : (o : Effect) → IsWellMade s k n o → IsWellMade s k n (single_beaten s k o)
+  unfolding single_beaten
+  fair_single_beaten o fair =
+      fair_beat_taken _ (fair_own _ PeriodTimer o (in_step_later o.state.beat s.swim.period (omega (arith, sound.timeout.0, sound.timeout.1))) fair)
+
+  fair_single_deadline : (seq : ℕ) (o : Effect) → IsWellMade s k n o → IsWellMade s k n (single_deadline_over s k seq o)
+  unfolding single_deadline_over
+  fair_single_deadline seq o fair = fair_choice (is_under_way seq o.state.probe) _ _ (fair_if_waiting _ (fair_settled o.state.probe o fair)) fair
+
+  fair_single_answered : (seq : ℕ) (o : Effect) → IsWellMade s k n o → IsWellMade s k n (single_answered s k seq o)
+  unfolding single_answered
+  fair_single_answered seq o fair = fair_choice (is_under_way seq o.state.probe) _ _ (fair_if_waiting _ (fair_health _ _ (fair_state _ o refl fair))) fair
+
+  fair_ping_answered : (initiator seq : ℕ) (us : List Update) (o : Effect) → IsWellMade s k n o → IsWellMade s k n (ping_answered s k initiator seq us o)
+  unfolding ping_answered
+  fair_ping_answered initiator seq us o fair = fair_all Aloud us _ (fair_ack k.from initiator seq o fair)
+
+  fair_help_asked_for : (seq target : ℕ) (us : List Update) (o : Effect) → IsWellMade s k n o → IsWellMade s k n (help_asked_for s k seq target us o)
+  unfolding help_asked_for
+  fair_help_asked_for seq target us o fair = fair_all Aloud us _ (fair_timer _ _ _ (omega arith) (fair_state _ _ refl (fair_plain_ping target k.from seq o fair)))
+
+  fair_passed_ack : (initiator seq : ℕ) (o : Effect) → IsWellMade s k n o → IsWellMade s k n (ack_passed_on s k initiator seq o)
+  fair_passed_ack initiator seq o fair = fair_choice (set.contains o.state.relays (initiator, seq)) _ _ (fair_ack initiator initiator seq _ (fair_state _ o refl fair)) fair
+
+  fair_single_ack : (initiator seq : ℕ) (us : List Update) (o : Effect) → IsWellMade s k n o → IsWellMade s k n (single_ack_heard s k initiator seq us o)
+  unfolding single_ack_heard
+  fair_single_ack initiator seq us o fair =
+      fair_all Aloud us _ (fair_choice (nat_eq initiator k.to) _ _ (fair_single_answered seq o fair) (fair_passed_ack initiator seq o fair))
+
+  fair_help_over : (initiator seq : ℕ) (o : Effect) → IsWellMade s k n o → IsWellMade s k n (help_over s k initiator seq o)
+  unfolding help_over
+  fair_help_over initiator seq o fair = fair_choice s.lifeguard.probe _ _ (fair_nack_due initiator seq o fair) (fair_state _ o refl fair)
+
+  fair_single_handled : (content : EventKind) (o : Effect) → IsWellMade s k n o → IsWellMade s k n (single_handled s k content o)
+  unfolding single_handled
+  fair_single_handled PeriodTimer o fair = fair_single_beaten o fair
+  fair_single_handled (DeadlineTimer seq) o fair = fair_single_deadline seq o fair
+  fair_single_handled (Ping initiator seq us) o fair = fair_ping_answered initiator seq us o fair
+  fair_single_handled (PingReq target seq us) o fair = fair_help_asked_for seq target us o fair
+  fair_single_handled (Ack initiator seq us) o fair = fair_single_ack initiator seq us o fair
+  fair_single_handled (NackTimer initiator seq) o fair = fair_help_over initiator seq o fair
+  fair_single_handled content o fair = fair_timed_handled content o fair
+
   fair_by : (phase : Phase) (profile : Profile) (content : EventKind) (o : Effect) → IsWellMade s k n o → IsWellMade s k n (handled_by phase profile s k content o)
   fair_by Running Memberlist content o fair = fair_timed_handled content o fair
+  fair_by Running Hashicorp content o fair = fair_single_handled content o fair
   fair_by phase profile content o fair = fair_handled content phase o fair
 
 pub fair_step : (s : Setup) → IsSound s → (k : Key) (c : EventKind) (t : State) → IsWellMade s k t.next_number (step s k c t)

@@ -12,6 +12,10 @@ use Rattle.streams.specs.Draw.{Words, AreWords, below_of}
 use Rattle.probing.specs.ProbeOrder.{ProbeOrder, IsSoundOrder, times_in, next_of, insert_of, remove_of}
 use Rattle.probing.proofs.SoundLemmas.{one_if, one_if-other}
 use Rattle.probing.proofs.RoundLemmas.{is_probe, next_sound}
+use Rattle.probing.specs.Mixed.{mixed_of}
+use Rattle.probing.proofs.MixedLemmas.{mixed_same, mixed_sound}
+use Rattle.probing.specs.Displaced.{displaced_of}
+use Rattle.probing.proofs.DisplacedLemmas.{displaced_counted}
 use Rattle.probing.proofs.OthersLemmas.{removed_absent, others_counted, remove_sound}
 use Rattle.incarnation.specs.declared.Claim.{Claim}
 use Rattle.lifeguard.specs.declared.probe.Probe.{Probe}
@@ -68,6 +72,18 @@ holds_place s m table rota probe words k there sound holds = record {
   target = holds.target;
 }
 
+-- and in another one's place of it
+pub holds_newcomer : (s : Setup) (m : ℕ) (table : Known) (rota : ProbeOrder) (probe : Option Probe) (words : Words) (k : ℕ) → AreWords words → is_probed (get table k) ≡ true
+    → IsSoundOrder (displaced_of words k rota).0 → HoldsOthers s m table rota probe → HoldsOthers s m table (displaced_of words k rota).0 probe
+holds_newcomer s m table rota probe words k fit there sound holds = record {
+  others = holds.others;
+  listed = λ q none.
+      let apart : k ≢ q = λ same. false≢true (sym none ∙ ap (λ r. is_probed (get table r)) (sym same) ∙ there) in
+      omega (arith, displaced_counted words k q rota fit holds.sound, one_if-other k q apart, holds.listed q none);
+  sound = sound;
+  target = holds.target;
+}
+
 -- a member that is confirmed is put into the table, and taken out of the rota
 pub holds_confirm : (s : Setup) (m : ℕ) (table : Known) (rota : ProbeOrder) (probe : Option Probe) (k : ℕ) (v : Held) → k < member_count s → k ≢ m
     → HoldsOthers s m table rota probe → HoldsOthers s m (insert table k v) (remove_of k rota) probe
@@ -84,6 +100,27 @@ holds_confirm s m table rota probe k v low apart holds = record {
   sound = remove_sound k rota holds.sound;
   target = holds.target;
 }
+
+-- of a member that isn't probed nothing is held any more
+left_get : (table : Known) (k q : ℕ) → get (remove table k) q ≡ cond (eqb q k) None (get table q)
+left_get table k q = get-remove nat_cmp_total table k q ∙ ap (λ b. cond b None (get table q)) (unsigned_tied q k)
+
+pub holds_forgotten : (s : Setup) (m : ℕ) (table : Known) (rota : ProbeOrder) (probe : Option Probe) (k : ℕ) → is_probed (get table k) ≡ false
+    → HoldsOthers s m table rota probe → HoldsOthers s m (remove table k) rota probe
+holds_forgotten s m table rota probe k absent holds = record {
+  others = λ q there. holds.others q (known (eqb q k) (get table q) (sym (ap is_some (left_get table k q)) ∙ there));
+  listed = λ q none. by_place q (eqb q k) refl (sym (ap is_probed (left_get table k q)) ∙ none);
+  sound = holds.sound;
+  target = holds.target;
+}
+  where
+    known : (b : Bool) (o : Option Held) → is_some (cond b None o) ≡ true → is_some o ≡ true
+    known true o there = absurd (false≢true there)
+    known false o there = there
+
+    by_place : (q : ℕ) (b : Bool) → eqb q k ≡ b → is_probed (cond b None (get table q)) ≡ false → times_in rota.members q ≡ 0
+    by_place q true e none = holds.listed q (ap (λ r. is_probed (get table r)) (eqb-true q k e) ∙ absent)
+    by_place q false e none = holds.listed q none
 
 -- another probe, of a member of the scenario, or none
 pub holds_probe : (s : Setup) (m : ℕ) (table : Known) (rota : ProbeOrder) (before after : Option Probe) → IfSome after (λ p. p.target < member_count s)
@@ -128,7 +165,17 @@ module _ (s : Setup) (m : ℕ) (table : Known) (rota : ProbeOrder) (probe : Opti
     target = holds.target;
   }
 
-  -- goes to a member of the scenario
+  -- the members in a new order
+  pub holds_mixed : HoldsOthers s m table (mixed_of words rota).0 probe
+  holds_mixed = record {
+    others = holds.others;
+    listed = λ q none.
+        omega (arith, sum_by-IsPermutation (λ (it : ℕ). one_if (it == q)) rota.members (mixed_of words rota).0.members (mixed_same words rota fit holds.sound), holds.listed q none);
+    sound = mixed_sound words rota fit holds.sound;
+    target = holds.target;
+  }
+
+  -- the next probe goes to a member of the scenario
   pub next_is_member : (target : ℕ) → (next_of words rota).0 ≡ Some target → target < member_count s
   next_is_member target is =
       elim (cases_Bool (is_probed (get table target))) [

@@ -6,6 +6,7 @@ pub mod Helpers
 pub mod Samples
 pub mod Doublings
 pub mod Openings
+pub mod ForgottenOnes
 pub mod Fair
 pub mod Buddies
 mod Groups

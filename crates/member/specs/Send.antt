@@ -5,6 +5,7 @@ use Rattle.std.specs.FinMap.{get, insert}
 use Rattle.base.specs.declared.key.Key.{Key}
 use Rattle.base.specs.Logarithm.{digit_count}
 use Rattle.scenario.specs.Setup.{Setup, contact_of}
+use Rattle.scenario.specs.Profile.{profile_of}
 use Rattle.trace.specs.declared.row.What.{What}
 use Rattle.trace.specs.declared.row.What.TheVariants as what
 use Rattle.incarnation.specs.declared.Claim.{Claim}
@@ -18,7 +19,7 @@ use Rattle.streams.specs.Draw.{Words}
 use Rattle.member.specs.declared.event_kind.EventKind.{EventKind}
 use Rattle.member.specs.declared.event_kind.EventKind.TheVariants.{Join, Welcome, Ping, PingReq, Ack, Nack, Bye, Gossip, Call, Answer, Push, Pull}
 use Rattle.member.specs.State.{State}
-use Rattle.membership.specs.Table.{Known, is_suspect, live_count, updates_by}
+use Rattle.membership.specs.Table.{Known, is_suspect, size_by, updates_by}
 use Rattle.member.specs.Effects.{Effect, on_state, with_row, with_number, with_event}
 
 -- a message arrives, or is lost: it takes a number all the same
@@ -38,9 +39,9 @@ posted s k tells to value content arrival o = told_of s k tells to value content
 abbrev pub sent : Setup → Key → What → ℕ → ℕ → EventKind → Effect → Effect
 sent s k tells to value content o = posted s k tells to value content (arrival_of s k.to to k.at o.state.words) o
 
--- An update rides on lambda messages for each digit of n, the members that are not confirmed (SWIM, section 4.1).
+-- An update rides on lambda messages for each digit of n, the cluster's members as the rules count them (SWIM, section 4.1).
 abbrev pub limit_of : Setup → State → ℕ
-limit_of s t = s.swim.lambda * digit_count (live_count t.table)
+limit_of s t = s.swim.lambda * digit_count (size_by (profile_of s) t.table)
 
 -- the updates that a message takes along, the buddy first where there is one
 abbrev pub carried : Setup → Option Update → State → List Update

@@ -1,5 +1,5 @@
 -- What a member makes of an event, by cases on the event and the member's phase (SWIM, sections 3 and 4; Lifeguard).
-use Rattle.std.specs.Prelude.{ℕ, ◌+◌, ◌*◌, ◌^◌, count_by, ◌&&◌, Bool, true, false, not, max, nat_eq, nat_lt, if◌then◌else◌, List, [], map, length, filter, Option, Some, None}
+use Rattle.std.specs.Prelude.{ℕ, ◌+◌, ◌&&◌, Bool, true, false, not, max, nat_eq, nat_lt, if◌then◌else◌, List, [], map, length, filter, Option, Some, None}
 use Rattle.std.specs.List.{range_with_len}
 use Rattle.std.specs.Option.{option_map_or}
 use Rattle.std.specs.FinMap.{get, empty, len}
@@ -14,13 +14,12 @@ use Rattle.incarnation.specs.declared.Claim.TheVariants.{Alive, Suspect, Confirm
 use Rattle.incarnation.specs.declared.Update.{Update}
 use Rattle.lifeguard.specs.declared.probe.Probe.{Probe}
 use Rattle.lifeguard.specs.Health.{lowered, scaled}
-use Rattle.lifeguard.specs.NackDelay.{nack_delay_of}
-use Rattle.lifeguard.specs.Probe.{fresh_probe, timed_probe, with_nack, with_reach, after_probe, after_deadline}
+use Rattle.lifeguard.specs.Probe.{fresh_probe, timed_probe, with_nack, with_reach, after_probe}
 use Rattle.probing.specs.ProbeOrder.{round_over, next_of, helpers_of}
 use Rattle.probing.specs.Samples.{sample_of}
 use Rattle.base.specs.Beats.{next_in_step}
 use Rattle.base.specs.declared.profile.Profile.{Profile}
-use Rattle.base.specs.declared.profile.Profile.TheVariants.{Memberlist}
+use Rattle.base.specs.declared.profile.Profile.TheVariants.{Papers, Memberlist, Hashicorp}
 use Rattle.scenario.specs.Profile.{profile_of}
 use Rattle.scenario.specs.declared.settings.Gossip as settings
 use Rattle.streams.specs.Draw.{below_of}
@@ -34,32 +33,35 @@ use Rattle.membership.specs.declared.candidates.Candidate.{Candidate}
 use Rattle.membership.specs.declared.candidates.Fitting.{Fitting}
 use Rattle.membership.specs.declared.candidates.Fitting.TheVariants.{AliveBut, Reachable}
 use Rattle.membership.specs.Candidates.{does_fit, candidates_of}
-use Rattle.membership.specs.Table.{is_alive, is_confirm, live_count, alive_but, all_alive}
+use Rattle.membership.specs.Table.{is_alive, is_confirm, size_by, alive_but, all_alive}
 use Rattle.member.specs.State.{State}
 use Rattle.member.specs.Effects.{Effect, unchanged, on_state, with_row, with_number, with_event, with_timer}
-use Rattle.member.specs.Send.{sent_to_each, ping_sent, ping_req_sent, ack_sent, nack_sent, join_sent, welcome_sent, bye_sent, gossip_sent, call_sent, answer_sent, push_sent, pull_sent}
+use Rattle.member.specs.Send.{sent_to_each, ping_sent, ping_req_sent, ack_sent, join_sent, welcome_sent, bye_sent, gossip_sent, call_sent, answer_sent, push_sent, pull_sent}
+use Rattle.member.specs.FirstRounds.{first_round}
 use Rattle.member.specs.Apply.{with_health, gossip_set, applied, all_applied}
+use Rattle.member.specs.SingleBeat.{single_beaten, single_deadline_over}
+use Rattle.member.specs.LateAcks.{ping_answered, help_asked_for, single_ack_heard, help_over}
+unfoldable pub use Rattle.member.specs.EvenPushes.{doublings_to, push_period, even_push_begun}
+unfoldable pub use Rattle.member.specs.Outcomes.{is_under_way, has_time, suspected_at, timed_probe_failed, probe_settled, with_relay, nack_due}
 
 -- ---- start, crash and join
-
--- how many doublings bring 32 to a number, if it is more
-abbrev pub doublings_to : ℕ → ℕ
-doublings_to n = count_by (λ m. nat_lt (32 * 2 ^ m) n) (range_with_len 0 n)
-
--- how often all that is known is sent to another member, in a cluster of n: one period longer for each doubling of more than 32 members
-abbrev pub push_period : ℕ → ℕ → ℕ
-push_period push n = push * (1 + doublings_to n)
 
 -- The push timer: a push period and a part of the setting that chance decides after the beat.
 unfoldable pub push_begun : Setup → Key → ℕ → ℕ → Effect → Effect
 push_begun s k beat push o =
     let drawn = below_of o.state.words push in
-    with_event s k (beat + drawn.0 + push_period push (live_count o.state.table)) k.to PushTimer (on_state (λ t. record t { words = drawn.1 }) o)
+    with_event s k (beat + drawn.0 + push_period push (size_by (profile_of s) o.state.table)) k.to PushTimer (on_state (λ t. record t { words = drawn.1 }) o)
+
+-- the push timer, by the rules of a profile
+abbrev pub push_begun_by : Profile → Setup → Key → ℕ → ℕ → Effect → Effect
+push_begun_by Papers s k beat push o = push_begun s k beat push o
+push_begun_by Memberlist s k beat push o = push_begun s k beat push o
+push_begun_by Hashicorp s k beat push o = even_push_begun s k beat push o
 
 -- the first push after a beat, where members push
 abbrev pub first_push_set : Setup → Key → ℕ → Option settings.Gossip → Effect → Effect
 first_push_set s k beat None o = o
-first_push_set s k beat (Some gossip) o = if nat_eq gossip.push 0 then o else push_begun s k beat gossip.push o
+first_push_set s k beat (Some gossip) o = if nat_eq gossip.push 0 then o else push_begun_by (profile_of s) s k beat gossip.push o
 
 -- the first period after so many ticks, at a beat, and the first push
 abbrev pub periods_set : Setup → Key → ℕ → ℕ → Effect → Effect
@@ -83,7 +85,8 @@ first_others s m = filter (is_first_other s m) (range_with_len 0 (member_count s
 unfoldable pub began : Setup → Key → Effect → Effect
 began s k o =
     let others = first_others s k.to in
-    first_period_set s k (on_state (λ t. record t { phase = Running; incarnation = 0; table = all_alive others; rota = round_over others }) o)
+    first_period_set s k (on_state (first_round (profile_of s))
+    (on_state (λ t. record t { phase = Running; incarnation = 0; table = all_alive others; rota = round_over others }) o))
 
 -- A member that joins asks its contact, and asks again after a period.
 unfoldable pub join_asked : Setup → Key → Effect → Effect
@@ -178,11 +181,6 @@ help_asked s k probe o =
     let drawn = helpers_of o.state.words s.swim.helpers (alive_but probe.target o.state.table) in
     with_expected s probe (length drawn.0) (all_asked s k probe.target probe.seq drawn.0 (on_state (λ t. record t { words = drawn.1 }) o))
 
--- whether this is the number of the probe that is under way
-abbrev pub is_under_way : ℕ → Option Probe → Bool
-is_under_way seq None = false
-is_under_way seq (Some probe) = nat_eq probe.seq seq
-
 -- The time for a direct answer is up (SWIM, section 3.1).
 unfoldable pub timed_out : Setup → Key → ℕ → Option Probe → Effect → Effect
 timed_out s k seq None o = o
@@ -209,12 +207,6 @@ nack_heard seq o = on_state (λ t. record t { probe = nacked seq t.probe }) o
 unfoldable pub ping_heard : Setup → Key → ℕ → ℕ → List Update → Effect → Effect
 ping_heard s k initiator seq updates o = ack_sent s k k.from initiator seq (all_applied s Aloud k updates o)
 
--- LHA-Probe: a helper owes the initiator an answer: the ack that it passes on, or a nack once the nack delay is over.
-abbrev pub with_relay : Setup → Key → ℕ → Effect → Effect
-with_relay s k seq o =
-    with_timer s k (nack_delay_of s.lifeguard.nack_percent s.swim.timeout) (NackTimer k.from seq)
-    (on_state (λ t. record t { relays = set.insert t.relays (k.from, seq) }) o)
-
 -- A helper pings the target on behalf of the initiator.
 unfoldable pub ping_req_heard : Setup → Key → ℕ → ℕ → List Update → Effect → Effect
 ping_req_heard s k seq target updates o =
@@ -231,13 +223,6 @@ ack_taken s k initiator seq o =
 -- An ack, after what rides on it is applied.
 unfoldable pub ack_heard : Setup → Key → ℕ → ℕ → List Update → Effect → Effect
 ack_heard s k initiator seq updates o = ack_taken s k initiator seq (all_applied s Aloud k updates o)
-
--- The target has not answered the helper in time (LHA-Probe).
-unfoldable pub nack_due : Setup → Key → ℕ → ℕ → Effect → Effect
-nack_due s k initiator seq o =
-    if set.contains o.state.relays (initiator, seq)
-    then nack_sent s k initiator seq (on_state (λ t. record t { relays = set.remove t.relays (initiator, seq) }) o)
-    else o
 
 -- ---- suspicions
 
@@ -278,26 +263,6 @@ bye_heard s k o = confirmed s k k.from (get o.state.table k.from) o
 
 -- ---- a member's own probe, by memberlist's rules
 
--- whom a failed probe suspects: the target at the number at which it was held when the probe began, if the table does not hold it as confirmed now
-abbrev pub suspected_at : Setup → Key → Probe → Option (Claim × ℕ) → Effect → Effect
-suspected_at s k probe None o = o
-suspected_at s k probe (Some held) o =
-    if is_confirm held.0 then o else applied s Aloud k (record { subject = probe.target; claim = Suspect; inc = probe.number; accuser = k.to }) o
-
--- A probe that nothing reached has failed.
-unfoldable pub timed_probe_failed : Setup → Key → Probe → Effect → Effect
-timed_probe_failed s k probe o =
-    let told = with_row k what.Fail (Some probe.target) probe.seq false o in
-    let weighed = with_health k (after_deadline told.state.health probe) told in
-    suspected_at s k probe (get weighed.state.table probe.target) weighed
-
--- A probe that is still under way ends. One that a call reached is good; else it has failed.
-unfoldable pub probe_settled : Setup → Key → Option Probe → Effect → Effect
-probe_settled s k None o = o
-probe_settled s k (Some probe) o =
-    let ended = on_state (λ t. record t { probe = None }) o in
-    if probe.reached then with_health k (after_deadline ended.state.health probe) ended else timed_probe_failed s k probe ended
-
 -- whether a probe needs a timer to end it at its deadline: not where the beat whose timer is set before it comes no later, since
 -- that beat ends the probe
 abbrev pub needs_timer : Option ℕ → ℕ → Bool
@@ -336,11 +301,6 @@ next_timed_probed s k next_beat o =
 -- handled, so that its deadline comes before the beat after that.
 abbrev pub waiting_probed : Setup → Key → Effect → Effect
 waiting_probed s k o = if o.state.waits then next_timed_probed s k None (on_state (λ t. record t { waits = false }) o) else o
-
--- whether a probe is under way whose deadline is still to come
-abbrev pub has_time : ℕ → Option Probe → Bool
-has_time now None = false
-has_time now (Some probe) = nat_lt now probe.deadline
 
 -- the probe that is under way, if there is one, ends, and the next begins
 abbrev pub next_after_settled : Setup → Key → ℕ → Effect → Effect
@@ -449,7 +409,7 @@ merged s k entries o = all_applied s Aloud k (map (merged_claim k.to) entries) o
 unfoldable pub pushed : Setup → Key → ℕ → Effect → Effect
 pushed s k push o =
     let drawn = sample_of o.state.words 1 (candidates_for k (AliveBut k.to) o.state) in
-    let set = with_timer s k (push_period push (live_count o.state.table)) PushTimer (on_state (λ t. record t { words = drawn.1 }) o) in
+    let set = with_timer s k (push_period push (size_by (profile_of s) o.state.table)) PushTimer (on_state (λ t. record t { words = drawn.1 }) o) in
     sent_to_each (push_sent s k) drawn.0 set
 
 -- where members push
@@ -514,9 +474,20 @@ timed_handled s k (Push entries) o = push_heard s k entries o
 timed_handled s k (Pull entries) o = merged s k entries o
 timed_handled s k content o = handled s k content Running o
 
+-- What memberlist 0.5.0's rules change of that.
+unfoldable pub single_handled : Setup → Key → EventKind → Effect → Effect
+single_handled s k PeriodTimer o = single_beaten s k o
+single_handled s k (DeadlineTimer seq) o = single_deadline_over s k seq o
+single_handled s k (Ping initiator seq updates) o = ping_answered s k initiator seq updates o
+single_handled s k (PingReq target seq updates) o = help_asked_for s k seq target updates o
+single_handled s k (Ack initiator seq updates) o = single_ack_heard s k initiator seq updates o
+single_handled s k (NackTimer initiator seq) o = help_over s k initiator seq o
+single_handled s k content o = timed_handled s k content o
+
 -- by whose rules the members go
 abbrev pub handled_by : Phase → Profile → Setup → Key → EventKind → Effect → Effect
 handled_by Running Memberlist s k content o = timed_handled s k content o
+handled_by Running Hashicorp s k content o = single_handled s k content o
 handled_by phase profile s k content o = handled s k content phase o
 
 unfoldable pub step : Setup → Machine State EventKind Row

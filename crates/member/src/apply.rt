@@ -150,7 +150,7 @@ impl Member {
         if does_override(profile, (update.claim, update.inc), held) {
             self.hear_news(effects, here, telling, update)
         } else if is_repeated(profile, update, held) {
-            self.hear_accusation(effects, here, telling, update)
+            self.hear_accuser(effects, here, telling, update, held.1)
         } else {
             Ok(())
         }
@@ -209,7 +209,7 @@ fn is_of_number(profile: Profile, number: u64, held: u64) -> bool
 {
     match profile {
         Profile::Papers => number == held,
-        Profile::Memberlist => number >= held,
+        Profile::Memberlist | Profile::Hashicorp => number >= held,
     }
 }
 
@@ -220,7 +220,7 @@ fn is_heeded(profile: Profile, telling: Announce, claim: Claim) -> bool
 {
     match profile {
         Profile::Papers => true,
-        Profile::Memberlist => !is_aloud(telling) || is_alive(claim),
+        Profile::Memberlist | Profile::Hashicorp => !is_aloud(telling) || is_alive(claim),
     }
 }
 

@@ -1,7 +1,10 @@
 //! How a member starts, joins the cluster and crashes: it knows all others at moment 0, or asks a contact.
 ghost use Rattle.std.specs.Prelude.{ℕ, ◌≡◌, ◌^◌, ◌<◌, ◌≤◌, ◌&&◌, not, nat_eq, ◌∷◌, ◌++◌, [], if◌then◌else◌, length, OnOk, IfOk, IfErr};
 ghost use Rattle.scenario.specs.Setup.{member_count, start_of};
+ghost use Rattle.scenario.specs.Profile.{profile_of};
 ghost use Rattle.member.specs.Makes.{AreAboutMembers, KnowsMembers, Makes};
+ghost use Rattle.member.specs.FirstRounds.{first_round};
+ghost use Rattle.member.specs.StateOf.{state_of};
 ghost use Rattle.member.specs.Step.{periods_set, first_period_set, first_others, began, join_asked, joining_begun, started, crashed, join_handled, about_others, joined};
 
 use crate::announce::Announce;
@@ -11,7 +14,7 @@ use crate::here::Here;
 use crate::member::{Member, Phase};
 use crate::opening::empty_rota;
 use crate::step_error::StepError;
-use base::{MemberId, Moment};
+use base::{MemberId, Moment, Profile};
 use incarnation::{Claim, Update};
 use membership::Table;
 use probing::Rota;
@@ -52,6 +55,19 @@ impl Member {
         self.set_first_push(effects, here, beat)
     }
 
+    /// Takes up a round where the rules of the profile have a member at its start: at the beginning of one, or somewhere
+    /// in it.
+    fn take_up_round(&mut self, here: &Here)
+        requires { KnowsMembers here.now self.old }
+        ensures taken { state_of self.new ≡ first_round (profile_of here.now.scenario.now) (state_of self.old) }
+        ensures kept { KnowsMembers here.now self.new }
+    {
+        match here.scenario.profile() {
+            Profile::Papers | Profile::Memberlist => {}
+            Profile::Hashicorp => self.rota.mix(&mut self.stream),
+        }
+    }
+
     /// A member that starts at moment 0 knows all others that do, and probes them.
     #[tactic(auto, unfolding(crate::specs::Step::began))]
     fn begin(&mut self, effects: &mut Effects, here: &Here) -> Result<(), StepError>
@@ -65,6 +81,7 @@ impl Member {
         self.incarnation = 0;
         self.table = table;
         self.rota = rota;
+        self.take_up_round(here);
         self.set_first_period(effects, here)
     }
 

@@ -5,7 +5,7 @@ ghost use Rattle.std.specs.FinMap.{get};
 ghost use Rattle.probing.specs.ProbeOrder.{remove_of};
 ghost use Rattle.scenario.specs.Profile.{profile_of};
 ghost use Rattle.member.specs.Makes.{IsMade, IsMember, KnowsMembers, Makes};
-ghost use Rattle.member.specs.Apply.{with_put, passed_on, with_told, with_claim, with_rota, with_place, claim_kept, alive_heard, suspect_heard, death_kept, confirm_heard, claim_heard, news_heard, accusation_counted, accusation_heard};
+ghost use Rattle.member.specs.Apply.{with_put, passed_on, with_told, with_claim, with_rota, with_place, claim_kept, claim_kept_by, alive_heard, suspect_heard, death_kept, confirm_heard, claim_heard, news_heard, accusation_counted, accusation_heard};
 ghost use Rattle.membership.specs.Table.{is_alive, is_confirm};
 ghost use Rattle.member.specs.State.{is_probed};
 ghost use Rattle.member.specs.StateOf.{effect_of, state_of};
@@ -40,7 +40,7 @@ impl Member {
 
     /// Passes an update on, unless the application is quiet.
     #[tactic(auto, unfolding(crate::specs::Apply::passed_on))]
-    fn pass_on(
+    pub(crate) fn pass_on(
         &mut self,
         effects: &mut Effects,
         here: &Here,
@@ -58,7 +58,7 @@ impl Member {
     }
 
     /// Writes a row about another member, unless the application is quiet.
-    fn tell(
+    pub(crate) fn tell(
         &self,
         effects: &mut Effects,
         here: &Here,
@@ -77,7 +77,7 @@ impl Member {
     }
 
     /// Keeps a claim that confirms another member, who is probed no more.
-    fn put_out(&mut self, here: &Here, update: &Update) -> Result<(), StepError>
+    pub(crate) fn put_out(&mut self, here: &Here, update: &Update) -> Result<(), StepError>
         requires known { KnowsMembers here.now self.old }
         requires member { IsMember here.now update.now.subject }
         requires other { update.now.subject ≢ here.now.key.to }
@@ -90,7 +90,7 @@ impl Member {
     }
 
     /// Keeps a claim about another member, who goes on being probed.
-    fn put_again(&mut self, here: &Here, update: &Update) -> Result<(), StepError>
+    pub(crate) fn put_again(&mut self, here: &Here, update: &Update) -> Result<(), StepError>
         requires known { KnowsMembers here.now self.old }
         requires member { IsMember here.now update.now.subject }
         requires other { update.now.subject ≢ here.now.key.to }
@@ -103,7 +103,7 @@ impl Member {
     }
 
     /// Keeps a claim about another member, who is probed from now on.
-    fn put_in(&mut self, here: &Here, update: &Update) -> Result<(), StepError>
+    pub(crate) fn put_in(&mut self, here: &Here, update: &Update) -> Result<(), StepError>
         requires known { KnowsMembers here.now self.old }
         requires member { IsMember here.now update.now.subject }
         requires other { update.now.subject ≢ here.now.key.to }
@@ -133,6 +133,20 @@ impl Member {
             self.put_again(here, update)
         } else {
             self.put_in(here, update)
+        }
+    }
+
+    /// Keeps a claim about another member, by the rules of the profile.
+    fn keep_claim_by(&mut self, here: &Here, update: &Update) -> Result<(), StepError>
+        requires known { KnowsMembers here.now self.old }
+        requires member { IsMember here.now update.now.subject }
+        requires other { update.now.subject ≢ here.now.key.to }
+        ensures made { IsMade result (state_of self.new) (claim_kept_by (profile_of here.now.scenario.now) update.now (state_of self.old)) }
+        ensures kept { OnOk result (KnowsMembers here.now self.new) }
+    {
+        match here.scenario.profile() {
+            Profile::Papers | Profile::Memberlist => self.keep_claim(here, update),
+            Profile::Hashicorp => self.keep_newcomer(here, update),
         }
     }
 
@@ -203,7 +217,7 @@ impl Member {
     {
         match here.scenario.profile() {
             Profile::Papers => Ok(()),
-            Profile::Memberlist => {
+            Profile::Memberlist | Profile::Hashicorp => {
                 self.deaths.keep(subject, here.key.at)?;
                 Ok(())
             }
@@ -266,13 +280,13 @@ impl Member {
         requires other { update.now.subject ≢ here.now.key.to }
         ensures { Makes here.now result self.old effects.old self.new effects.new (news_heard here.now.scenario.now telling here.now.key update.now) }
     {
-        self.keep_claim(here, update)?;
+        self.keep_claim_by(here, update)?;
         self.hear_claim(effects, here, telling, update)?;
         self.pass_on(effects, here, telling, update)
     }
 
     /// Reports an accusation that counts, sets the suspicion's timer again, and passes it on.
-    fn count_accusation(
+    pub(crate) fn count_accusation(
         &mut self,
         effects: &mut Effects,
         here: &Here,

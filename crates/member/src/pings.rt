@@ -34,7 +34,12 @@ impl Member {
     }
 
     /// Owes the initiator an answer, which comes before its time is up (LHA-Probe).
-    fn add_relay(&mut self, effects: &mut Effects, here: &Here, seq: u64) -> Result<(), StepError>
+    pub(crate) fn add_relay(
+        &mut self,
+        effects: &mut Effects,
+        here: &Here,
+        seq: u64,
+    ) -> Result<(), StepError>
         requires { KnowsMembers here.now self.old }
         ensures { Makes here.now result self.old effects.old self.new effects.new (with_relay here.now.scenario.now here.now.key seq) }
     {

@@ -2,13 +2,14 @@
 //! suspected; a push comes more seldom for each doubling of more than 32 members.
 ghost use Rattle.std.specs.Prelude.{◌≡◌, ◌≤◌, ◌<◌, ◌^◌, All};
 ghost use Rattle.links.specs.Trips.{kept_arrival_of};
-ghost use Rattle.membership.specs.Table.{live_count};
+ghost use Rattle.scenario.specs.Profile.{profile_of};
+ghost use Rattle.membership.specs.Table.{size_by};
 ghost use Rattle.member.specs.declared.announce.Announce.TheVariants.{Aloud};
 ghost use Rattle.member.specs.Makes.{AreAboutMembers, Draws, IsMember, KnowsMembers, Makes};
 ghost use Rattle.member.specs.Effects.{with_timer};
 ghost use Rattle.member.specs.Send.{sent_to_each, push_sent, pull_sent};
 ghost use Rattle.member.specs.Apply.{applied};
-ghost use Rattle.member.specs.Step.{doublings_to, push_period, push_begun, first_push_set, merged_claim, merged, pushed, push_due, push_heard};
+ghost use Rattle.member.specs.Step.{doublings_to, push_period, push_begun, push_begun_by, first_push_set, merged_claim, merged, pushed, push_due, push_heard};
 ghost use Rattle.member.specs.StateOf.{state_of};
 
 use crate::announce::Announce;
@@ -18,7 +19,7 @@ use crate::here::Here;
 use crate::member::Member;
 use crate::news::is_alive;
 use crate::step_error::StepError;
-use base::{MemberId, Moment};
+use base::{MemberId, Moment, Profile};
 use incarnation::{Claim, Update};
 use membership::Fitting;
 use trace::What;
@@ -108,7 +109,8 @@ impl Member {
     pub(crate) fn push_period(&self, here: &Here, push: u64) -> u64
         requires known { KnowsMembers here.now self.now }
         requires short { push ≤ 2 ^ 24 }
-        ensures value { result ≡ push_period push (live_count self.now.table) }
+        ensures value { result ≡ push_period push (size_by (profile_of here.now.scenario.now) self.now.table) }
+        ensures some { 0 < push → 0 < result }
         ensures soon { result ≤ 2 ^ 27 }
     {
         push * (1 + doublings_to(self.live_members(here)))
@@ -135,6 +137,26 @@ impl Member {
         self.make_event(effects, here, at, here.key.to, EventKind::PushTimer)
     }
 
+    /// Sets the first push timer by the rules of the profile.
+    fn begin_push_by(
+        &mut self,
+        effects: &mut Effects,
+        here: &Here,
+        beat: Moment,
+        push: u64,
+    ) -> Result<(), StepError>
+        requires early { beat ≤ 2 ^ 41 }
+        requires some { 0 < push }
+        requires short { push ≤ 2 ^ 24 }
+        requires known { KnowsMembers here.now self.old }
+        ensures { Makes here.now result self.old effects.old self.new effects.new (push_begun_by (profile_of here.now.scenario.now) here.now.scenario.now here.now.key beat push) }
+    {
+        match here.scenario.profile() {
+            Profile::Papers | Profile::Memberlist => self.begin_push(effects, here, beat, push),
+            Profile::Hashicorp => self.begin_even_push(effects, here, beat, push),
+        }
+    }
+
     /// Sets the first push timer after the beat of the periods, where members push.
     pub(crate) fn set_first_push(
         &mut self,
@@ -153,7 +175,7 @@ impl Member {
         if gossip.push == 0 {
             return Ok(());
         }
-        self.begin_push(effects, here, beat, gossip.push)
+        self.begin_push_by(effects, here, beat, gossip.push)
     }
 
     /// Sends all that is known to one who is chosen, and again after a push period.

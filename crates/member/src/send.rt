@@ -3,7 +3,8 @@
 ghost use Rattle.std.specs.Prelude.{◌≡◌, ◌<◌, ◌≤◌, OnOk, IfOk};
 ghost use Rattle.links.specs.Arrival.{arrival_of};
 ghost use Rattle.member.specs.Makes.{Draws, IsMade, IsMember, KnowsMembers, Makes};
-ghost use Rattle.membership.specs.Table.{live_count};
+ghost use Rattle.scenario.specs.Profile.{profile_of};
+ghost use Rattle.membership.specs.Table.{size_by};
 ghost use Rattle.member.specs.Send.{whole_table, sent, sent_off, told_of, carried, with_picks, buddy_of, ping_sent, ping_req_sent, ack_sent, nack_sent, join_sent, welcome_sent, bye_sent};
 ghost use Rattle.member.specs.StateOf.{state_of};
 
@@ -13,9 +14,9 @@ use crate::here::Here;
 use crate::member::Member;
 use crate::step_error::StepError;
 use crate::updates::Updates;
-use base::{MemberId, Moment, digits};
+use base::{MemberId, Moment, Profile, digits};
 use incarnation::{Claim, Update};
-use membership::is_suspect;
+use membership::{Table, is_suspect};
 use trace::What;
 
 impl Member {
@@ -91,14 +92,14 @@ impl Member {
         self.post(effects, here, what, to, value, content, arrival)
     }
 
-    /// How many members are not confirmed, oneself included.
+    /// How many members the cluster has, as the rules count them, oneself included.
     pub(crate) fn live_members(&self, here: &Here) -> u32
         requires { KnowsMembers here.now self.now }
-        ensures value { result ≡ live_count self.now.table }
+        ensures value { result ≡ size_by (profile_of here.now.scenario.now) self.now.table }
         ensures some { 1 ≤ result }
         ensures live_within { result ≤ 4096 }
     {
-        self.table.live_count() as u32
+        size_of(&self.table, here.scenario.profile()) as u32
     }
 
     /// The updates that a message takes along, the buddy first where there is one.
@@ -298,5 +299,16 @@ impl Member {
         ensures { Makes here.now result self.old effects.old self.new effects.new (bye_sent here.now.scenario.now here.now.key to) }
     {
         self.send(effects, here, What::Bye, to, 0, EventKind::Bye)
+    }
+}
+
+// How many members the rules of a profile count, oneself included: those that are not confirmed, or all that
+// are known.
+fn size_of(table: &Table, profile: Profile) -> usize
+    ensures { result ≡ size_by profile table.now }
+{
+    match profile {
+        Profile::Papers | Profile::Memberlist => table.live_count(),
+        Profile::Hashicorp => table.known_count(),
     }
 }

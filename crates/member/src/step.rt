@@ -8,7 +8,7 @@ ghost use Rattle.member.specs.Here.{IsSoundSetting, HoldsMembers};
 ghost use Rattle.member.specs.Makes.{KnowsMembers, Makes};
 ghost use Rattle.member.specs.Here.{MentionsMembers};
 ghost use Rattle.scenario.specs.Profile.{profile_of};
-ghost use Rattle.member.specs.Step.{step, handled_by, timed_handled, handled, plain_handled, probing_handled};
+ghost use Rattle.member.specs.Step.{step, handled_by, single_handled, timed_handled, handled, plain_handled, probing_handled};
 ghost use Rattle.member.specs.Steps.{Steps};
 ghost use Rattle.member.specs.StateOf.{state_of};
 ghost use Rattle.member.specs.CounterOverflow.{IsOverflowed};
@@ -166,6 +166,43 @@ impl Member {
         }
     }
 
+    /// A member that runs, by memberlist 0.5.0's rules: what they change.
+    #[tactic(auto, unfolding(crate::specs::Step::single_handled))]
+    fn handle_single(
+        &mut self,
+        effects: &mut Effects,
+        here: &Here,
+        content: &EventKind,
+    ) -> Result<(), StepError>
+        requires known { KnowsMembers here.now self.old }
+        requires names { MentionsMembers (member_count here.now.scenario.now) content.now }
+        ensures { Makes here.now result self.old effects.old self.new effects.new (single_handled here.now.scenario.now here.now.key content.now) }
+    {
+        match content {
+            EventKind::PeriodTimer => self.beat_once(effects, here),
+            EventKind::DeadlineTimer { seq } => self.end_single_deadline(effects, here, *seq),
+            EventKind::Ping {
+                initiator,
+                seq,
+                updates,
+            } => self.answer_ping(effects, here, *initiator, *seq, updates.as_slice()),
+            EventKind::PingReq {
+                target,
+                seq,
+                updates,
+            } => self.hear_help_request(effects, here, *seq, *target, updates.as_slice()),
+            EventKind::Ack {
+                initiator,
+                seq,
+                updates,
+            } => self.hear_single_ack(effects, here, *initiator, *seq, updates.as_slice()),
+            EventKind::NackTimer { initiator, seq } => self.end_help(
+                effects, here, *initiator, *seq,
+            ),
+            _ => self.handle_timed(effects, here, content),
+        }
+    }
+
     /// A member that runs, by the rules of its profile.
     fn handle_by_profile(
         &mut self,
@@ -180,6 +217,7 @@ impl Member {
         match here.scenario.profile() {
             Profile::Papers => self.handle_running(effects, here, content),
             Profile::Memberlist => self.handle_timed(effects, here, content),
+            Profile::Hashicorp => self.handle_single(effects, here, content),
         }
     }
 

@@ -76,7 +76,11 @@ impl Member {
 
     /// Ends the probe that is under way, if there is one.
     #[tactic(auto, using(crate::proofs::Holds::holds_no_probe), unfolding(crate::specs::Step::probe_settled))]
-    fn settle_probe(&mut self, effects: &mut Effects, here: &Here) -> Result<(), StepError>
+    pub(crate) fn settle_probe(
+        &mut self,
+        effects: &mut Effects,
+        here: &Here,
+    ) -> Result<(), StepError>
         requires { KnowsMembers here.now self.old }
         ensures { Makes here.now result self.old effects.old self.new effects.new (probe_settled here.now.scenario.now here.now.key (state_of self.old).probe) }
     {
@@ -121,7 +125,7 @@ impl Member {
     }
 
     /// When a probe that begins now has its deadline: after a period, as long as health makes it.
-    fn next_deadline(&self, here: &Here) -> Moment
+    pub(crate) fn next_deadline(&self, here: &Here) -> Moment
         ensures { result ≡ here.now.key.at + scaled self.now.health here.now.scenario.now.swim.period }
     {
         Moment(here.key.at.ticks() + self.health.scaled(here.scenario.period()))
@@ -351,7 +355,7 @@ fn needs_timer(next_beat: Option<Moment>, deadline: Moment) -> bool
 }
 
 // Whether a probe is under way whose deadline is still to come.
-fn has_time(now: Moment, probe: Option<Probe>) -> bool
+pub(crate) fn has_time(now: Moment, probe: Option<Probe>) -> bool
     ensures { result ≡ has_time now probe }
 {
     match probe {
@@ -361,7 +365,7 @@ fn has_time(now: Moment, probe: Option<Probe>) -> bool
 }
 
 // Whether this is the number of the probe that is under way.
-fn is_under_way(seq: u64, probe: Option<Probe>) -> bool
+pub(crate) fn is_under_way(seq: u64, probe: Option<Probe>) -> bool
     ensures { result ≡ is_under_way seq probe }
 {
     match probe {

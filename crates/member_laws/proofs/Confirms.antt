@@ -48,13 +48,14 @@ put_keeps me q i t u says h = get_put t.table u.subject q (u.claim, u.inc) ∙ p
 claimed : (me q i : ℕ) (t : State) (u : Update) → IsNews Papers me t u → FactOf (Holds q i) t → FactOf (Holds q i) (with_claim u t)
 claimed me q i t u says h = (put_keeps me q i t u says h, h.1)
 
-moves : (s : Setup) (k : Key) (q i : ℕ) → OwnMoves s k (FactOf (Holds q i))
-moves s k q i = record {
+moves : (s : Setup) → profile_of s ≡ Papers → (k : Key) (q i : ℕ) → OwnMoves s k (FactOf (Holds q i))
+moves s papers k q i = record {
   refuted = λ t claim number refutes h. h;
   weakened = λ t failures h. h;
   mended = λ t h. h;
   welcomed = λ t h. (h.0, λ is. absurd (let e = is in cc));
   downed = λ t h. (h.0, λ is. absurd (let e = is in cc));
+  forgotten = λ t who held rules here dead h. absurd (let e = sym papers ∙ rules in cc);
   began = λ t waits h. absurd (h.1 waits);
   late = λ t waits h. absurd (h.1 waits);
 }
@@ -67,5 +68,5 @@ opened s m q = get-empty nat_cmp q
 pub stays_confirmed : (s : Setup) → profile_of s ≡ Papers → (k : Key) (c : EventKind) (t : State) (q i : ℕ) → WaitsAsOpened s k.to t → get t.table q ≡ Some (Confirm, i)
     → get (step s k c t).state.table q ≡ Some (Confirm, i)
 stays_confirmed s papers k c t q i waits here =
-    (on_step s k Anyone (FactOf (Holds q i)) (keeps_news s k (Holds q i) (λ v u says h. claimed k.to q i v u (subst (λ profile. IsNews profile k.to v u) papers says) h)) (keeps_moves s k (Holds q i) (moves s k q i)) c t tt (anyone_named c)
+    (on_step s k Anyone (FactOf (Holds q i)) (keeps_news s k (Holds q i) (λ v u says h. claimed k.to q i v u (subst (λ profile. IsNews profile k.to v u) papers says) h)) (keeps_moves s k (Holds q i) (moves s papers k q i)) c t tt (anyone_named c)
     (here, λ is. false≢true (ap is_some (sym (ap (λ (t : State). get t.table q) (waits is) ∙ opened s k.to q) ∙ here)))).0

@@ -22,26 +22,30 @@ use Rattle.lifeguard.specs.Health.{LocalHealth, lowered, raised}
 use Rattle.lifeguard.specs.Relays.{relay_cmp}
 use Rattle.lifeguard.proofs.RelaySets.{relays_total}
 use Rattle.probing.specs.ProbeOrder.{ProbeOrder, insert_of, next_of, remove_of, IsSoundOrder as IsSoundOrder}
+use Rattle.probing.specs.Mixed.{mixed_of}
 use Rattle.probing.proofs.RoundLemmas.{is_probe}
+use Rattle.probing.specs.Displaced.{displaced_of}
+use Rattle.probing.proofs.MixedLemmas.{mixed_rest}
+use Rattle.probing.proofs.DisplacedLemmas.{displaced_rest}
 use Rattle.suspicion.specs.Settings.{terms_of}
 use Rattle.suspicion.specs.Suspicions.{HeldSuspicion}
 use Rattle.member.specs.declared.event_kind.EventKind.{EventKind}
 use Rattle.member.specs.declared.member.Phase.TheVariants.{Waiting}
 use Rattle.member.specs.State.{State, is_probed}
 use Rattle.base.specs.declared.profile.Profile.{Profile}
-use Rattle.base.specs.declared.profile.Profile.TheVariants.{Papers, Memberlist}
+use Rattle.base.specs.declared.profile.Profile.TheVariants.{Papers, Memberlist, Hashicorp}
 use Rattle.scenario.specs.Profile.{profile_of}
 use Rattle.membership.specs.Table.{is_suspect, is_confirm, all_alive}
 use Rattle.member.specs.Send.{limit_of}
-use Rattle.member.specs.Apply.{with_claim, with_place, claim_kept, without_suspicion, death_kept}
+use Rattle.member.specs.Apply.{with_claim, with_place, with_newcomer, with_turn_of, claim_kept, newcomer_kept, claim_kept_by, without_suspicion, death_kept}
 use Rattle.member.specs.Opening.{opening_state, opening_health}
 use Rattle.member.specs.Step.{step, first_others}
-use Rattle.member_laws.specs.Words.{holds, is_live, IsConsistent, IsAmongMembers, SendsOfMembers, ProbesAMember}
+use Rattle.member_laws.specs.Words.{has_relays, holds, is_live, IsConsistent, IsAmongMembers, SendsOfMembers, ProbesAMember}
 use Rattle.member_laws.proofs.Moves.{IsNews, Begins, NewsMoves, Moves, at_once, at_late}
 use Rattle.member.proofs.Members.{few_members}
 use Rattle.member_laws.proofs.Walk.{on_any_step, NamesOnly}
 use Rattle.member_laws.proofs.Carried.{all_put, all_left}
-use Rattle.member_laws.proofs.Tables.{HoldsOthers, others_put, SuspectsAlike, suspected, cleared, accusation, ProbesAlike, next_probes, placed, stays_probed, taken_out, first_known, first_suspected, first_probed, none_known, none_suspects, none_probed, known_held}
+use Rattle.member_laws.proofs.Tables.{HoldsOthers, others_put, others_left, SuspectsAlike, suspects_left, probes_left, suspected, cleared, accusation, ProbesAlike, next_probes, mixed_probes, placed, displaced, stays_probed, taken_out, first_known, first_suspected, first_probed, none_known, none_suspects, none_probed, known_held}
 
 -- ---- health
 
@@ -69,7 +73,7 @@ pub record Keeps (s : Setup) (m : ℕ) (t : State) : Type 0 where
   pub suspects : SuspectsAlike t.table t.suspicions (terms_of s)
   pub probes : ProbesAlike t.table t.rota
   pub health : IsHealthy (opening_health s).ceiling t.health
-  pub relays : s.lifeguard.probe ≡ false → (relay : ℕ × ℕ) → set.contains t.relays relay ≡ false
+  pub relays : has_relays s ≡ false → (relay : ℕ × ℕ) → set.contains t.relays relay ≡ false
   pub words : AreWords t.words
   pub buffer : SendsOfMembers s t
   pub target : ProbesAMember s t
@@ -80,6 +84,19 @@ inserted words member order = below_rest words (length order.members + 1)
 
 next_rest : (words : Words) (order : ProbeOrder) → AreWords words → IsSoundOrder order → IsRestOf words (next_of words order).2
 next_rest words order fit sound = (is_probe words order fit sound).rest
+
+-- whether what is held of a member holds it as live
+abbrev live_held : Option (Claim × ℕ) → Bool
+live_held held = option_map_or (λ (held : Claim × ℕ). is_live held.0) held false
+
+-- and as suspected
+abbrev suspect_held : Option (Claim × ℕ) → Bool
+suspect_held held = option_map_or (λ (held : Claim × ℕ). is_suspect held.0) held false
+
+no_suspect : (c : Claim) → is_confirm c ≡ true → is_suspect c ≡ false
+no_suspect Alive h = absurd (false≢true h)
+no_suspect Suspect h = absurd (false≢true h)
+no_suspect Confirm h = refl
 
 -- who is probed is held as live
 probed_live : (held : Option (Claim × ℕ)) → is_probed held ≡ option_map_or (λ (held : Claim × ℕ). is_live held.0) held false
@@ -100,35 +117,80 @@ module _ (s : Setup) (sound : IsSound s) (k : Key) where
   Named q = q < member_count s
 
   -- the rota and the words after a claim that does not confirm is kept
+  not_confirm : (c : Claim) → is_live c ≡ true → is_confirm c ≡ false
+  not_confirm Alive h = refl
+  not_confirm Suspect h = refl
+  not_confirm Confirm h = absurd (false≢true h)
+
+  confirms_not : (c : Claim) → is_confirm c ≡ false → is_live c ≡ true
+  confirms_not Alive h = refl
+  confirms_not Suspect h = refl
+  confirms_not Confirm h = absurd (false≢true (sym h))
+
+  confirms : (c : Claim) → is_confirm c ≡ true → is_live c ≡ false
+  confirms Alive h = absurd (false≢true h)
+  confirms Suspect h = absurd (false≢true h)
+  confirms Confirm h = refl
+
+  -- what may come of it: the subject stays in the rota, comes to a drawn place, or takes the place of another
+  module _ (t : State) (u : Update) (named : Named u.subject) (live : is_live u.claim ≡ true) (fit : AreWords t.words) (probes : ProbesAlike t.table t.rota)
+      (P : State → Type 0) (plain : AreWords t.words → ProbesAlike (insert t.table u.subject (u.claim, u.inc)) t.rota → P (with_claim u t))
+      (place : AreWords (insert_of t.words u.subject t.rota).1 → ProbesAlike (insert t.table u.subject (u.claim, u.inc)) (insert_of t.words u.subject t.rota).0 → P (with_place u.subject (with_claim u t)))
+      (new : AreWords (displaced_of t.words u.subject t.rota).1 → ProbesAlike (insert t.table u.subject (u.claim, u.inc)) (displaced_of t.words u.subject t.rota).0 → P (with_newcomer u.subject (with_claim u t))) where
+    stays : holds is_live t.table u.subject ≡ true → P (with_claim u t)
+    stays was = plain fit (stays_probed t.table t.rota u.subject (u.claim, u.inc) was live probes)
+
+    comes : holds is_live t.table u.subject ≡ false → P (with_place u.subject (with_claim u t))
+    comes none =
+        place (rest_fits t.words (insert_of t.words u.subject t.rota).1 fit (inserted t.words u.subject t.rota))
+        (placed t.table t.rota t.words u.subject (u.claim, u.inc) fit (let few = few_members s sound in omega arith) none live probes)
+
+    takes : holds is_live t.table u.subject ≡ false → P (with_newcomer u.subject (with_claim u t))
+    takes none =
+        new (rest_fits t.words (displaced_of t.words u.subject t.rota).1 fit (displaced_rest t.words u.subject t.rota))
+        (displaced t.table t.rota t.words u.subject (u.claim, u.inc) fit (let few = few_members s sound in omega arith) none live probes)
+
+    by_turn : (b : Bool) → is_probed (get t.table u.subject) ≡ b → P (cond b (with_claim u t) (with_place u.subject (with_claim u t)))
+    by_turn true was = stays (sym (probed_live (get t.table u.subject)) ∙ was)
+    by_turn false was = comes (sym (probed_live (get t.table u.subject)) ∙ was)
+
+    by_held : (held : Claim × ℕ) (b : Bool) → get t.table u.subject ≡ Some held → is_confirm held.0 ≡ b → P (cond b (with_place u.subject (with_claim u t)) (with_claim u t))
+    by_held held true here is = comes (ap live_held here ∙ confirms held.0 is)
+    by_held held false here is = stays (ap live_held here ∙ confirms_not held.0 is)
+
+    by_known : (held : Option (Claim × ℕ)) → get t.table u.subject ≡ held → P (with_turn_of held u.subject (with_claim u t))
+    by_known None none = takes (ap live_held none)
+    by_known (Some held) here = by_held held (is_confirm held.0) here refl
+
+    by_claim : (out turn : State) (b : Bool) → b ≡ false → P turn → P (cond b out turn)
+    by_claim out turn true is h = absurd (false≢true (sym is))
+    by_claim out turn false is h = h
+
+    claimed_by : (profile : Profile) → P (claim_kept_by profile u t)
+    unfolding claim_kept newcomer_kept
+    claimed_by Papers = by_claim _ _ (is_confirm u.claim) (not_confirm u.claim live) (by_turn (is_probed (get t.table u.subject)) refl)
+    claimed_by Memberlist = by_claim _ _ (is_confirm u.claim) (not_confirm u.claim live) (by_turn (is_probed (get t.table u.subject)) refl)
+    claimed_by Hashicorp = by_claim _ _ (is_confirm u.claim) (not_confirm u.claim live) (by_known (get t.table u.subject) refl)
+
   claimed : (t : State) (u : Update) → Named u.subject → is_live u.claim ≡ true → AreWords t.words → ProbesAlike t.table t.rota
       → (P : State → Type 0) → (AreWords t.words → ProbesAlike (insert t.table u.subject (u.claim, u.inc)) t.rota → P (with_claim u t))
       → (AreWords (insert_of t.words u.subject t.rota).1 → ProbesAlike (insert t.table u.subject (u.claim, u.inc)) (insert_of t.words u.subject t.rota).0 → P (with_place u.subject (with_claim u t)))
-      → P (claim_kept u t)
-  unfolding claim_kept
-  claimed t u named live fit probes P plain place = by_claim (is_confirm u.claim) (not_confirm u.claim live)
+      → (AreWords (displaced_of t.words u.subject t.rota).1 → ProbesAlike (insert t.table u.subject (u.claim, u.inc)) (displaced_of t.words u.subject t.rota).0 → P (with_newcomer u.subject (with_claim u t)))
+      → P (claim_kept_by (profile_of s) u t)
+  claimed t u named live fit probes P plain place new = claimed_by t u named live fit probes P plain place new (profile_of s)
+
+  claimed_confirm : (t : State) (u : Update) (P : State → Type 0) → u.claim ≡ Confirm → P (record (with_claim u t) { rota = remove_of u.subject t.rota }) → P (claim_kept_by (profile_of s) u t)
+  unfolding claim_kept newcomer_kept
+  claimed_confirm t u P e out = by_profile (profile_of s)
     where
-      not_confirm : (c : Claim) → is_live c ≡ true → is_confirm c ≡ false
-      not_confirm Alive h = refl
-      not_confirm Suspect h = refl
-      not_confirm Confirm h = absurd (false≢true h)
+      by_out : (turn : State) (b : Bool) → b ≡ true → P (cond b (record (with_claim u t) { rota = remove_of u.subject t.rota }) turn)
+      by_out turn true is = out
+      by_out turn false is = absurd (false≢true is)
 
-      by_turn : (b : Bool) → is_probed (get t.table u.subject) ≡ b → P (cond b (with_claim u t) (with_place u.subject (with_claim u t)))
-      by_turn true was = plain fit (stays_probed t.table t.rota u.subject (u.claim, u.inc) (sym (probed_live (get t.table u.subject)) ∙ was) live probes)
-      by_turn false was =
-          place (rest_fits t.words (insert_of t.words u.subject t.rota).1 fit (inserted t.words u.subject t.rota))
-          (placed t.table t.rota t.words u.subject (u.claim, u.inc) fit (let few = few_members s sound in omega arith) (sym (probed_live (get t.table u.subject)) ∙ was) live probes)
-
-      by_claim : (b : Bool) → b ≡ false → P (cond b (record (with_claim u t) { rota = remove_of u.subject t.rota }) (cond (is_probed (get t.table u.subject)) (with_claim u t) (with_place u.subject (with_claim u t))))
-      by_claim true is = absurd (false≢true (sym is))
-      by_claim false is = by_turn (is_probed (get t.table u.subject)) refl
-
-  claimed_confirm : (t : State) (u : Update) (P : State → Type 0) → u.claim ≡ Confirm → P (record (with_claim u t) { rota = remove_of u.subject t.rota }) → P (claim_kept u t)
-  unfolding claim_kept
-  claimed_confirm t u P e out = by_claim (is_confirm u.claim) (ap is_confirm e)
-    where
-      by_claim : (b : Bool) → b ≡ true → P (cond b (record (with_claim u t) { rota = remove_of u.subject t.rota }) (cond (is_probed (get t.table u.subject)) (with_claim u t) (with_place u.subject (with_claim u t))))
-      by_claim true is = out
-      by_claim false is = absurd (false≢true is)
+      by_profile : (profile : Profile) → P (claim_kept_by profile u t)
+      by_profile Papers = by_out _ (is_confirm u.claim) (ap is_confirm e)
+      by_profile Memberlist = by_out _ (is_confirm u.claim) (ap is_confirm e)
+      by_profile Hashicorp = by_out _ (is_confirm u.claim) (ap is_confirm e)
 
   put_others : (t : State) (u : Update) → Named u.subject → IsNews (profile_of s) k.to t u → Keeps s k.to t → HoldsOthers (member_count s) k.to (insert t.table u.subject (u.claim, u.inc))
   put_others t u named says h = others_put (member_count s) k.to t.table u.subject (u.claim, u.inc) named says.other h.others
@@ -136,28 +198,31 @@ module _ (s : Setup) (sound : IsSound s) (k : Key) where
   with_death : (profile : Profile) (subject now : ℕ) (t : State) → Keeps s k.to t → Keeps s k.to (death_kept profile subject now t)
   with_death Papers subject now t h = h
   with_death Memberlist subject now t h = record { up = h.up; others = h.others; suspects = h.suspects; probes = h.probes; health = h.health; relays = h.relays; words = h.words; buffer = h.buffer; target = h.target }
+  with_death Hashicorp subject now t h = record { up = h.up; others = h.others; suspects = h.suspects; probes = h.probes; health = h.health; relays = h.relays; words = h.words; buffer = h.buffer; target = h.target }
 
   -- with the rest of the words and of the rota
   put_alive : (t : State) (u : Update) → Named u.subject → IsNews (profile_of s) k.to t u → u.claim ≡ Alive → Keeps s k.to t
-      → Keeps s k.to (record (claim_kept u t) { suspicions = remove (claim_kept u t).suspicions u.subject })
+      → Keeps s k.to (record (claim_kept_by (profile_of s) u t) { suspicions = remove (claim_kept_by (profile_of s) u t).suspicions u.subject })
   put_alive t u named says e h =
       let suspects = cleared t.table t.suspicions (terms_of s) u.subject (u.claim, u.inc) (ap is_suspect e) h.suspects in
       claimed t u named (ap is_live e) h.words h.probes
       (λ v. Keeps s k.to (record v { suspicions = remove v.suspicions u.subject }))
       (λ fit probes. record { up = h.up; others = put_others t u named says h; suspects = suspects; probes = probes; health = h.health; relays = h.relays; words = fit; buffer = h.buffer; target = h.target })
       (λ fit probes. record { up = h.up; others = put_others t u named says h; suspects = suspects; probes = probes; health = h.health; relays = h.relays; words = fit; buffer = h.buffer; target = h.target })
+      (λ fit probes. record { up = h.up; others = put_others t u named says h; suspects = suspects; probes = probes; health = h.health; relays = h.relays; words = fit; buffer = h.buffer; target = h.target })
 
-  put_suspect : (t : State) (u : Update) (x : HeldSuspicion) → Named u.subject → IsNews (profile_of s) k.to t u → u.claim ≡ Suspect → Begins s k (claim_kept u t) x → Keeps s k.to t
-      → Keeps s k.to (record (claim_kept u t) { suspicions = insert (claim_kept u t).suspicions u.subject x })
+  put_suspect : (t : State) (u : Update) (x : HeldSuspicion) → Named u.subject → IsNews (profile_of s) k.to t u → u.claim ≡ Suspect → Begins s k (claim_kept_by (profile_of s) u t) x → Keeps s k.to t
+      → Keeps s k.to (record (claim_kept_by (profile_of s) u t) { suspicions = insert (claim_kept_by (profile_of s) u t).suspicions u.subject x })
   put_suspect t u x named says e begins h =
       let suspects = suspected t.table t.suspicions (terms_of s) u.subject (u.claim, u.inc) x (ap is_suspect e) begins.terms h.suspects in
       claimed t u named (ap is_live e) h.words h.probes
       (λ v. Keeps s k.to (record v { suspicions = insert v.suspicions u.subject x }))
       (λ fit probes. record { up = h.up; others = put_others t u named says h; suspects = suspects; probes = probes; health = h.health; relays = h.relays; words = fit; buffer = h.buffer; target = h.target })
       (λ fit probes. record { up = h.up; others = put_others t u named says h; suspects = suspects; probes = probes; health = h.health; relays = h.relays; words = fit; buffer = h.buffer; target = h.target })
+      (λ fit probes. record { up = h.up; others = put_others t u named says h; suspects = suspects; probes = probes; health = h.health; relays = h.relays; words = fit; buffer = h.buffer; target = h.target })
 
   put_confirm : (t : State) (u : Update) → Named u.subject → IsNews (profile_of s) k.to t u → u.claim ≡ Confirm → Keeps s k.to t
-      → Keeps s k.to (death_kept (profile_of s) u.subject k.at (without_suspicion u.subject (claim_kept u t)))
+      → Keeps s k.to (death_kept (profile_of s) u.subject k.at (without_suspicion u.subject (claim_kept_by (profile_of s) u t)))
   put_confirm t u named says e h =
       claimed_confirm t u (λ v. Keeps s k.to (death_kept (profile_of s) u.subject k.at (without_suspicion u.subject v))) e
       (with_death (profile_of s) u.subject k.at (without_suspicion u.subject (record (with_claim u t) { rota = remove_of u.subject t.rota })) (record {
@@ -213,6 +278,28 @@ module _ (s : Setup) (sound : IsSound s) (k : Key) where
       health = h.health;
       relays = h.relays;
       words = rest_fits t.words (next_of t.words t.rota).2 h.words (next_rest t.words t.rota h.words h.probes.sound);
+      buffer = h.buffer;
+      target = h.target;
+    };
+    forgotten = λ t q held rules here dead h. record {
+      up = h.up;
+      others = others_left (member_count s) k.to t.table q h.others;
+      suspects = suspects_left t.table t.suspicions (terms_of s) q (ap suspect_held here ∙ no_suspect held.0 dead) h.suspects;
+      probes = probes_left t.table t.rota q (ap live_held here ∙ confirms held.0 dead) h.probes;
+      health = h.health;
+      relays = h.relays;
+      words = h.words;
+      buffer = h.buffer;
+      target = h.target;
+    };
+    mixed = λ t h. record {
+      up = h.up;
+      others = h.others;
+      suspects = h.suspects;
+      probes = mixed_probes t.table t.rota t.words h.words h.probes;
+      health = h.health;
+      relays = h.relays;
+      words = rest_fits t.words (mixed_of t.words t.rota).1 h.words (mixed_rest t.words t.rota);
       buffer = h.buffer;
       target = h.target;
     };

@@ -1,10 +1,10 @@
 -- By memberlist's rules a beat ends a probe at its deadline, so that a timer for it would do nothing.
-use Rattle.std.proofs.Common.{◌≡◌, ℕ, ◌+◌, ◌-◌, ◌*◌, ◌%◌, ◌≤◌, Bool, true, false, cond, Option, Some, None, refl, ap, ◌∙◌, arith}
-use Rattle.std.proofs.lemmas.Bool.{ne_eqb, le-ltb, ltb-false}
+use Rattle.std.proofs.Common.{◌≡◌, ℕ, ◌+◌, ◌-◌, ◌*◌, ◌%◌, ◌<◌, ◌≤◌, Bool, true, false, cond, Option, Some, None, refl, ap, ◌∙◌, arith}
+use Rattle.std.proofs.lemmas.Bool.{eqb-true, ne_eqb, le-ltb, ltb-false}
 use Rattle.base.specs.Beats.{next_in_step}
 use Rattle.base.specs.declared.key.Key.{Key}
 use Rattle.base.specs.declared.profile.Profile.{Profile}
-use Rattle.base.specs.declared.profile.Profile.TheVariants.{Papers, Memberlist}
+use Rattle.base.specs.declared.profile.Profile.TheVariants.{Papers, Memberlist, Hashicorp}
 use Rattle.scenario.specs.Setup.{Setup}
 use Rattle.scenario.specs.Profile.{profile_of}
 use Rattle.incarnation.specs.declared.Update.{Update}
@@ -14,14 +14,18 @@ use Rattle.probing.specs.ProbeOrder.{next_of}
 use Rattle.member.specs.declared.member.Phase.{Phase}
 use Rattle.member.specs.declared.member.Phase.TheVariants.{Waiting, Joining, Running, Down}
 use Rattle.member.specs.declared.event_kind.EventKind.{EventKind}
-use Rattle.member.specs.declared.event_kind.EventKind.TheVariants.{PeriodTimer, DeadlineTimer}
+use Rattle.member.specs.declared.event_kind.EventKind.TheVariants.{PeriodTimer, TimeoutTimer, DeadlineTimer}
 use Rattle.member.specs.State.{State}
-use Rattle.member.specs.Effects.{Effect, unchanged, with_row, with_number, with_event, with_timer}
+use Rattle.member.specs.Effects.{Effect, unchanged, on_state, with_row, with_number, with_event, with_timer}
 use Rattle.member.specs.Send.{sent_off, posted, ping_sent}
-use Rattle.member.specs.Apply.{claim_kept, without_suspicion}
-use Rattle.member.specs.Step.{probe_settled, needs_timer, probe_timers_set, timed_probe_begun, timed_target_probed, next_timed_probed, has_time, probed_in_turn, period_beaten, is_under_way, deadline_over, plain_handled, handled, timed_handled, handled_by, step}
+use Rattle.member.specs.Apply.{claim_kept_by, without_suspicion}
+use Rattle.member.specs.LoneBuddy.{lone_buddy_of, plain_ping_sent, ping_with_lone, probe_ping_sent}
+use Rattle.member.specs.Forgetting.{round_ended}
+use Rattle.member.specs.SingleBeat.{is_in_step, both_timers_set, single_probe_begun, single_target_probed, turn_probed, next_single_probed, single_beat_taken, single_beaten, single_deadline_over}
+use Rattle.base.proofs.InStep.{is_next}
+use Rattle.member.specs.Step.{single_handled, probe_settled, needs_timer, probe_timers_set, timed_probe_begun, timed_target_probed, next_timed_probed, has_time, probed_in_turn, period_beaten, is_under_way, deadline_over, plain_handled, handled, timed_handled, handled_by, step}
 use Rattle.member_laws.proofs.Moves.{NewsMoves, Moves, Anyone, kept_either, death_either}
-use Rattle.member_laws.proofs.Walk.{on_settled}
+use Rattle.member_laws.proofs.Walk.{on_settled, on_round_ended}
 
 -- ---- the number of the last probe never falls
 
@@ -29,8 +33,8 @@ module _ (s : Setup) (k : Key) (n : ℕ) where
   abbrev IsFrom : State → Type 0
   IsFrom t = n ≤ t.sequence
 
-  kept_from : (t : State) (u : Update) → IsFrom t → IsFrom (claim_kept u t)
-  kept_from t u h = kept_either IsFrom u t h h h
+  kept_from : (t : State) (u : Update) → IsFrom t → IsFrom (claim_kept_by (profile_of s) u t)
+  kept_from t u h = kept_either IsFrom (profile_of s) u t h h h h
 
   news : NewsMoves s k Anyone IsFrom
   news = record {
@@ -38,7 +42,7 @@ module _ (s : Setup) (k : Key) (n : ℕ) where
     put = λ t u named h. h;
     alive = λ t u named says is h. kept_from t u h;
     suspect = λ t u x named says is begins h. kept_from t u h;
-    confirm = λ t u named says is h. death_either IsFrom (profile_of s) u.subject k.at (without_suspicion u.subject (claim_kept u t)) (kept_from t u h) (kept_from t u h);
+    confirm = λ t u named says is h. death_either IsFrom (profile_of s) u.subject k.at (without_suspicion u.subject (claim_kept_by (profile_of s) u t)) (kept_from t u h) (kept_from t u h);
     accused = λ t u h. h;
     gossiping = λ t set h. h;
   }
@@ -53,6 +57,8 @@ module _ (s : Setup) (k : Key) (n : ℕ) where
     targets = λ t target h is. tt;
     probing = λ t seq probe up aim h. omega (arith, up, h);
     turned = λ t h. h;
+    forgotten = λ t q held rules here dead h. h;
+    mixed = λ t h. h;
     relay_added = λ t relay on h. h;
     relay_removed = λ t relay h. h;
     waiting = λ t waits h. h;
@@ -125,6 +131,63 @@ module _ (s : Setup) (k : Key) where
   unfolding period_beaten with_event
   beat_over probe o here due known = turn_over _ probe _ here due known
 
+  -- ---- and by memberlist 0.5.0's rules
+
+  lone_probe : (to seq : ℕ) (buddy : Option Update) (o : Effect) → (ping_with_lone s k to seq buddy o).state.probe ≡ o.state.probe
+  unfolding plain_ping_sent posted with_row
+  lone_probe to seq None o = off_probe to _ _ _
+  lone_probe to seq (Some buddy) o = off_probe to _ _ _
+
+  probe_ping_probe : (to seq : ℕ) (o : Effect) → (probe_ping_sent s k to seq o).state.probe ≡ o.state.probe
+  unfolding probe_ping_sent
+  probe_ping_probe to seq o = lone_probe to seq (lone_buddy_of s k.to to o.state) o
+
+  both_probe : (seq timeout deadline : ℕ) (o : Effect) → (both_timers_set s k seq timeout deadline o).state.probe ≡ o.state.probe
+  unfolding with_timer with_number
+  both_probe seq timeout deadline o =
+      let timed = event_probe _ k.to _ o in
+      either_probe (is_in_step (with_timer s k timeout (TimeoutTimer seq) o).state.beat s.swim.period deadline) _ _ o.state.probe timed (event_probe deadline k.to (DeadlineTimer seq) _ ∙ timed)
+
+  single_begun_over : (n target : ℕ) (o : Effect) → n ≤ o.state.sequence → is_under_way n (single_probe_begun s k target o).state.probe ≡ false
+  unfolding single_probe_begun
+  single_begun_over n target o h =
+      ap (is_under_way n) (both_probe _ _ _ _ ∙ probe_ping_probe target _ _) ∙ ne_eqb (o.state.sequence + 1) n (λ same. omega (arith, same, h))
+
+  single_target_over : (n : ℕ) (target : Option ℕ) (o : Effect) → n ≤ o.state.sequence → is_under_way n (single_target_probed s k target o).state.probe ≡ false
+  single_target_over n None o h = refl
+  single_target_over n (Some target) o h = single_begun_over n target o h
+
+  turned_over : (n : ℕ) (o : Effect) → n ≤ o.state.sequence → is_under_way n (turn_probed s k o).state.probe ≡ false
+  unfolding turn_probed
+  turned_over n o h = single_target_over n (next_of o.state.words o.state.rota).0 _ h
+
+  next_single_over : (n : ℕ) (o : Effect) → n ≤ o.state.sequence → is_under_way n (next_single_probed s k o).state.probe ≡ false
+  unfolding next_single_probed
+  next_single_over n o h = turned_over n (round_ended s k o) (on_round_ended s k Anyone (IsFrom s k n) (news s k n) (moves s k n) (λ t q held here dead r. r) o h)
+
+  taken_over : (probe : Probe) (o : Effect) → o.state.probe ≡ Some probe → probe.deadline ≤ k.at → probe.seq ≤ o.state.sequence
+      → is_under_way probe.seq (single_beat_taken s k o).state.probe ≡ false
+  taken_over probe o here due known =
+      let free : Effect = on_state (λ t. record t { waits = false }) o in
+      over_otherwise probe.seq (has_time k.at o.state.probe) _ _ (ap (has_time k.at) here ∙ le-ltb k.at probe.deadline due)
+      (next_single_over probe.seq (probe_settled s k o.state.probe free) (settled_from s k probe.seq o.state.probe free known))
+
+  single_beat_over : (probe : Probe) (o : Effect) → o.state.probe ≡ Some probe → probe.deadline ≤ k.at → probe.seq ≤ o.state.sequence
+      → is_under_way probe.seq (single_beaten s k o).state.probe ≡ false
+  unfolding single_beaten with_event
+  single_beat_over probe o here due known = taken_over probe (with_event s k (next_in_step o.state.beat s.swim.period k.at) k.to PeriodTimer o) here due known
+
+pub ended_by_single : (s : Setup) (k : Key) (probe : Probe) (t : State) → profile_of s ≡ Hashicorp → t.phase ≡ Running → t.probe ≡ Some probe → probe.deadline ≤ k.at → probe.seq ≤ t.sequence
+    → is_under_way probe.seq (step s k PeriodTimer t).state.probe ≡ false
+unfolding step single_handled
+ended_by_single s k probe t rules runs here due known =
+    let after : Phase → Profile → Bool = λ phase profile. is_under_way probe.seq (handled_by phase profile s k PeriodTimer (unchanged t)).state.probe in
+    ap (λ phase. after phase (profile_of s)) runs ∙ ap (after Running) rules ∙ single_beat_over s k probe (unchanged t) here due known
+
+-- a deadline in step with the beat comes no sooner than the next period timer
+pub spared_in_step : (beat period now deadline : ℕ) → 0 < period → now < deadline → is_in_step beat period deadline ≡ true → next_in_step beat period now ≤ deadline
+spared_in_step beat period now deadline some later in_step = (is_next beat period now some).least deadline later (eqb-true (deadline % period) (beat % period) in_step)
+
 pub ended_step : (s : Setup) (k : Key) (probe : Probe) (t : State) → profile_of s ≡ Memberlist → t.phase ≡ Running → t.probe ≡ Some probe → probe.deadline ≤ k.at → probe.seq ≤ t.sequence
     → is_under_way probe.seq (step s k PeriodTimer t).state.probe ≡ false
 unfolding step timed_handled
@@ -139,11 +202,12 @@ otherwise true o p is = absurd (let e = is in cc)
 otherwise false o p is = refl
 
 idle : (s : Setup) (k : Key) (seq : ℕ) (phase : Phase) (profile : Profile) (o : Effect) → is_under_way seq o.state.probe ≡ false → handled_by phase profile s k (DeadlineTimer seq) o ≡ o
-unfolding timed_handled deadline_over handled plain_handled
+unfolding single_handled single_deadline_over timed_handled deadline_over handled plain_handled
 idle s k seq Waiting profile o other = refl
 idle s k seq Joining profile o other = refl
 idle s k seq Running Papers o other = refl
 idle s k seq Running Memberlist o other = otherwise (is_under_way seq o.state.probe) _ o other
+idle s k seq Running Hashicorp o other = otherwise (is_under_way seq o.state.probe) _ o other
 idle s k seq Down profile o other = refl
 
 pub idle_step : (s : Setup) (k : Key) (seq : ℕ) (t : State) → is_under_way seq t.probe ≡ false → step s k (DeadlineTimer seq) t ≡ unchanged t

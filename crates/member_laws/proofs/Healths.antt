@@ -31,6 +31,7 @@ module _ (s : Setup) (k : Key) (P : LocalHealth → Type 0) (weakens : (h : Loca
         mended = λ t h. mends t.health h;
         welcomed = λ t h. h;
         downed = λ t h. h;
+        forgotten = λ t q held rules here dead h. h;
         began = λ t waits h. h;
         late = λ t waits h. h;
       }
@@ -58,6 +59,7 @@ up_moves s k = record {
   mended = λ t h. h;
   welcomed = λ t h is. absurd (let e = is in cc);
   downed = λ t h is. absurd (let e = is in cc);
+  forgotten = λ t q held rules here dead h. h;
   began = λ t waits h. absurd (h waits);
   late = λ t waits h. absurd (h waits);
 }

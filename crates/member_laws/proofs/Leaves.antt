@@ -82,8 +82,8 @@ plain_tells what.Leave h = absurd h
 plain_tells what.Bye h = absurd h
 plain_tells _ h = tt
 
-may_tell : MayTell (FactOf Whatever) ⊥ TellsOfNone
-may_tell = record { plain = plain_tells; nacks = λ t relay r here. tt; accuses = λ t u x r here. tt; healths = λ t h r r' differs. tt }
+may_tell : (s : Setup) → MayTell s (FactOf Whatever) ⊥ TellsOfNone
+may_tell s = record { plain = plain_tells; nacks = λ t relay r here sends. tt; accuses = λ t u x r here. tt; healths = λ t h r r' differs. tt }
 
 no_leave : (tells : What) → TellsOfNone tells → tells ≢ what.Leave
 no_leave tells none is = subst TellsOfNone is none
@@ -102,6 +102,7 @@ module _ (s : Setup) (k : Key) where
     mended = λ t h. tt;
     welcomed = λ t h. tt;
     downed = λ t h. tt;
+    forgotten = λ t q held rules here dead h. tt;
     began = λ t waits h. tt;
     late = λ t waits h. tt;
   }
@@ -118,7 +119,7 @@ module _ (s : Setup) (k : Key) where
   -- what is made of an event that is neither leave nor bye is neither too
   stays_step : (c : EventKind) (t : State) → Stays c → AllByRecursion (λ e. Stays e.1) (step s k c t).events
   stays_step c t stays =
-      by_step s k Anyone (FactOf Whatever) news (keeps_moves s k Whatever own_moves) ⊥ AnyRow (any_row (FactOf Whatever) ⊥) (carries_anyone s k (FactOf Whatever))
+      by_step s k Anyone (FactOf Whatever) news (keeps_moves s k Whatever own_moves) ⊥ AnyRow (any_row s (FactOf Whatever) ⊥) (carries_anyone s k (FactOf Whatever))
       AnyTime (any_time s k (FactOf Whatever)) AllStay makes c t tt stays (λ _. tt) (λ _. tt) (λ _. tt) tt
 
   tells : Makes s k Anyone ⊥ TellsOfNone AnyTime AllTellOfNone
@@ -133,7 +134,7 @@ module _ (s : Setup) (k : Key) where
   -- and no row records one
   tells_step : (c : EventKind) (t : State) → Stays c → AllByRecursion (λ row. TellsOfNone row.what) (step s k c t).rows
   tells_step c t stays =
-      by_step s k Anyone (FactOf Whatever) news (keeps_moves s k Whatever own_moves) ⊥ TellsOfNone may_tell (carries_anyone s k (FactOf Whatever))
+      by_step s k Anyone (FactOf Whatever) news (keeps_moves s k Whatever own_moves) ⊥ TellsOfNone (may_tell s) (carries_anyone s k (FactOf Whatever))
       AnyTime (any_time s k (FactOf Whatever)) AllTellOfNone tells c t tt stays (λ _. tt) (λ _. tt) (λ _. tt) tt
 
 -- ---- the opening world

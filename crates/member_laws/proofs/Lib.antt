@@ -1,4 +1,5 @@
 pub mod Moves
+pub mod LateDeaths
 pub mod Rests
 pub mod Walk
 pub mod Silence
@@ -8,6 +9,7 @@ pub mod Revivals
 pub mod Tables
 pub mod Consistency
 pub mod Healths
+pub mod Forgotten
 pub mod Made
 pub mod Switches
 pub mod Runs

@@ -1,13 +1,13 @@
 -- The events and rows of which each step makes its own: what each of them keeps of an effect, every step keeps.
 use Rattle.std.specs.List.{AllByRecursion}
 use Rattle.streams.proofs.PlaceLemmas.{shuffle_rest, below_rest}
-use Rattle.std.proofs.Common.{◌≡◌, ℕ, ◌+◌, Bool, true, false, cond, not, max, nat_eq, nat_lt, ◌-◌, ◌&&◌, List, [], ◌∷◌, map, length, Option, Some, None, option_map, refl, ◌∙◌, arith}
+use Rattle.std.proofs.Common.{◌≡◌, ℕ, zero, suc, ◌+◌, ◌==◌, Bool, true, false, cond, not, max, nat_eq, nat_lt, ◌-◌, ◌&&◌, List, [], ◌∷◌, map, length, Option, Some, None, option_map, refl, sym, ap, ◌∙◌, arith}
 use Rattle.std.specs.Option.{is_none, option_map_or, IfSome}
 use Rattle.std.specs.FinMap.{get, insert}
 use Rattle.std.specs.FinSet as set
-use Rattle.std.proofs.lemmas.Bool.{eqb-false}
+use Rattle.std.proofs.lemmas.Bool.{eqb-false, false≢true}
 use Rattle.base.specs.declared.key.Key.{Key}
-use Rattle.scenario.specs.Setup.{Setup, start_of, contact_of}
+use Rattle.scenario.specs.Setup.{Setup, member_count, start_of, contact_of}
 use Rattle.trace.specs.declared.row.What.{What}
 use Rattle.trace.specs.declared.row.What.TheVariants as what
 use Rattle.streams.specs.Draw.{Words, below_of, IsRestOf}
@@ -34,21 +34,33 @@ use Rattle.member.specs.Announce.{is_aloud}
 use Rattle.member.specs.State.{State}
 use Rattle.base.specs.Beats.{next_in_step}
 use Rattle.base.specs.declared.profile.Profile.{Profile}
-use Rattle.base.specs.declared.profile.Profile.TheVariants.{Papers, Memberlist}
+use Rattle.base.specs.declared.profile.Profile.TheVariants.{Papers, Memberlist, Hashicorp}
 use Rattle.scenario.specs.Profile.{profile_of}
 use Rattle.scenario.specs.declared.settings.Gossip as settings
 use Rattle.incarnation.specs.Refutations.{does_refute}
 use Rattle.membership.specs.declared.candidates.Fitting.{Fitting}
 use Rattle.membership.specs.declared.candidates.Fitting.TheVariants.{AliveBut, Reachable}
 use Rattle.probing.specs.Samples.{sample_of}
-use Rattle.membership.specs.Table.{is_confirm, does_override, live_count, alive_but}
+use Rattle.membership.specs.Table.{is_confirm, does_override, size_by, alive_but}
 use Rattle.member.specs.Send.{whole_table, carried, sent_off, posted, sent, gossip_sent, call_sent, answer_sent, push_sent, pull_sent, sent_to_each, with_picks, buddy_of, ping_sent, ping_req_sent, ack_sent, nack_sent, join_sent_to, join_sent, welcome_sent, bye_sent}
 use Rattle.member.specs.Effects.{Effect, unchanged, on_state, with_row, with_number, with_event, with_timer}
-use Rattle.member.specs.Apply.{gossip_set, with_put, with_health, with_told, passed_on, own_claim, refuted, heard_dead, is_own_death, own_applied, suspicion_begun, claim_kept, without_suspicion, alive_heard, suspect_heard, death_kept, confirm_heard, claim_heard, news_heard, accusation_counted, accusation_heard, is_repeated, is_heeded, other_applied, applied, all_applied}
-use Rattle.member.specs.Step.{push_begun, first_push_set, push_period, suspected_at, timed_probe_failed, probe_settled, needs_timer, timed_probe_begun, timed_target_probed, next_timed_probed, waiting_probed, has_time, probed_in_turn, period_beaten, is_under_way, deadline_over, timed_answered, timed_ack_heard, candidates_for, sampled_help, helped, called, timed_out_timed, answer_heard, is_told_out, gossip_spread, gossip_round, gossip_due, merged_claim, merged, pushed, push_due, push_heard, timed_handled, handled_by, about_others, first_period_set, began, join_asked, joining_begun, started, crashed, join_handled, joined, suspected, probe_failed, probe_ended, probe_begun, target_probed, next_probed, period_begun, with_expected, help_asked, timed_out, nack_heard, answered, ping_heard, with_relay, ping_req_heard, ack_taken, ack_heard, nack_due, confirmed, suspicion_over, withdrawn, byes_said, departed, plain_handled, handled, step}
+use Rattle.member.specs.Apply.{gossip_set, with_put, with_health, with_told, passed_on, own_claim, refuted, heard_dead, is_own_death, own_applied, suspicion_begun, claim_kept_by, without_suspicion, alive_heard, suspect_heard, death_kept, confirm_heard, claim_heard, news_heard, accusation_counted, accusation_heard, is_repeated, is_heeded, other_applied, applied, all_applied}
+use Rattle.member.specs.Forgetting.{without_entry, kept_for, is_long_dead, forgotten_if, all_forgotten, round_ended}
+use Rattle.member.specs.FirstRounds.{first_round}
+use Rattle.member.specs.Step.{push_begun, even_push_begun, push_begun_by, first_push_set, push_period, suspected_at, timed_probe_failed, probe_settled, needs_timer, timed_probe_begun, timed_target_probed, next_timed_probed, waiting_probed, has_time, probed_in_turn, period_beaten, is_under_way, deadline_over, timed_answered, timed_ack_heard, candidates_for, sampled_help, helped, called, timed_out_timed, answer_heard, is_told_out, gossip_spread, gossip_round, gossip_due, merged_claim, merged, pushed, push_due, push_heard, timed_handled, handled_by, about_others, first_period_set, began, join_asked, joining_begun, started, crashed, join_handled, joined, suspected, probe_failed, probe_ended, probe_begun, target_probed, next_probed, period_begun, with_expected, help_asked, timed_out, nack_heard, answered, ping_heard, with_relay, ping_req_heard, ack_taken, ack_heard, nack_due, confirmed, suspicion_over, withdrawn, byes_said, departed, plain_handled, handled, step}
+use Rattle.suspicion.specs.Suspicions.{is_over_of}
+use Rattle.suspicion.specs.declared.suspicions.Accused.{Accused}
+use Rattle.membership.specs.Table.{is_suspect}
+use Rattle.member.specs.LateAccusations.{death_of, accused_confirmed, accusation_answered, prompt_accusation_heard, accusation_by}
+use Rattle.member.specs.LoneBuddy.{lone_buddy_of, plain_ping_sent, ping_with_lone, probe_ping_sent}
+use Rattle.member.specs.SingleBeat.{single_probe_begun, single_target_probed, turn_probed, next_single_probed, next_if_waiting, single_beat_taken, single_beaten, single_deadline_over, single_answered}
+use Rattle.member.specs.LateAcks.{ping_answered, help_given, help_asked_for, ack_passed_on, single_ack_taken, single_ack_heard, help_over}
+use Rattle.member.specs.Step.{single_handled}
+use Rattle.member_laws.specs.Words.{has_relays, keeps_relays}
+use Rattle.member_laws.proofs.LateDeaths.{repeated_suspect, death_after, lone_about}
 use Rattle.member_laws.proofs.Moves.{IsNews, NewsMoves, Moves, at_once, at_late, kept_either, death_either}
 use Rattle.member_laws.proofs.Rests.{sample_rest}
-use Rattle.member_laws.proofs.Walk.{AllNamed, on_row, on_health, on_applied, on_all, on_ended, on_next, on_ping, on_ping_req, on_bye, on_gossip, on_push_sent, on_pull, on_event, on_timer, on_weighed, on_settled, on_helped, merged_named, no_target, NamesOnly, one_target}
+use Rattle.member_laws.proofs.Walk.{always_relays, on_told, on_passed, on_first_round, on_forgotten, on_round_ended, on_help_given, on_single_ack_taken, on_ack, AllNamed, on_row, on_health, on_applied, on_all, on_ended, on_next, on_ping, on_ping_req, on_bye, on_gossip, on_push_sent, on_pull, on_event, on_timer, on_weighed, on_settled, on_helped, merged_named, no_target, NamesOnly, one_target}
 
 -- ---- the parts
 
@@ -61,10 +73,25 @@ IsPlain SomeLeave what.Leave = SomeLeave
 IsPlain SomeLeave what.Bye = SomeLeave
 IsPlain SomeLeave _ = Unit {0}
 
+-- a helper that keeps in mind whom it helps sends nacks: where it does so in any case, LHA-Probe says whether
+abbrev pub SendsNacks : Setup → Type 0
+SendsNacks s = keeps_relays (profile_of s) ≡ true → s.lifeguard.probe ≡ true
+
+-- which a nack timer asks for, at a member that runs
+abbrev pub MaySendWhileRunning : Setup → EventKind → Type 0
+MaySendWhileRunning s (NackTimer initiator seq) = SendsNacks s
+MaySendWhileRunning s _ = Unit {0}
+
+abbrev pub NackMaySend : Setup → Phase → EventKind → Type 0
+NackMaySend s Waiting content = Unit {0}
+NackMaySend s Joining content = Unit {0}
+NackMaySend s Running content = MaySendWhileRunning s content
+NackMaySend s Down content = Unit {0}
+
 -- which rows may be written, in states of which a fact holds
-pub record MayTell (R : State → Type 0) (SomeLeave : Type 0) (Tells : What → Type 0) : Type 0 where
+pub record MayTell (s : Setup) (R : State → Type 0) (SomeLeave : Type 0) (Tells : What → Type 0) : Type 0 where
   pub plain : (tells : What) → IsPlain SomeLeave tells → Tells tells
-  pub nacks : (t : State) (relay : ℕ × ℕ) → R t → set.contains t.relays relay ≡ true → Tells what.Nack
+  pub nacks : (t : State) (relay : ℕ × ℕ) → R t → set.contains t.relays relay ≡ true → SendsNacks s → Tells what.Nack
   pub accuses : (t : State) (u : Update) (x : HeldSuspicion) → R t → accused_of t.suspicions u.subject u.accuser t.next_number ≡ Some x → Tells what.Accuse
   pub healths : (t : State) (h : LocalHealth) → R t → R (record t { health = h }) → nat_eq h.counter t.health.counter ≡ false → Tells what.Health
 
@@ -90,10 +117,11 @@ pub record Times (s : Setup) (k : Key) (Timed : ℕ → Type 0) (R : State → T
   pub plain_timeout : Timed (k.at + s.swim.timeout)
   pub beat : (beat : ℕ) → Timed (next_in_step beat s.swim.period k.at)
   pub gossip_timer : (gossip : settings.Gossip) → s.gossip ≡ Some gossip → (beat : ℕ) → Timed (next_in_step beat gossip.interval k.at)
-  pub first_push : (gossip : settings.Gossip) → s.gossip ≡ Some gossip → nat_eq gossip.push 0 ≡ false → (t v : State) → R t → R v → Timed (k.at + (1 + (below_of t.words s.swim.spread).0) + (below_of v.words gossip.push).0 + push_period gossip.push (live_count v.table))
-  pub push_timer : (gossip : settings.Gossip) → s.gossip ≡ Some gossip → (t : State) → R t → Timed (k.at + push_period gossip.push (live_count t.table))
+  pub first_push : (gossip : settings.Gossip) → s.gossip ≡ Some gossip → nat_eq gossip.push 0 ≡ false → (t v : State) → R t → R v → Timed (k.at + (1 + (below_of t.words s.swim.spread).0) + (below_of v.words gossip.push).0 + push_period gossip.push (size_by (profile_of s) v.table))
+  pub even_push : (gossip : settings.Gossip) → s.gossip ≡ Some gossip → nat_eq gossip.push 0 ≡ false → (t v : State) → R t → R v → Timed (k.at + (1 + (below_of t.words s.swim.spread).0) + 1 + (below_of v.words (push_period gossip.push (size_by (profile_of s) v.table))).0)
+  pub push_timer : (gossip : settings.Gossip) → s.gossip ≡ Some gossip → (t : State) → R t → Timed (k.at + push_period gossip.push (size_by (profile_of s) t.table))
   pub nack_timer : Timed (k.at + nack_delay_of s.lifeguard.nack_percent s.swim.timeout)
-  pub suspicion_timer : (t : State) → R t → Timed (k.at + timeout (terms_of s) (live_count t.table) 0)
+  pub suspicion_timer : (t : State) → R t → Timed (k.at + timeout (terms_of s) (size_by (profile_of s) t.table) 0)
   pub accusation_timer : (t : State) (u : Update) (x : HeldSuspicion) → R t → accused_of t.suspicions u.subject u.accuser t.next_number ≡ Some x → Timed (due_of x k.at)
 
 -- no moment is left out
@@ -114,6 +142,7 @@ any_time s k R = record {
   beat = λ beat. tt;
   gossip_timer = λ gossip is beat. tt;
   first_push = λ gossip is some t v r r'. tt;
+  even_push = λ gossip is some t v r r'. tt;
   push_timer = λ gossip is t r. tt;
   nack_timer = tt;
   suspicion_timer = λ t r. tt;
@@ -137,14 +166,19 @@ runs is = absurd (let e = is in cc)
 joins : ¬ (Joining ≡ Waiting)
 joins is = absurd (let e = is in cc)
 
-kept_number : (u : Update) (t : State) → (claim_kept u t).next_number ≡ t.next_number
-kept_number u t = kept_either (λ v. v.next_number ≡ t.next_number) u t refl refl refl
+kept_number : (profile : Profile) (u : Update) (t : State) → (claim_kept_by profile u t).next_number ≡ t.next_number
+kept_number profile u t = kept_either (λ v. v.next_number ≡ t.next_number) profile u t refl refl refl refl
+
+round_number : (profile : Profile) (t : State) → (first_round profile t).next_number ≡ t.next_number
+round_number Papers t = refl
+round_number Memberlist t = refl
+round_number Hashicorp t = refl
 
 death_number : (profile : Profile) (subject now : ℕ) (t : State) → (death_kept profile subject now t).next_number ≡ t.next_number
 death_number profile subject now t = death_either (λ v. v.next_number ≡ t.next_number) profile subject now t refl refl
 
 module _ (s : Setup) (k : Key) (Named : ℕ → Type 0) (R : State → Type 0) (news : NewsMoves s k Named R) (moves : Moves s k Named R)
-    (SomeLeave : Type 0) (Tells : What → Type 0) (may : MayTell R SomeLeave Tells) (carries : Carries s k Named R)
+    (SomeLeave : Type 0) (Tells : What → Type 0) (may : MayTell s R SomeLeave Tells) (carries : Carries s k Named R)
     (Timed : ℕ → Type 0) (times : Times s k Timed R) (P : Effect → Type 0) (makes : Makes s k Named SomeLeave Tells Timed P) where
   by_either : (b : Bool) (o p : Effect) → (b ≡ true → P o) → (b ≡ false → P p) → P (cond b o p)
   by_either true o p a b = a refl
@@ -280,16 +314,16 @@ module _ (s : Setup) (k : Key) (Named : ℕ → Type 0) (R : State → Type 0) (
       (λ _. makes.row _ (Some k.to) number false _ (may.plain _ tt) moves.own (makes.state _ o refl h)) (λ _. h))
 
   by_claim : (telling : Announce) (u : Update) (claim : Claim) (o : Effect) → Named u.subject → IsNews (profile_of s) k.to o.state u → u.claim ≡ claim → R o.state → P o
-      → P (claim_heard s telling k u claim (on_state (claim_kept u) o))
+      → P (claim_heard s telling k u claim (on_state (claim_kept_by (profile_of s) u) o))
   unfolding alive_heard suspect_heard confirm_heard
-  by_claim telling u Alive o named says e r h = by_told telling _ u.subject u.inc _ (may.plain _ tt) named (makes.state _ o (kept_number u o.state) h)
+  by_claim telling u Alive o named says e r h = by_told telling _ u.subject u.inc _ (may.plain _ tt) named (makes.state _ o (kept_number (profile_of s) u o.state) h)
   by_claim telling u Suspect o named says e r h =
-      let begun = suspicion_begun s k u (claim_kept u o.state) in
+      let begun = suspicion_begun s k u (claim_kept_by (profile_of s) u o.state) in
       let there = news.suspect o.state u begun named says e (record { terms = refl; since = refl; members = refl }) r in
-      makes.event _ k.to (SuspicionTimer u.subject) _ (times.suspicion_timer (record (claim_kept u o.state) { suspicions = insert (claim_kept u o.state).suspicions u.subject begun }) there) moves.own tt
-      (by_told telling _ u.subject u.inc _ (may.plain _ tt) named (makes.state _ o (kept_number u o.state) h))
+      makes.event _ k.to (SuspicionTimer u.subject) _ (times.suspicion_timer (record (claim_kept_by (profile_of s) u o.state) { suspicions = insert (claim_kept_by (profile_of s) u o.state).suspicions u.subject begun }) there) moves.own tt
+      (by_told telling _ u.subject u.inc _ (may.plain _ tt) named (makes.state _ o (kept_number (profile_of s) u o.state) h))
   by_claim telling u Confirm o named says e r h =
-      by_told telling _ u.subject u.inc _ (may.plain _ tt) named (makes.state _ o (death_number (profile_of s) u.subject k.at (without_suspicion u.subject (claim_kept u o.state)) ∙ kept_number u o.state) h)
+      by_told telling _ u.subject u.inc _ (may.plain _ tt) named (makes.state _ o (death_number (profile_of s) u.subject k.at (without_suspicion u.subject (claim_kept_by (profile_of s) u o.state)) ∙ kept_number (profile_of s) u o.state) h)
 
   by_news : (telling : Announce) (u : Update) (o : Effect) → Named u.subject → IsNews (profile_of s) k.to o.state u → R o.state → P o → P (news_heard s telling k u o)
   unfolding news_heard
@@ -306,13 +340,44 @@ module _ (s : Setup) (k : Key) (Named : ℕ → Type 0) (R : State → Type 0) (
       by_counted telling u (accused_of o.state.suspicions u.subject u.accuser o.state.next_number) _
       (λ x is. may.accuses o.state u x r is) (λ x is. times.accusation_timer o.state u x r is) named (makes.state _ o refl h)
 
+  by_accused_confirmed : (telling : Announce) (u : Update) (held : Claim × ℕ) (accused : Accused) (o : Effect) → Tells what.Accuse → Named u.subject → ¬ (u.subject ≡ k.to)
+      → get o.state.table u.subject ≡ Some held → is_suspect held.0 ≡ true → R o.state → P o → P (accused_confirmed s telling k u held.1 accused o)
+  by_accused_confirmed telling u held accused o told named other here suspected r h =
+      let row = with_told telling k what.Accuse u.subject accused.count o in
+      by_news telling (death_of k.to u.subject held.1) (passed_on s k telling u row) named
+      (record { other = other; news = death_after s (profile_of s) k telling what.Accuse u held accused.count o here suspected })
+      (on_passed s k Named R news telling u row named (on_told s k Named R news telling what.Accuse u.subject accused.count o r))
+      (by_passed telling u row (by_told telling what.Accuse u.subject accused.count o told named h))
+
+  by_accusation_answered : (telling : Announce) (u : Update) (held : Claim × ℕ) (accused : Option HeldSuspicion) (o : Effect) → ((x : HeldSuspicion) → accused ≡ Some x → Tells what.Accuse)
+      → ((x : HeldSuspicion) → accused ≡ Some x → Timed (due_of x k.at)) → Named u.subject → ¬ (u.subject ≡ k.to) → get o.state.table u.subject ≡ Some held → is_suspect held.0 ≡ true → R o.state → P o
+      → P (accusation_answered s telling k u held.1 (option_map (answer_to k.at) accused) o)
+  by_accusation_answered telling u held None o told timed named other here suspected r h = h
+  by_accusation_answered telling u held (Some x) o told timed named other here suspected r h =
+      by_either (is_over_of o.state.suspicions u.subject k.at) (accused_confirmed s telling k u held.1 (answer_to k.at x) o) (accusation_counted s telling k u (Some (answer_to k.at x)) o)
+      (λ _. by_accused_confirmed telling u held (answer_to k.at x) o (told x refl) named other here suspected r h) (λ _. by_counted telling u (Some x) o told timed named h)
+
+  by_prompt : (telling : Announce) (u : Update) (held : Claim × ℕ) (o : Effect) → Named u.subject → ¬ (u.subject ≡ k.to) → get o.state.table u.subject ≡ Some held → is_suspect held.0 ≡ true
+      → R o.state → P o → P (prompt_accusation_heard s telling k u held.1 o)
+  unfolding prompt_accusation_heard
+  by_prompt telling u held o named other here suspected r h =
+      by_accusation_answered telling u held (accused_of o.state.suspicions u.subject u.accuser o.state.next_number) _
+      (λ x is. may.accuses o.state u x r is) (λ x is. times.accusation_timer o.state u x r is) named other here suspected (news.accused o.state u r) (makes.state _ o refl h)
+
+  by_accusation_by : (profile : Profile) (telling : Announce) (u : Update) (held : Claim × ℕ) (o : Effect) → Named u.subject → ¬ (u.subject ≡ k.to) → get o.state.table u.subject ≡ Some held
+      → is_suspect held.0 ≡ true → R o.state → P o → P (accusation_by profile s telling k u held.1 o)
+  by_accusation_by Papers telling u held o named other here suspected r h = by_accusation telling u o named r h
+  by_accusation_by Memberlist telling u held o named other here suspected r h = by_accusation telling u o named r h
+  by_accusation_by Hashicorp telling u held o named other here suspected r h = by_prompt telling u held o named other here suspected r h
+
   by_other : (telling : Announce) (u : Update) (held : Option (Claim × ℕ)) (o : Effect) → Named u.subject → ¬ (u.subject ≡ k.to) → get o.state.table u.subject ≡ held → R o.state → P o → P (other_applied s telling k u held o)
   by_other telling u None o named other none r h =
       by_either (is_heeded (profile_of s) telling u.claim) (news_heard s telling k u o) o (λ _. by_news telling u o named (record { other = other; news = rw none refl }) r h) (λ _. h)
   by_other telling u (Some held) o named other here r h =
-      by_either (does_override (profile_of s) (u.claim, u.inc) held) (news_heard s telling k u o) (cond (is_repeated (profile_of s) u held) (accusation_heard s telling k u o) o)
+      by_either (does_override (profile_of s) (u.claim, u.inc) held) (news_heard s telling k u o) (cond (is_repeated (profile_of s) u held) (accusation_by (profile_of s) s telling k u held.1 o) o)
       (λ e. by_news telling u o named (record { other = other; news = rw here e }) r h)
-      (λ _. by_either (is_repeated (profile_of s) u held) (accusation_heard s telling k u o) o (λ _. by_accusation telling u o named r h) (λ _. h))
+      (λ _. by_either (is_repeated (profile_of s) u held) (accusation_by (profile_of s) s telling k u held.1 o) o
+      (λ e. by_accusation_by (profile_of s) telling u held o named other here (repeated_suspect (profile_of s) u held e) r h) (λ _. h))
 
   by_applied : (telling : Announce) (u : Update) (o : Effect) → Named u.subject → R o.state → P o → P (applied s telling k u o)
   unfolding applied
@@ -327,13 +392,17 @@ module _ (s : Setup) (k : Key) (Named : ℕ → Type 0) (R : State → Type 0) (
 
   -- ---- start, crash and join
 
+  by_push_begun : (profile : Profile) (t : State) (gossip : settings.Gossip) (o : Effect) → s.gossip ≡ Some gossip → nat_eq gossip.push 0 ≡ false → R t → R o.state → P o
+      → P (push_begun_by profile s k (k.at + (1 + (below_of t.words s.swim.spread).0)) gossip.push o)
+  unfolding push_begun even_push_begun
+  by_push_begun Papers t gossip o is some r r' h = makes.event _ k.to PushTimer _ (times.first_push gossip is some t o.state r r') moves.own tt (makes.state _ o refl h)
+  by_push_begun Memberlist t gossip o is some r r' h = makes.event _ k.to PushTimer _ (times.first_push gossip is some t o.state r r') moves.own tt (makes.state _ o refl h)
+  by_push_begun Hashicorp t gossip o is some r r' h = makes.event _ k.to PushTimer _ (times.even_push gossip is some t o.state r r') moves.own tt (makes.state _ o refl h)
+
   by_first_push : (t : State) (gossip : Option settings.Gossip) (o : Effect) → s.gossip ≡ gossip → R t → R o.state → P o
       → P (first_push_set s k (k.at + (1 + (below_of t.words s.swim.spread).0)) gossip o)
-  unfolding push_begun
   by_first_push t None o is r r' h = h
-  by_first_push t (Some gossip) o is r r' h =
-      by_either (nat_eq gossip.push 0) o _ (λ _. h)
-      (λ some. makes.event _ k.to PushTimer _ (times.first_push gossip is some t o.state r r') moves.own tt (makes.state _ o refl h))
+  by_first_push t (Some gossip) o is r r' h = by_either (nat_eq gossip.push 0) o _ (λ _. h) (λ some. by_push_begun (profile_of s) t gossip o is some r r' h)
 
   by_first_period : (o : Effect) → R o.state → P o → P (first_period_set s k o)
   unfolding first_period_set
@@ -345,7 +414,9 @@ module _ (s : Setup) (k : Key) (Named : ℕ → Type 0) (R : State → Type 0) (
 
   by_began : (o : Effect) → R (at_once s k o.state) → P o → P (began s k o)
   unfolding began
-  by_began o r h = by_first_period _ r (makes.state _ o refl h)
+  by_began o r h =
+      by_first_period _ (on_first_round s k Named R news moves (profile_of s) (at_once s k o.state) r)
+      (makes.state (first_round (profile_of s) (at_once s k o.state)) o (round_number (profile_of s) (at_once s k o.state)) h)
 
   by_join_asked : (o : Effect) → R o.state → P o → P (join_asked s k o)
   unfolding join_asked
@@ -466,11 +537,11 @@ module _ (s : Setup) (k : Key) (Named : ℕ → Type 0) (R : State → Type 0) (
   by_ack_heard initiator seq updates o begun named r h =
       by_taken initiator seq _ begun (on_all s k Named R news moves Aloud updates o named r) (by_all Aloud updates o named r h)
 
-  by_nack_due : (initiator seq : ℕ) (o : Effect) → Named initiator → R o.state → P o → P (nack_due s k initiator seq o)
+  by_nack_due : (initiator seq : ℕ) (o : Effect) → Named initiator → SendsNacks s → R o.state → P o → P (nack_due s k initiator seq o)
   unfolding nack_due
-  by_nack_due initiator seq o begun r h =
+  by_nack_due initiator seq o begun sends r h =
       by_either (set.contains o.state.relays (initiator, seq)) _ o
-      (λ here. by_nack initiator seq _ begun (may.nacks o.state (initiator, seq) r here) (moves.relay_removed o.state (initiator, seq) r) (makes.state _ o refl h)) (λ _. h)
+      (λ here. by_nack initiator seq _ begun (may.nacks o.state (initiator, seq) r here sends) (moves.relay_removed o.state (initiator, seq) r) (makes.state _ o refl h)) (λ _. h)
 
   -- ---- suspicions
 
@@ -630,7 +701,7 @@ module _ (s : Setup) (k : Key) (Named : ℕ → Type 0) (R : State → Type 0) (
       let drawn = sample_of o.state.words 1 (candidates_for k (AliveBut k.to) o.state) in
       let there = moves.drawn o.state drawn.1 (sample_rest o.state.words 1 _) r in
       by_each (push_sent s k) (on_push_sent s k Named R news moves) by_push_sent _ _ (carries.sample o.state (AliveBut k.to) 1 r)
-      (on_timer s k Named R news moves (push_period gossip.push (live_count o.state.table)) PushTimer (on_state (λ t. record t { words = drawn.1 }) o) there)
+      (on_timer s k Named R news moves (push_period gossip.push (size_by (profile_of s) o.state.table)) PushTimer (on_state (λ t. record t { words = drawn.1 }) o) there)
       (by_timer _ PushTimer _ (times.push_timer gossip is o.state r) tt (makes.state _ o refl h))
 
   by_push_due : (gossip : Option settings.Gossip) (o : Effect) → s.gossip ≡ gossip → R o.state → P o → P (push_due s k gossip o)
@@ -643,105 +714,260 @@ module _ (s : Setup) (k : Key) (Named : ℕ → Type 0) (R : State → Type 0) (
 
   -- ---- the step
 
-  by_plain : (content : EventKind) (phase : Phase) (o : Effect) → Named k.from → NamesOnly Named SomeLeave content → (¬ (phase ≡ Waiting) → R o.state)
+  by_plain : (content : EventKind) (phase : Phase) (o : Effect) → Named k.from → NamesOnly Named SomeLeave content → NackMaySend s phase content → (¬ (phase ≡ Waiting) → R o.state)
       → (phase ≡ Waiting → R (at_once s k o.state)) → (phase ≡ Waiting → R (at_late o.state)) → P o → P (plain_handled s k content phase o)
   unfolding plain_handled
-  by_plain Start Waiting o sender named r once late h = by_started o (once refl) (late refl) h
-  by_plain Start Joining o sender named r once late h = h
-  by_plain Start Running o sender named r once late h = h
-  by_plain Start Down o sender named r once late h = h
-  by_plain Crash Waiting o sender named r once late h = h
-  by_plain Crash Joining o sender named r once late h = by_crashed o h
-  by_plain Crash Running o sender named r once late h = by_crashed o h
-  by_plain Crash Down o sender named r once late h = h
-  by_plain JoinTimer Waiting o sender named r once late h = h
-  by_plain JoinTimer Joining o sender named r once late h = by_join_asked o (r joins) h
-  by_plain JoinTimer Running o sender named r once late h = h
-  by_plain JoinTimer Down o sender named r once late h = h
-  by_plain PeriodTimer Waiting o sender named r once late h = h
-  by_plain PeriodTimer Joining o sender named r once late h = h
-  by_plain PeriodTimer Running o sender named r once late h = by_period o (r runs) h
-  by_plain PeriodTimer Down o sender named r once late h = h
-  by_plain (TimeoutTimer seq) Waiting o sender named r once late h = h
-  by_plain (TimeoutTimer seq) Joining o sender named r once late h = h
-  by_plain (TimeoutTimer seq) Running o sender named r once late h = by_timed_out seq o.state.probe o refl (r runs) h
-  by_plain (TimeoutTimer seq) Down o sender named r once late h = h
-  by_plain (NackTimer initiator seq) Waiting o sender named r once late h = h
-  by_plain (NackTimer initiator seq) Joining o sender named r once late h = h
-  by_plain (NackTimer initiator seq) Running o sender named r once late h = by_nack_due initiator seq o named (r runs) h
-  by_plain (NackTimer initiator seq) Down o sender named r once late h = h
-  by_plain (SuspicionTimer subject) Waiting o sender named r once late h = h
-  by_plain (SuspicionTimer subject) Joining o sender named r once late h = h
-  by_plain (SuspicionTimer subject) Running o sender named r once late h = by_over subject o (r runs) h
-  by_plain (SuspicionTimer subject) Down o sender named r once late h = h
-  by_plain Join Waiting o sender named r once late h = h
-  by_plain Join Joining o sender named r once late h = h
-  by_plain Join Running o sender named r once late h = by_join_handled o sender (r runs) h
-  by_plain Join Down o sender named r once late h = h
-  by_plain (Welcome entries) Waiting o sender named r once late h = h
-  by_plain (Welcome entries) Joining o sender named r once late h = by_joined entries o sender named (r joins) h
-  by_plain (Welcome entries) Running o sender named r once late h = h
-  by_plain (Welcome entries) Down o sender named r once late h = h
-  by_plain (Ping initiator seq updates) Waiting o sender named r once late h = h
-  by_plain (Ping initiator seq updates) Joining o sender named r once late h = h
-  by_plain (Ping initiator seq updates) Running o sender named r once late h = by_ping_heard initiator seq updates o sender named.0 named.1 (r runs) h
-  by_plain (Ping initiator seq updates) Down o sender named r once late h = h
-  by_plain (PingReq target seq updates) Waiting o sender named r once late h = h
-  by_plain (PingReq target seq updates) Joining o sender named r once late h = h
-  by_plain (PingReq target seq updates) Running o sender named r once late h = by_ping_req_heard seq target updates o sender named.0 named.1 (r runs) h
-  by_plain (PingReq target seq updates) Down o sender named r once late h = h
-  by_plain (Ack initiator seq updates) Waiting o sender named r once late h = h
-  by_plain (Ack initiator seq updates) Joining o sender named r once late h = h
-  by_plain (Ack initiator seq updates) Running o sender named r once late h = by_ack_heard initiator seq updates o named.0 named.1 (r runs) h
-  by_plain (Ack initiator seq updates) Down o sender named r once late h = h
-  by_plain (Nack seq) Waiting o sender named r once late h = h
-  by_plain (Nack seq) Joining o sender named r once late h = h
-  by_plain (Nack seq) Running o sender named r once late h = by_nack_heard seq o h
-  by_plain (Nack seq) Down o sender named r once late h = h
-  by_plain Leave phase o sender named r once late h = h
-  by_plain Bye phase o sender named r once late h = h
-  by_plain (DeadlineTimer seq) phase o sender named r once late h = h
-  by_plain GossipTimer phase o sender named r once late h = h
-  by_plain PushTimer phase o sender named r once late h = h
-  by_plain (Call seq) phase o sender named r once late h = h
-  by_plain (Answer seq) phase o sender named r once late h = h
-  by_plain (Gossip updates) phase o sender named r once late h = h
-  by_plain (Push entries) phase o sender named r once late h = h
-  by_plain (Pull entries) phase o sender named r once late h = h
+  by_plain Start Waiting o sender named sends r once late h = by_started o (once refl) (late refl) h
+  by_plain Start Joining o sender named sends r once late h = h
+  by_plain Start Running o sender named sends r once late h = h
+  by_plain Start Down o sender named sends r once late h = h
+  by_plain Crash Waiting o sender named sends r once late h = h
+  by_plain Crash Joining o sender named sends r once late h = by_crashed o h
+  by_plain Crash Running o sender named sends r once late h = by_crashed o h
+  by_plain Crash Down o sender named sends r once late h = h
+  by_plain JoinTimer Waiting o sender named sends r once late h = h
+  by_plain JoinTimer Joining o sender named sends r once late h = by_join_asked o (r joins) h
+  by_plain JoinTimer Running o sender named sends r once late h = h
+  by_plain JoinTimer Down o sender named sends r once late h = h
+  by_plain PeriodTimer Waiting o sender named sends r once late h = h
+  by_plain PeriodTimer Joining o sender named sends r once late h = h
+  by_plain PeriodTimer Running o sender named sends r once late h = by_period o (r runs) h
+  by_plain PeriodTimer Down o sender named sends r once late h = h
+  by_plain (TimeoutTimer seq) Waiting o sender named sends r once late h = h
+  by_plain (TimeoutTimer seq) Joining o sender named sends r once late h = h
+  by_plain (TimeoutTimer seq) Running o sender named sends r once late h = by_timed_out seq o.state.probe o refl (r runs) h
+  by_plain (TimeoutTimer seq) Down o sender named sends r once late h = h
+  by_plain (NackTimer initiator seq) Waiting o sender named sends r once late h = h
+  by_plain (NackTimer initiator seq) Joining o sender named sends r once late h = h
+  by_plain (NackTimer initiator seq) Running o sender named sends r once late h = by_nack_due initiator seq o named sends (r runs) h
+  by_plain (NackTimer initiator seq) Down o sender named sends r once late h = h
+  by_plain (SuspicionTimer subject) Waiting o sender named sends r once late h = h
+  by_plain (SuspicionTimer subject) Joining o sender named sends r once late h = h
+  by_plain (SuspicionTimer subject) Running o sender named sends r once late h = by_over subject o (r runs) h
+  by_plain (SuspicionTimer subject) Down o sender named sends r once late h = h
+  by_plain Join Waiting o sender named sends r once late h = h
+  by_plain Join Joining o sender named sends r once late h = h
+  by_plain Join Running o sender named sends r once late h = by_join_handled o sender (r runs) h
+  by_plain Join Down o sender named sends r once late h = h
+  by_plain (Welcome entries) Waiting o sender named sends r once late h = h
+  by_plain (Welcome entries) Joining o sender named sends r once late h = by_joined entries o sender named (r joins) h
+  by_plain (Welcome entries) Running o sender named sends r once late h = h
+  by_plain (Welcome entries) Down o sender named sends r once late h = h
+  by_plain (Ping initiator seq updates) Waiting o sender named sends r once late h = h
+  by_plain (Ping initiator seq updates) Joining o sender named sends r once late h = h
+  by_plain (Ping initiator seq updates) Running o sender named sends r once late h = by_ping_heard initiator seq updates o sender named.0 named.1 (r runs) h
+  by_plain (Ping initiator seq updates) Down o sender named sends r once late h = h
+  by_plain (PingReq target seq updates) Waiting o sender named sends r once late h = h
+  by_plain (PingReq target seq updates) Joining o sender named sends r once late h = h
+  by_plain (PingReq target seq updates) Running o sender named sends r once late h = by_ping_req_heard seq target updates o sender named.0 named.1 (r runs) h
+  by_plain (PingReq target seq updates) Down o sender named sends r once late h = h
+  by_plain (Ack initiator seq updates) Waiting o sender named sends r once late h = h
+  by_plain (Ack initiator seq updates) Joining o sender named sends r once late h = h
+  by_plain (Ack initiator seq updates) Running o sender named sends r once late h = by_ack_heard initiator seq updates o named.0 named.1 (r runs) h
+  by_plain (Ack initiator seq updates) Down o sender named sends r once late h = h
+  by_plain (Nack seq) Waiting o sender named sends r once late h = h
+  by_plain (Nack seq) Joining o sender named sends r once late h = h
+  by_plain (Nack seq) Running o sender named sends r once late h = by_nack_heard seq o h
+  by_plain (Nack seq) Down o sender named sends r once late h = h
+  by_plain Leave phase o sender named sends r once late h = h
+  by_plain Bye phase o sender named sends r once late h = h
+  by_plain (DeadlineTimer seq) phase o sender named sends r once late h = h
+  by_plain GossipTimer phase o sender named sends r once late h = h
+  by_plain PushTimer phase o sender named sends r once late h = h
+  by_plain (Call seq) phase o sender named sends r once late h = h
+  by_plain (Answer seq) phase o sender named sends r once late h = h
+  by_plain (Gossip updates) phase o sender named sends r once late h = h
+  by_plain (Push entries) phase o sender named sends r once late h = h
+  by_plain (Pull entries) phase o sender named sends r once late h = h
 
-  by_handled : (content : EventKind) (phase : Phase) (o : Effect) → Named k.from → NamesOnly Named SomeLeave content → (¬ (phase ≡ Waiting) → R o.state)
+  by_handled : (content : EventKind) (phase : Phase) (o : Effect) → Named k.from → NamesOnly Named SomeLeave content → NackMaySend s phase content → (¬ (phase ≡ Waiting) → R o.state)
       → (phase ≡ Waiting → R (at_once s k o.state)) → (phase ≡ Waiting → R (at_late o.state)) → P o → P (handled s k content phase o)
   unfolding handled
-  by_handled Leave Joining o sender named r once late h = by_withdrawn named o h
-  by_handled Leave Running o sender named r once late h = by_departed named o (r runs) h
-  by_handled Bye Running o sender named r once late h = by_confirmed k.from (get o.state.table k.from) o refl (r runs) h
-  by_handled content phase o sender named r once late h = by_plain content phase o sender named r once late h
+  by_handled Leave Joining o sender named sends r once late h = by_withdrawn named o h
+  by_handled Leave Running o sender named sends r once late h = by_departed named o (r runs) h
+  by_handled Bye Running o sender named sends r once late h = by_confirmed k.from (get o.state.table k.from) o refl (r runs) h
+  by_handled content phase o sender named sends r once late h = by_plain content phase o sender named sends r once late h
 
-  by_timed : (content : EventKind) (o : Effect) → Named k.from → NamesOnly Named SomeLeave content → R o.state → P o → P (timed_handled s k content o)
+  by_timed : (content : EventKind) (o : Effect) → Named k.from → NamesOnly Named SomeLeave content → MaySendWhileRunning s content → R o.state → P o → P (timed_handled s k content o)
   unfolding timed_handled
-  by_timed PeriodTimer o sender named r h = by_beaten o r h
-  by_timed (TimeoutTimer seq) o sender named r h = by_timed_out_timed seq o.state.probe o refl r h
-  by_timed (DeadlineTimer seq) o sender named r h = by_deadline seq o r h
-  by_timed (Ack initiator seq updates) o sender named r h = by_timed_ack initiator seq updates o named.0 named.1 r h
-  by_timed (Call seq) o sender named r h = by_answer k.from seq o sender r h
-  by_timed (Answer seq) o sender named r h = by_answer_heard seq o h
-  by_timed GossipTimer o sender named r h = by_gossip_due s.gossip o r h
-  by_timed (Gossip updates) o sender named r h = by_all Aloud updates o named r h
-  by_timed PushTimer o sender named r h = by_push_due s.gossip o refl r h
-  by_timed (Push entries) o sender named r h = by_push_heard entries o sender named r h
-  by_timed (Pull entries) o sender named r h = by_merged entries o named r h
-  by_timed content o sender named r h = by_handled content Running o sender named (λ _. r) (λ waits. absurd (runs waits)) (λ waits. absurd (runs waits)) h
+  by_timed PeriodTimer o sender named sends r h = by_beaten o r h
+  by_timed (TimeoutTimer seq) o sender named sends r h = by_timed_out_timed seq o.state.probe o refl r h
+  by_timed (DeadlineTimer seq) o sender named sends r h = by_deadline seq o r h
+  by_timed (Ack initiator seq updates) o sender named sends r h = by_timed_ack initiator seq updates o named.0 named.1 r h
+  by_timed (Call seq) o sender named sends r h = by_answer k.from seq o sender r h
+  by_timed (Answer seq) o sender named sends r h = by_answer_heard seq o h
+  by_timed GossipTimer o sender named sends r h = by_gossip_due s.gossip o r h
+  by_timed (Gossip updates) o sender named sends r h = by_all Aloud updates o named r h
+  by_timed PushTimer o sender named sends r h = by_push_due s.gossip o refl r h
+  by_timed (Push entries) o sender named sends r h = by_push_heard entries o sender named r h
+  by_timed (Pull entries) o sender named sends r h = by_merged entries o named r h
+  by_timed content o sender named sends r h = by_handled content Running o sender named sends (λ _. r) (λ waits. absurd (runs waits)) (λ waits. absurd (runs waits)) h
 
-  by_by : (content : EventKind) (phase : Phase) (profile : Profile) (o : Effect) → Named k.from → NamesOnly Named SomeLeave content → (¬ (phase ≡ Waiting) → R o.state)
+  -- ---- by memberlist 0.5.0's rules
+
+  by_plain_ping : (to initiator seq : ℕ) (o : Effect) → Named to → Named initiator → R o.state → P o → P (plain_ping_sent s k to initiator seq o)
+  unfolding plain_ping_sent
+  by_plain_ping to initiator seq o there named r h =
+      by_sent _ to seq _ (on_state (with_picks s None) o) (may.plain _ tt) there (named, carries.plain o.state r) (moves.picked o.state None r) (makes.state _ o refl h)
+
+  by_lone : (to seq : ℕ) (buddy : Option Update) (o : Effect) → Named to → IfSome buddy (λ u. Named u.subject) → R o.state → P o → P (ping_with_lone s k to seq buddy o)
+  by_lone to seq None o there about r h = by_plain_ping to k.to seq o there moves.own r h
+  by_lone to seq (Some buddy) o there about r h = by_sent _ to seq _ o (may.plain _ tt) there (moves.own, (about, tt)) r h
+
+  by_probe_ping : (to seq : ℕ) (o : Effect) → Named to → R o.state → P o → P (probe_ping_sent s k to seq o)
+  unfolding probe_ping_sent lone_buddy_of
+  by_probe_ping to seq o there r h = by_lone to seq _ o there (lone_about Named s.lifeguard.buddy k.to to (get o.state.table to) there) r h
+
+  by_single_begun : (target : ℕ) (o : Effect) → Named target → R o.state → P o → P (single_probe_begun s k target o)
+  unfolding single_probe_begun
+  by_single_begun target o named r h =
+      let probe = timed_probe (o.state.sequence + 1) target (option_map_or (λ held. held.1) (get o.state.table target) 0) (k.at + scaled o.state.health s.swim.period) in
+      let probing = moves.probing o.state (o.state.sequence + 1) (Some probe) (omega arith) (one_target Named probe named) r in
+      let timed = by_timer _ (TimeoutTimer (o.state.sequence + 1)) _ times.plain_timeout tt (by_probe_ping target _ _ named probing (makes.state _ o refl h)) in
+      by_either _ _ _ (λ _. makes.lost _ timed) (λ _. makes.event _ k.to (DeadlineTimer (o.state.sequence + 1)) _ (times.period_timer o.state r) moves.own tt timed)
+
+  by_single_target : (target : Option ℕ) (o : Effect) → ((q : ℕ) → target ≡ Some q → Named q) → R o.state → P o → P (single_target_probed s k target o)
+  by_single_target None o named r h = makes.state _ o refl h
+  by_single_target (Some target) o named r h = by_single_begun target o (named target refl) r h
+
+  by_forgotten_if : (member : ℕ) (held : Option (Claim × ℕ)) (o : Effect) → get o.state.table member ≡ held → R o.state → P o → P (forgotten_if s k member held o)
+  by_forgotten_if member None o none r h = h
+  by_forgotten_if member (Some held) o here r h =
+      by_either (is_long_dead k.at (kept_for s.gossip) (o.state.since member) held.0) _ o
+      (λ _. makes.row what.Forget (Some member) held.1 false (on_state (without_entry member) o) (may.plain what.Forget tt) (moves.known o.state member held r here) (makes.state _ o refl h)) (λ _. h)
+
+  by_turn_probed : (o : Effect) → R o.state → P o → P (turn_probed s k o)
+  unfolding turn_probed
+  by_turn_probed o r h = by_single_target (next_of o.state.words o.state.rota).0 _ (λ q is. moves.targets o.state q r is) (moves.turned o.state r) (makes.state _ o refl h)
+
+  module _ (rules : profile_of s ≡ Hashicorp) where
+    forgets : (t : State) (q : ℕ) (held : Claim × ℕ) → get t.table q ≡ Some held → is_confirm held.0 ≡ true → R t → R (without_entry q t)
+    forgets t q held here dead r = moves.forgotten t q held rules here dead r
+
+    by_forgotten : (count : ℕ) (o : Effect) → R o.state → P o → P (all_forgotten s k count o)
+    unfolding all_forgotten
+    by_forgotten zero o r h = h
+    by_forgotten (suc count) o r h = by_forgotten_if count _ (all_forgotten s k count o) refl (on_forgotten s k Named R news moves forgets count o r) (by_forgotten count o r h)
+
+    by_round_ended : (o : Effect) → R o.state → P o → P (round_ended s k o)
+    unfolding round_ended
+    by_round_ended o r h = by_either (o.state.rota.mark == length o.state.rota.members) (all_forgotten s k (member_count s) o) o (λ _. by_forgotten (member_count s) o r h) (λ _. h)
+
+    by_next_single : (o : Effect) → R o.state → P o → P (next_single_probed s k o)
+    unfolding next_single_probed
+    by_next_single o r h = by_turn_probed (round_ended s k o) (on_round_ended s k Named R news moves forgets o r) (by_round_ended o r h)
+
+    by_if_waiting : (o : Effect) → R o.state → P o → P (next_if_waiting s k o)
+    by_if_waiting o r h = by_either o.state.waits _ o (λ _. by_next_single _ (moves.waiting o.state false r) (makes.state _ o refl h)) (λ _. h)
+
+    by_beat_taken : (o : Effect) → R o.state → P o → P (single_beat_taken s k o)
+    by_beat_taken o r h =
+        let free : Effect = on_state (λ t. record t { waits = false }) o in
+        let there : R free.state = moves.waiting o.state false r in
+        by_either (has_time k.at o.state.probe) _ _ (λ _. makes.state _ o refl h)
+        (λ _. by_next_single _ (on_settled s k Named R news moves o.state.probe free there) (by_settled o.state.probe free refl there (makes.state _ o refl h)))
+
+    by_single_beaten : (o : Effect) → R o.state → P o → P (single_beaten s k o)
+    unfolding single_beaten
+    by_single_beaten o r h = by_beat_taken _ (on_event s k Named R news _ k.to PeriodTimer o r) (makes.event _ k.to PeriodTimer o (times.beat o.state.beat) moves.own tt h)
+
+    by_single_deadline : (seq : ℕ) (o : Effect) → R o.state → P o → P (single_deadline_over s k seq o)
+    unfolding single_deadline_over
+    by_single_deadline seq o r h =
+        by_either (is_under_way seq o.state.probe) _ o
+        (λ _. by_if_waiting _ (on_settled s k Named R news moves o.state.probe o r) (by_settled o.state.probe o refl r h)) (λ _. h)
+
+    by_single_answered : (seq : ℕ) (o : Effect) → R o.state → P o → P (single_answered s k seq o)
+    unfolding single_answered
+    by_single_answered seq o r h =
+        let none = record o.state { probe = None } in
+        let mended = moves.mended none (ended o r) in
+        by_either (is_under_way seq o.state.probe) _ o
+        (λ _. by_if_waiting _ (on_health s k Named R news moves (lowered o.state.health) (on_state (λ t. record t { probe = None }) o) mended)
+        (by_health (lowered o.state.health) _ (ended o r) mended (makes.state none o refl h))) (λ _. h)
+
+    by_help_given : (seq target : ℕ) (o : Effect) → Named k.from → Named target → R o.state → P o → P (help_given s k seq target o)
+    by_help_given seq target o sender named r h = by_relay seq _ sender (by_plain_ping target k.from seq o named sender r h)
+
+    by_passed_ack : (initiator seq : ℕ) (o : Effect) → Named initiator → R o.state → P o → P (ack_passed_on s k initiator seq o)
+    by_passed_ack initiator seq o begun r h =
+        by_either (set.contains o.state.relays (initiator, seq)) _ o
+        (λ _. by_ack initiator initiator seq _ begun begun (moves.relay_removed o.state (initiator, seq) r) (makes.state _ o refl h)) (λ _. h)
+
+    by_single_ack_taken : (initiator seq : ℕ) (o : Effect) → Named initiator → R o.state → P o → P (single_ack_taken s k initiator seq o)
+    by_single_ack_taken initiator seq o begun r h =
+        by_either (nat_eq initiator k.to) _ _ (λ _. by_single_answered seq o r h) (λ _. by_passed_ack initiator seq o begun r h)
+
+    by_help_over : (initiator seq : ℕ) (o : Effect) → Named initiator → R o.state → P o → P (help_over s k initiator seq o)
+    unfolding help_over
+    by_help_over initiator seq o begun r h = by_either s.lifeguard.probe _ _ (λ on. by_nack_due initiator seq o begun (λ _. on) r h) (λ _. makes.state _ o refl h)
+
+    by_single : (content : EventKind) (o : Effect) → Named k.from → NamesOnly Named SomeLeave content → R o.state → P o → P (single_handled s k content o)
+    unfolding single_handled ping_answered help_asked_for single_ack_heard
+    by_single PeriodTimer o sender named r h = by_single_beaten o r h
+    by_single (DeadlineTimer seq) o sender named r h = by_single_deadline seq o r h
+    by_single (Ping initiator seq updates) o sender named r h =
+        by_all Aloud updates _ named.1 (on_ack s k Named R news moves k.from initiator seq o r) (by_ack k.from initiator seq o sender named.0 r h)
+    by_single (PingReq target seq updates) o sender named r h =
+        by_all Aloud updates _ named.1 (on_help_given s k Named R news moves rules seq target o (always_relays s rules) r) (by_help_given seq target o sender named.0 r h)
+    by_single (Ack initiator seq updates) o sender named r h =
+        by_all Aloud updates _ named.1 (on_single_ack_taken s k Named R news moves rules initiator seq o r) (by_single_ack_taken initiator seq o named.0 r h)
+    by_single (NackTimer initiator seq) o sender named r h = by_help_over initiator seq o named r h
+    by_single Start o sender named r h = by_timed Start o sender named tt r h
+    by_single Crash o sender named r h = by_timed Crash o sender named tt r h
+    by_single Leave o sender named r h = by_timed Leave o sender named tt r h
+    by_single JoinTimer o sender named r h = by_timed JoinTimer o sender named tt r h
+    by_single (TimeoutTimer seq) o sender named r h = by_timed (TimeoutTimer seq) o sender named tt r h
+    by_single (SuspicionTimer subject) o sender named r h = by_timed (SuspicionTimer subject) o sender named tt r h
+    by_single Join o sender named r h = by_timed Join o sender named tt r h
+    by_single (Welcome entries) o sender named r h = by_timed (Welcome entries) o sender named tt r h
+    by_single (Nack seq) o sender named r h = by_timed (Nack seq) o sender named tt r h
+    by_single Bye o sender named r h = by_timed Bye o sender named tt r h
+    by_single GossipTimer o sender named r h = by_timed GossipTimer o sender named tt r h
+    by_single PushTimer o sender named r h = by_timed PushTimer o sender named tt r h
+    by_single (Call seq) o sender named r h = by_timed (Call seq) o sender named tt r h
+    by_single (Answer seq) o sender named r h = by_timed (Answer seq) o sender named tt r h
+    by_single (Gossip updates) o sender named r h = by_timed (Gossip updates) o sender named tt r h
+    by_single (Push entries) o sender named r h = by_timed (Push entries) o sender named tt r h
+    by_single (Pull entries) o sender named r h = by_timed (Pull entries) o sender named tt r h
+
+  -- by the older rules a nack timer may send in any case
+  may_send : (content : EventKind) → keeps_relays (profile_of s) ≡ false → MaySendWhileRunning s content
+  may_send (NackTimer initiator seq) old = λ always. absurd (false≢true (sym old ∙ always))
+  may_send Start old = tt
+  may_send Crash old = tt
+  may_send Leave old = tt
+  may_send JoinTimer old = tt
+  may_send PeriodTimer old = tt
+  may_send (TimeoutTimer seq) old = tt
+  may_send (SuspicionTimer subject) old = tt
+  may_send Join old = tt
+  may_send (Welcome entries) old = tt
+  may_send (Ping initiator seq updates) old = tt
+  may_send (PingReq target seq updates) old = tt
+  may_send (Ack initiator seq updates) old = tt
+  may_send (Nack seq) old = tt
+  may_send Bye old = tt
+  may_send (DeadlineTimer seq) old = tt
+  may_send GossipTimer old = tt
+  may_send PushTimer old = tt
+  may_send (Call seq) old = tt
+  may_send (Answer seq) old = tt
+  may_send (Gossip updates) old = tt
+  may_send (Push entries) old = tt
+  may_send (Pull entries) old = tt
+
+  by_by : (content : EventKind) (phase : Phase) (profile : Profile) (o : Effect) → profile_of s ≡ profile → Named k.from → NamesOnly Named SomeLeave content → (¬ (phase ≡ Waiting) → R o.state)
       → (phase ≡ Waiting → R (at_once s k o.state)) → (phase ≡ Waiting → R (at_late o.state)) → P o → P (handled_by phase profile s k content o)
-  by_by content Running Memberlist o sender named r once late h = by_timed content o sender named (r runs) h
-  by_by content Running Papers o sender named r once late h = by_handled content Running o sender named r once late h
-  by_by content Waiting profile o sender named r once late h = by_handled content Waiting o sender named r once late h
-  by_by content Joining profile o sender named r once late h = by_handled content Joining o sender named r once late h
-  by_by content Down profile o sender named r once late h = by_handled content Down o sender named r once late h
+  by_by content Running Memberlist o rules sender named r once late h = by_timed content o sender named (may_send content (ap keeps_relays rules)) (r runs) h
+  by_by content Running Hashicorp o rules sender named r once late h = by_single rules content o sender named (r runs) h
+  by_by content Running Papers o rules sender named r once late h = by_handled content Running o sender named (may_send content (ap keeps_relays rules)) r once late h
+  by_by content Waiting profile o rules sender named r once late h = by_handled content Waiting o sender named tt r once late h
+  by_by content Joining profile o rules sender named r once late h = by_handled content Joining o sender named tt r once late h
+  by_by content Down profile o rules sender named r once late h = by_handled content Down o sender named tt r once late h
 
   -- Of a member that waits the fact is needed where it starts alone.
   pub by_step : (content : EventKind) (t : State) → Named k.from → NamesOnly Named SomeLeave content → (¬ (t.phase ≡ Waiting) → R t)
       → (t.phase ≡ Waiting → R (at_once s k t)) → (t.phase ≡ Waiting → R (at_late t)) → P (unchanged t) → P (step s k content t)
   unfolding step
-  by_step content t sender named r once late h = by_by content t.phase (profile_of s) (unchanged t) sender named r once late h
+  by_step content t sender named r once late h = by_by content t.phase (profile_of s) (unchanged t) refl sender named r once late h

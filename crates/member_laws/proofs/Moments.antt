@@ -37,12 +37,13 @@ use Rattle.suspicion.proofs.Timeouts.{min_timeout-lt, max_timeout-le, timeout-le
 use Rattle.member.specs.declared.event_kind.EventKind.{EventKind}
 use Rattle.member.specs.declared.event_kind.EventKind.TheVariants.{Crash, Leave}
 use Rattle.member.specs.State.{State}
-use Rattle.membership.specs.Table.{live_count}
-use Rattle.membership.proofs.Few.{live_count-le, live_count-positive}
+use Rattle.membership.specs.Table.{size_by}
+use Rattle.membership.proofs.Few.{size-le, size-positive}
 use Rattle.member.specs.Effects.{Effect, with_row, with_event}
 use Rattle.member.proofs.Members.{few_members}
-use Rattle.member.proofs.Fair.{positive}
-use Rattle.member.specs.Apply.{claim_kept, without_suspicion}
+use Rattle.member.proofs.Fair.{positive, long_period}
+use Rattle.member.proofs.Doublings.{few_doublings}
+use Rattle.member.specs.Apply.{claim_kept_by, without_suspicion}
 use Rattle.member.specs.Opening.{opening_state, opening, numbers, ending_event, script_of}
 use Rattle.member.specs.Step.{step, doublings_to, push_period}
 use Rattle.member_laws.specs.Words.{IsTimely, IsConsistent, IsAmongMembers}
@@ -121,8 +122,8 @@ module _ (s : Setup) (sound : IsSound s) (k : Key) (here : k.to < member_count s
   terms_sound : AreSound (terms_of s)
   terms_sound = record { period = sound.period; alpha = sound.alpha.1; beta = sound.beta; accusers_wanted = sound.confirmations }
 
-  few : (t : State) → Keeps s k.to t → live_count t.table ≤ member_count s
-  few t r = live_count-le (member_count s) k.to t.table here r.others.others
+  few : (t : State) → Keeps s k.to t → size_by (profile_of s) t.table ≤ member_count s
+  few t r = size-le (profile_of s) (member_count s) k.to t.table here r.others.others
 
   accused_soon : (t : State) (u : Update) (x : HeldSuspicion) → InTime s k.to t → accused_of t.suspicions u.subject u.accuser t.next_number ≡ Some x → Soon (due_of x k.at)
   accused_soon t u x r is =
@@ -154,7 +155,10 @@ module _ (s : Setup) (sound : IsSound s) (k : Key) (here : k.to < member_count s
       let most : doublings_to n ≤ 4096 = omega (arith, few, count_by-le-length (λ m. nat_lt (32 * 2 ^ m) n) (range_with_len 0 n), length-range_with_len 0 n) in
       mul-le push (1 + doublings_to n) (2 ^ 24) 4097 short (omega (arith, most))
 
-  few_live : (t : State) → Keeps s k.to t → live_count t.table ≤ 4096
+  push_short : (push n : ℕ) → push ≤ 2 ^ 24 → n ≤ 4096 → push_period push n ≤ 2 ^ 24 * 8
+  push_short push n short few = mul-le push (1 + doublings_to n) (2 ^ 24) 8 short (omega (arith, few_doublings n few))
+
+  few_live : (t : State) → Keeps s k.to t → size_by (profile_of s) t.table ≤ 4096
   few_live t r = omega (arith, few t r, few_members s sound)
 
   push_settings : (gossip : settings.Gossip) → s.gossip ≡ Some gossip → IsSoundGossip gossip
@@ -178,10 +182,17 @@ module _ (s : Setup) (sound : IsSound s) (k : Key) (here : k.to < member_count s
         let settings = push_settings gossip is in
         let first = below_fits t.words s.swim.spread r.0.words sound.spread.0 (omega (arith, sound.spread.1)) in
         let second = below_fits v.words gossip.push r'.0.words (positive gossip.push some) (omega (arith, settings.push)) in
-        omega (arith, in_time, sound.end, sound.spread.1, first, second, settings.push, push_soon gossip.push (live_count v.table) settings.push (few_live v r'.0));
-    push_timer = λ gossip is t r. omega (arith, in_time, sound.end, push_soon gossip.push (live_count t.table) (push_settings gossip is).push (few_live t r.0));
+        omega (arith, in_time, sound.end, sound.spread.1, first, second, settings.push, push_soon gossip.push (size_by (profile_of s) v.table) settings.push (few_live v r'.0));
+    even_push = λ gossip is some t v r r'.
+        let settings = push_settings gossip is in
+        let first = below_fits t.words s.swim.spread r.0.words sound.spread.0 (omega (arith, sound.spread.1)) in
+        let period = push_short gossip.push (size_by (profile_of s) v.table) settings.push (few_live v r'.0) in
+        let least = long_period gossip.push (doublings_to (size_by (profile_of s) v.table)) (positive gossip.push some) in
+        let second = below_fits v.words (push_period gossip.push (size_by (profile_of s) v.table)) r'.0.words (omega (arith, least)) (omega (arith, period)) in
+        omega (arith, in_time, sound.end, sound.spread.1, first, second, period);
+    push_timer = λ gossip is t r. omega (arith, in_time, sound.end, push_soon gossip.push (size_by (profile_of s) t.table) (push_settings gossip is).push (few_live t r.0));
     nack_timer = nack_soon;
-    suspicion_timer = λ t r. omega (arith, in_time, sound.end, timeout-le (terms_of s) (live_count t.table) 0 terms_sound (omega (arith, few t r.0, few_members s sound)));
+    suspicion_timer = λ t r. omega (arith, in_time, sound.end, timeout-le (terms_of s) (size_by (profile_of s) t.table) 0 terms_sound (omega (arith, few t r.0, few_members s sound)));
     accusation_timer = accused_soon;
   }
 
@@ -194,9 +205,9 @@ module _ (s : Setup) (sound : IsSound s) (k : Key) (here : k.to < member_count s
     alive = λ t u named says e r. (kept.alive t u named says e r.0, ended t u r.1);
     suspect = λ t u x named says e begins r.
         let there = kept.suspect t u x named says e begins r.0 in
-        let live = live_count-le (member_count s) k.to (claim_kept u t).table here there.others.others in
-        (there, begun t u x (omega (arith, begins.since, in_time), omega (arith, begins.members, live_count-positive (claim_kept u t).table), omega (arith, begins.members, live)) r.1);
-    confirm = λ t u named says e r. (kept.confirm t u named says e r.0, death_either (λ v. OfAll (Began s) v.suspicions) (profile_of s) u.subject k.at (without_suspicion u.subject (claim_kept u t)) (ended t u r.1) (ended t u r.1));
+        let live = size-le (profile_of s) (member_count s) k.to (claim_kept_by (profile_of s) u t).table here there.others.others in
+        (there, begun t u x (omega (arith, begins.since, in_time), omega (arith, begins.members, size-positive (profile_of s) (claim_kept_by (profile_of s) u t).table), omega (arith, begins.members, live)) r.1);
+    confirm = λ t u named says e r. (kept.confirm t u named says e r.0, death_either (λ v. OfAll (Began s) v.suspicions) (profile_of s) u.subject k.at (without_suspicion u.subject (claim_kept_by (profile_of s) u t)) (ended t u r.1) (ended t u r.1));
     accused = λ t u r. (kept.accused t u r.0, of_accused (Began s) (λ x accuser g h. h) t.suspicions u.subject u.accuser t.next_number r.1);
     gossiping = λ t set r. (kept.gossiping t set r.0, r.1);
   }
@@ -204,12 +215,12 @@ module _ (s : Setup) (sound : IsSound s) (k : Key) (here : k.to < member_count s
       kept : NewsMoves s k (Below s) (Keeps s k.to)
       kept = news s sound k
 
-      ended : (t : State) (u : Update) → IsTimely s t → OfAll (Began s) (remove (claim_kept u t).suspicions u.subject)
-      ended t u h = kept_either (λ v. OfAll (Began s) (remove v.suspicions u.subject)) u t (of_left (Began s) t.suspicions u.subject h) (of_left (Began s) t.suspicions u.subject h) (of_left (Began s) t.suspicions u.subject h)
+      ended : (t : State) (u : Update) → IsTimely s t → OfAll (Began s) (remove (claim_kept_by (profile_of s) u t).suspicions u.subject)
+      ended t u h = kept_either (λ v. OfAll (Began s) (remove v.suspicions u.subject)) (profile_of s) u t (of_left (Began s) t.suspicions u.subject h) (of_left (Began s) t.suspicions u.subject h) (of_left (Began s) t.suspicions u.subject h) (of_left (Began s) t.suspicions u.subject h)
 
-      begun : (t : State) (u : Update) (x : HeldSuspicion) → Began s x → IsTimely s t → OfAll (Began s) (insert (claim_kept u t).suspicions u.subject x)
+      begun : (t : State) (u : Update) (x : HeldSuspicion) → Began s x → IsTimely s t → OfAll (Began s) (insert (claim_kept_by (profile_of s) u t).suspicions u.subject x)
       begun t u x own h =
-          kept_either (λ v. OfAll (Began s) (insert v.suspicions u.subject x)) u t (of_put (Began s) t.suspicions u.subject x own h) (of_put (Began s) t.suspicions u.subject x own h) (of_put (Began s) t.suspicions u.subject x own h)
+          kept_either (λ v. OfAll (Began s) (insert v.suspicions u.subject x)) (profile_of s) u t (of_put (Began s) t.suspicions u.subject x own h) (of_put (Began s) t.suspicions u.subject x own h) (of_put (Began s) t.suspicions u.subject x own h) (of_put (Began s) t.suspicions u.subject x own h)
 
   timely_moves : Moves s k (Below s) (InTime s k.to)
   timely_moves = record {
@@ -221,6 +232,8 @@ module _ (s : Setup) (sound : IsSound s) (k : Key) (here : k.to < member_count s
     targets = λ t target r is. kept.targets t target r.0 is;
     probing = λ t seq probe up aim r. (kept.probing t seq probe up aim r.0, r.1);
     turned = λ t r. (kept.turned t r.0, r.1);
+    forgotten = λ t q held rules here dead r. (kept.forgotten t q held rules here dead r.0, r.1);
+    mixed = λ t r. (kept.mixed t r.0, r.1);
     relay_added = λ t relay on r. (kept.relay_added t relay on r.0, r.1);
     relay_removed = λ t relay r. (kept.relay_removed t relay r.0, r.1);
     heard_dead = λ t r. (kept.heard_dead t r.0, r.1);
@@ -266,7 +279,7 @@ module _ (s : Setup) (sound : IsSound s) (k : Key) (here : k.to < member_count s
   module _ (c : EventKind) (t : State) (ours : IsAmongMembers s k c) (h : IsConsistent s k.to t) (timely : IsTimely s t) where
     pub step_soon : AllSoon (step s k c t)
     step_soon =
-        by_step s k (Below s) (InTime s k.to) timely_news timely_moves (Unit {0}) AnyRow (any_row (InTime s k.to) (Unit {0})) timely_carries Soon times AllSoon makes c t ours.sender (names_only (member_count s) c ours.names)
+        by_step s k (Below s) (InTime s k.to) timely_news timely_moves (Unit {0}) AnyRow (any_row s (InTime s k.to) (Unit {0})) timely_carries Soon times AllSoon makes c t ours.sender (names_only (member_count s) c ours.names)
         (λ up. (keeps s sound k t h up, timely)) (λ waits. (started_at_once s sound k t h waits, timely)) (λ waits. (started_late s sound k t h waits, timely)) tt
 
     pub step_timely : IsTimely s (step s k c t).state

@@ -10,6 +10,7 @@ use Rattle.incarnation.specs.declared.Claim.TheVariants.{Alive, Suspect, Confirm
 use Rattle.incarnation.specs.declared.Update.{Update}
 use Rattle.lifeguard.specs.declared.probe.Probe.{Probe}
 use Rattle.lifeguard.specs.Health.{LocalHealth, lowered, raised}
+use Rattle.probing.specs.Mixed.{mixed_of}
 use Rattle.probing.specs.ProbeOrder.{round_over, next_of, remove_of}
 use Rattle.suspicion.specs.Settings.{terms_of}
 use Rattle.suspicion.specs.Suspicions.{HeldSuspicion, after_accusation}
@@ -17,14 +18,16 @@ use Rattle.member.specs.declared.member.Phase.{Phase}
 use Rattle.member.specs.declared.member.Phase.TheVariants.{Waiting, Joining, Running, Down}
 use Rattle.member.specs.State.{State, is_probed}
 use Rattle.base.specs.declared.profile.Profile.{Profile}
-use Rattle.base.specs.declared.profile.Profile.TheVariants.{Papers, Memberlist}
+use Rattle.base.specs.declared.profile.Profile.TheVariants.{Papers, Memberlist, Hashicorp}
 use Rattle.scenario.specs.Profile.{profile_of}
 use Rattle.incarnation.specs.Refutations.{does_refute}
 use Rattle.membership.specs.Deaths.{confirmed_at}
-use Rattle.membership.specs.Table.{Known, is_confirm, does_override, live_count, all_alive}
+use Rattle.membership.specs.Table.{Known, is_confirm, does_override, size_by, all_alive}
 use Rattle.member.specs.Send.{with_picks}
-use Rattle.member.specs.Apply.{with_claim, with_place, claim_kept, without_suspicion, death_kept}
+use Rattle.member.specs.Apply.{with_claim, with_place, with_newcomer, with_turn_of, claim_kept, newcomer_kept, claim_kept_by, without_suspicion, death_kept}
+use Rattle.member.specs.Forgetting.{without_entry}
 use Rattle.member.specs.Step.{first_others}
+use Rattle.member_laws.specs.Words.{has_relays}
 
 -- whether a claim says something new, beside what is held
 abbrev pub is_news : Profile → Claim × ℕ → Option (Claim × ℕ) → Bool
@@ -40,18 +43,18 @@ pub record IsNews (profile : Profile) (me : ℕ) (t : State) (u : Update) : Type
 pub record Begins (s : Setup) (k : Key) (t : State) (x : HeldSuspicion) : Type 0 where
   pub terms : x.terms ≡ terms_of s
   pub since : x.since ≡ k.at
-  pub members : x.members ≡ live_count t.table
+  pub members : x.members ≡ size_by (profile_of s) t.table
 
 -- A fact that each change keeps which claims about others make, where all whom they are about are named.
 pub record NewsMoves (s : Setup) (k : Key) (Named : ℕ → Type 0) (R : State → Type 0) : Type 0 where
   pub counted : (t : State) → R t → R (record t { next_number = t.next_number + 1 })
   pub put : (t : State) (u : Update) → Named u.subject → R t → R (record t { buffer = insert t.buffer u.subject (u, 0) })
   pub alive : (t : State) (u : Update) → Named u.subject → IsNews (profile_of s) k.to t u → u.claim ≡ Alive → R t
-      → R (record (claim_kept u t) { suspicions = remove (claim_kept u t).suspicions u.subject })
-  pub suspect : (t : State) (u : Update) (x : HeldSuspicion) → Named u.subject → IsNews (profile_of s) k.to t u → u.claim ≡ Suspect → Begins s k (claim_kept u t) x → R t
-      → R (record (claim_kept u t) { suspicions = insert (claim_kept u t).suspicions u.subject x })
+      → R (record (claim_kept_by (profile_of s) u t) { suspicions = remove (claim_kept_by (profile_of s) u t).suspicions u.subject })
+  pub suspect : (t : State) (u : Update) (x : HeldSuspicion) → Named u.subject → IsNews (profile_of s) k.to t u → u.claim ≡ Suspect → Begins s k (claim_kept_by (profile_of s) u t) x → R t
+      → R (record (claim_kept_by (profile_of s) u t) { suspicions = insert (claim_kept_by (profile_of s) u t).suspicions u.subject x })
   pub confirm : (t : State) (u : Update) → Named u.subject → IsNews (profile_of s) k.to t u → u.claim ≡ Confirm → R t
-      → R (death_kept (profile_of s) u.subject k.at (without_suspicion u.subject (claim_kept u t)))
+      → R (death_kept (profile_of s) u.subject k.at (without_suspicion u.subject (claim_kept_by (profile_of s) u t)))
   pub accused : (t : State) (u : Update) → R t → R (record t { suspicions = after_accusation t.suspicions u.subject u.accuser t.next_number })
   -- the gossip timer is set, or due
   pub gossiping : (t : State) (set : Bool) → R t → R (record t { gossips = set })
@@ -74,7 +77,10 @@ pub record Moves (s : Setup) (k : Key) (Named : ℕ → Type 0) (R : State → T
   -- the number of the last probe never falls
   pub probing : (t : State) (seq : ℕ) (probe : Option Probe) → t.sequence ≤ seq → ((it : Probe) → probe ≡ Some it → Named it.target) → R t → R (record t { sequence = seq; probe = probe })
   pub turned : (t : State) → R t → R (record t { rota = (next_of t.words t.rota).1; words = (next_of t.words t.rota).2 })
-  pub relay_added : (t : State) (relay : ℕ × ℕ) → s.lifeguard.probe ≡ true → R t → R (record t { relays = set.insert t.relays relay })
+  -- by memberlist 0.5.0's rules alone
+  pub forgotten : (t : State) (q : ℕ) (held : Claim × ℕ) → profile_of s ≡ Hashicorp → get t.table q ≡ Some held → is_confirm held.0 ≡ true → R t → R (without_entry q t)
+  pub mixed : (t : State) → R t → R (record t { rota = (mixed_of t.words t.rota).0; words = (mixed_of t.words t.rota).1 })
+  pub relay_added : (t : State) (relay : ℕ × ℕ) → has_relays s ≡ true → R t → R (record t { relays = set.insert t.relays relay })
   pub relay_removed : (t : State) (relay : ℕ × ℕ) → R t → R (record t { relays = set.remove t.relays relay })
   -- the next probe waits for the present one, or no more
   pub waiting : (t : State) (waits : Bool) → R t → R (record t { waits = waits })
@@ -95,15 +101,22 @@ either P true t v a c = a
 either P false t v a c = c
 
 -- What is so of a state with the claim, and with the subject in its rota or out of it too, is so where the claim is kept.
-pub kept_either : (P : State → Type 0) (u : Update) (t : State) → P (record (with_claim u t) { rota = remove_of u.subject t.rota }) → P (with_claim u t) → P (with_place u.subject (with_claim u t))
-    → P (claim_kept u t)
-unfolding claim_kept
-kept_either P u t out plain placed = either P (is_confirm u.claim) _ _ out (either P (is_probed (get t.table u.subject)) _ _ plain placed)
+pub kept_either : (P : State → Type 0) (profile : Profile) (u : Update) (t : State) → P (record (with_claim u t) { rota = remove_of u.subject t.rota }) → P (with_claim u t)
+    → P (with_place u.subject (with_claim u t)) → P (with_newcomer u.subject (with_claim u t)) → P (claim_kept_by profile u t)
+unfolding claim_kept newcomer_kept
+kept_either P Papers u t out plain placed new = either P (is_confirm u.claim) _ _ out (either P (is_probed (get t.table u.subject)) _ _ plain placed)
+kept_either P Memberlist u t out plain placed new = either P (is_confirm u.claim) _ _ out (either P (is_probed (get t.table u.subject)) _ _ plain placed)
+kept_either P Hashicorp u t out plain placed new = either P (is_confirm u.claim) _ _ out (turn (get t.table u.subject))
+  where
+    turn : (held : Option (Claim × ℕ)) → P (with_turn_of held u.subject (with_claim u t))
+    turn None = new
+    turn (Some held) = either P (is_confirm held.0) _ _ placed plain
 
 -- what is so whether or not the moment of a death is kept
 pub death_either : (P : State → Type 0) (profile : Profile) (subject now : ℕ) (t : State) → P t → P (record t { since = confirmed_at subject now t.since }) → P (death_kept profile subject now t)
 death_either P Papers subject now t plain kept = plain
 death_either P Memberlist subject now t plain kept = kept
+death_either P Hashicorp subject now t plain kept = kept
 
 -- nobody is left out
 abbrev pub Anyone : ℕ → Type 0
@@ -122,13 +135,13 @@ keeps_news s k P claimed = record {
   put = λ t u named h. h;
   alive = λ t u named says e h. kept t u says h;
   suspect = λ t u x named says e begins h. kept t u says h;
-  confirm = λ t u named says e h. death_either (FactOf P) (profile_of s) u.subject k.at (without_suspicion u.subject (claim_kept u t)) (kept t u says h) (kept t u says h);
+  confirm = λ t u named says e h. death_either (FactOf P) (profile_of s) u.subject k.at (without_suspicion u.subject (claim_kept_by (profile_of s) u t)) (kept t u says h) (kept t u says h);
   accused = λ t u h. h;
   gossiping = λ t set h. h;
 }
   where
-    kept : (t : State) (u : Update) → IsNews (profile_of s) k.to t u → FactOf P t → FactOf P (claim_kept u t)
-    kept t u says h = kept_either (FactOf P) u t (claimed t u says h) (claimed t u says h) (claimed t u says h)
+    kept : (t : State) (u : Update) → IsNews (profile_of s) k.to t u → FactOf P t → FactOf P (claim_kept_by (profile_of s) u t)
+    kept t u says h = kept_either (FactOf P) (profile_of s) u t (claimed t u says h) (claimed t u says h) (claimed t u says h) (claimed t u says h)
 
 -- The other changes that there are to these four.
 pub record OwnMoves (s : Setup) (k : Key) (R : State → Type 0) : Type 0 where
@@ -137,6 +150,7 @@ pub record OwnMoves (s : Setup) (k : Key) (R : State → Type 0) : Type 0 where
   pub mended : (t : State) → R t → R (record t { health = lowered t.health })
   pub welcomed : (t : State) → R t → R (record t { phase = Running })
   pub downed : (t : State) → R t → R (record t { phase = Down })
+  pub forgotten : (t : State) (q : ℕ) (held : Claim × ℕ) → profile_of s ≡ Hashicorp → get t.table q ≡ Some held → is_confirm held.0 ≡ true → R t → R (without_entry q t)
   pub began : (t : State) → t.phase ≡ Waiting → R t → R (at_once s k t)
   pub late : (t : State) → t.phase ≡ Waiting → R t → R (at_late t)
 
@@ -150,6 +164,8 @@ keeps_moves s k P own = record {
   targets = λ t target h is. tt;
   probing = λ t seq probe up aim h. h;
   turned = λ t h. h;
+  forgotten = own.forgotten;
+  mixed = λ t h. h;
   relay_added = λ t relay on h. h;
   relay_removed = λ t relay h. h;
   waiting = λ t waits h. h;

@@ -126,6 +126,7 @@ moves s k n = record {
   mended = λ t h. h;
   welcomed = λ t h. (h.0, λ is. absurd (let e = is in cc));
   downed = λ t h. (h.0, λ is. absurd (let e = is in cc));
+  forgotten = λ t q held rules here dead h. h;
   began = λ t waits h. (let none = h.1 waits in omega arith, λ is. h.1 waits);
   late = λ t waits h. (h.0, λ is. h.1 waits);
 }

@@ -73,8 +73,8 @@ told_subject s t to (Some held) u here known is = suspect_either (is_suspect hel
 abbrev pub AnyRow : What → Type 0
 AnyRow tells = Unit {0}
 
-pub any_row : (R : State → Type 0) (SomeLeave : Type 0) → MayTell R SomeLeave AnyRow
-any_row R SomeLeave = record { plain = λ tells h. tt; nacks = λ t relay r here. tt; accuses = λ t u x r here. tt; healths = λ t h r r' differs. tt }
+pub any_row : (s : Setup) (R : State → Type 0) (SomeLeave : Type 0) → MayTell s R SomeLeave AnyRow
+any_row s R SomeLeave = record { plain = λ tells h. tt; nacks = λ t relay r here sends. tt; accuses = λ t u x r here. tt; healths = λ t h r r' differs. tt }
 
 module _ (s : Setup) (sound : IsSound s) (k : Key) (here : k.to < member_count s) where
   buddy_subject : (t : State) (to : ℕ) (b : Bool) (u : Update) → Keeps s k.to t → cond b (suspicion_told t to (get t.table to)) None ≡ Some u → u.subject < member_count s
@@ -144,7 +144,7 @@ module _ (s : Setup) (sound : IsSound s) (k : Key) (here : k.to < member_count s
 
   step_ours : (c : EventKind) (t : State) → IsAmongMembers s k c → IsConsistent s k.to t → AllByRecursion (λ e. IsAmongMembers s e.0 e.1) (step s k c t).events
   step_ours c t ours h =
-      by_step s k (Below s) (Keeps s k.to) (news s sound k) (moves s sound k here) (Unit {0}) AnyRow (any_row (Keeps s k.to) (Unit {0})) carries AnyTime (any_time s k (Keeps s k.to)) AllOurs makes c t ours.sender (names_only (member_count s) c ours.names)
+      by_step s k (Below s) (Keeps s k.to) (news s sound k) (moves s sound k here) (Unit {0}) AnyRow (any_row s (Keeps s k.to) (Unit {0})) carries AnyTime (any_time s k (Keeps s k.to)) AllOurs makes c t ours.sender (names_only (member_count s) c ours.names)
       (keeps s sound k t h) (started_at_once s sound k t h) (started_late s sound k t h) tt
 
   -- and its rows
@@ -166,7 +166,7 @@ module _ (s : Setup) (sound : IsSound s) (k : Key) (here : k.to < member_count s
 
     step_names : (c : EventKind) (t : State) → IsAmongMembers s k c → IsConsistent s k.to t → AllNaming (step s k c t)
     step_names c t ours h =
-        by_step s k (Below s) (Keeps s k.to) (news s sound k) (moves s sound k here) (Unit {0}) AnyRow (any_row (Keeps s k.to) (Unit {0})) carries AnyTime (any_time s k (Keeps s k.to)) AllNaming names c t maker (names_only (member_count s) c ours.names)
+        by_step s k (Below s) (Keeps s k.to) (news s sound k) (moves s sound k here) (Unit {0}) AnyRow (any_row s (Keeps s k.to) (Unit {0})) carries AnyTime (any_time s k (Keeps s k.to)) AllNaming names c t maker (names_only (member_count s) c ours.names)
         (keeps s sound k t h) (started_at_once s sound k t h) (started_late s sound k t h) tt
 
 pub step_among : (s : Setup) (k : Key) (c : EventKind) (t : State) → IsSound s → IsAmongMembers s k c → IsConsistent s k.to t

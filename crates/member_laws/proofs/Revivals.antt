@@ -62,13 +62,14 @@ claimed me q j t u says h =
     let put = put_cases me q j t u (eqb q u.subject) refl says h.0 in
     ((put.0, get_put t.table u.subject q (u.claim, u.inc) ∙ put.1, put.2), h.1)
 
-moves : (s : Setup) (k : Key) (q j : ℕ) → OwnMoves s k (FactOf (Holds q j))
-moves s k q j = record {
+moves : (s : Setup) → profile_of s ≡ Memberlist → (k : Key) (q j : ℕ) → OwnMoves s k (FactOf (Holds q j))
+moves s rules k q j = record {
   refuted = λ t claim number refutes h. h;
   weakened = λ t failures h. h;
   mended = λ t h. h;
   welcomed = λ t h. (h.0, λ is. absurd (let e = is in cc));
   downed = λ t h. (h.0, λ is. absurd (let e = is in cc));
+  forgotten = λ t who held others here dead h. absurd (let e = sym rules ∙ others in cc);
   began = λ t waits h. absurd (h.1 waits);
   late = λ t waits h. absurd (h.1 waits);
 }
@@ -80,7 +81,7 @@ started s m t q held waits here is = false≢true (ap is_some (sym (ap (λ (t : 
 pub stays_over : (s : Setup) → profile_of s ≡ Memberlist → (k : Key) (c : EventKind) (t : State) (q j : ℕ) → WaitsAsOpened s k.to t → HeldOver q j t.table → HeldOver q j (step s k c t).state.table
 stays_over s rules k c t q j waits (held, here, over) =
     (on_step s k Anyone (FactOf (Holds q j)) (keeps_news s k (Holds q j) (λ v u says h. claimed k.to q j v u (subst (λ profile. IsNews profile k.to v u) rules says) h))
-    (keeps_moves s k (Holds q j) (moves s k q j)) c t tt (anyone_named c) ((held, here, over), started s k.to t q held waits here)).0
+    (keeps_moves s k (Holds q j) (moves s rules k q j)) c t tt (anyone_named c) ((held, here, over), started s k.to t q held waits here)).0
 
 -- who was confirmed at number j, and is held so now
 pub confirmed_over : (q j : ℕ) (table : Known) → get table q ≡ Some (Confirm, j) → HeldOver q j table

@@ -1,5 +1,5 @@
 -- What the switches of Lifeguard's mechanisms leave out.
-use Rattle.std.proofs.Common.{◌≡◌, ℕ, Bool, true, false, cond, ◌&&◌, nat_eq, Option, Some, None, All, refl, sym, ap, ◌∙◌, arith, List, [], ◌∷◌}
+use Rattle.std.proofs.Common.{◌≡◌, ℕ, Bool, true, false, cond, ◌&&◌, ◌||◌, nat_eq, Option, Some, None, All, refl, sym, ap, ◌∙◌, arith, List, [], ◌∷◌}
 use Rattle.std.specs.List.{AllByRecursion}
 use Rattle.std.specs.Option.{is_some, option_and_then, IfSome}
 use Rattle.std.specs.FinMap.{get, insert, remove}
@@ -22,16 +22,17 @@ use Rattle.suspicion.specs.Suspicions.{HeldSuspicion, HeldSuspicions, counts, wi
 use Rattle.member.specs.declared.event_kind.EventKind.{EventKind}
 use Rattle.member.specs.State.{State}
 use Rattle.member.specs.Effects.{Effect, with_row, with_event}
+use Rattle.member.specs.LoneBuddy.{suspicion_held, lone_buddy_of}
 use Rattle.member.specs.Send.{suspicion_told, buddy_of}
 use Rattle.scenario.specs.Profile.{profile_of}
-use Rattle.member.specs.Apply.{claim_kept, without_suspicion, death_kept}
+use Rattle.member.specs.Apply.{claim_kept_by, without_suspicion, death_kept}
 use Rattle.member.specs.Opening.{opening_health}
 use Rattle.member.specs.Step.{step}
-use Rattle.member_laws.specs.Words.{HasTerms, OwesNoneWithout, IsConsistent}
+use Rattle.member_laws.specs.Words.{keeps_relays, HasTerms, OwesNoneWithout, IsConsistent}
 use Rattle.member_laws.specs.Rows.{IsOn}
 use Rattle.member_laws.proofs.Moves.{NewsMoves, Moves, kept_either, death_either, Anyone}
 use Rattle.member_laws.proofs.Walk.{all_anyone, anyone_named}
-use Rattle.member_laws.proofs.Made.{IsPlain, MayTell, Makes, AnyTime, any_time, by_step, Carries}
+use Rattle.member_laws.proofs.Made.{IsPlain, MayTell, SendsNacks, Makes, AnyTime, any_time, by_step, Carries}
 use Rattle.member_laws.proofs.Tables.{OfAll, of_put, of_left, of_accused}
 use Rattle.member_laws.proofs.Consistency.{IsHealthy, healthy_raised, healthy_lowered, relay_gone}
 
@@ -64,24 +65,24 @@ module _ (s : Setup) (k : Key) where
       left : (t : State) (u : Update) → IsSet s t → Settled (remove t.suspicions u.subject) (terms_of s)
       left t u h = of_left (λ x. x.terms ≡ terms_of s) t.suspicions u.subject h.terms
 
-      ended : (t : State) (u : Update) → IsSet s t → IsSet s (record (claim_kept u t) { suspicions = remove (claim_kept u t).suspicions u.subject })
+      ended : (t : State) (u : Update) → IsSet s t → IsSet s (record (claim_kept_by (profile_of s) u t) { suspicions = remove (claim_kept_by (profile_of s) u t).suspicions u.subject })
       ended t u h =
-          kept_either (λ v. IsSet s (record v { suspicions = remove v.suspicions u.subject })) u t
-          (record { terms = left t u h; relays = h.relays; health = h.health }) (record { terms = left t u h; relays = h.relays; health = h.health }) (record { terms = left t u h; relays = h.relays; health = h.health })
+          kept_either (λ v. IsSet s (record v { suspicions = remove v.suspicions u.subject })) (profile_of s) u t
+          (record { terms = left t u h; relays = h.relays; health = h.health }) (record { terms = left t u h; relays = h.relays; health = h.health }) (record { terms = left t u h; relays = h.relays; health = h.health }) (record { terms = left t u h; relays = h.relays; health = h.health })
 
-      out : (t : State) (u : Update) → IsSet s t → IsSet s (death_kept (profile_of s) u.subject k.at (without_suspicion u.subject (claim_kept u t)))
+      out : (t : State) (u : Update) → IsSet s t → IsSet s (death_kept (profile_of s) u.subject k.at (without_suspicion u.subject (claim_kept_by (profile_of s) u t)))
       out t u h =
           let kept = ended t u h in
-          death_either (IsSet s) (profile_of s) u.subject k.at (without_suspicion u.subject (claim_kept u t)) kept (record { terms = kept.terms; relays = kept.relays; health = kept.health })
+          death_either (IsSet s) (profile_of s) u.subject k.at (without_suspicion u.subject (claim_kept_by (profile_of s) u t)) kept (record { terms = kept.terms; relays = kept.relays; health = kept.health })
 
       more : (t : State) (u : Update) (x : HeldSuspicion) → x.terms ≡ terms_of s → IsSet s t → Settled (insert t.suspicions u.subject x) (terms_of s)
       more t u x own h = of_put (λ x. x.terms ≡ terms_of s) t.suspicions u.subject x own h.terms
 
       begun : (t : State) (u : Update) (x : HeldSuspicion) → x.terms ≡ terms_of s → IsSet s t
-          → IsSet s (record (claim_kept u t) { suspicions = insert (claim_kept u t).suspicions u.subject x })
+          → IsSet s (record (claim_kept_by (profile_of s) u t) { suspicions = insert (claim_kept_by (profile_of s) u t).suspicions u.subject x })
       begun t u x own h =
-          kept_either (λ v. IsSet s (record v { suspicions = insert v.suspicions u.subject x })) u t
-          (record { terms = more t u x own h; relays = h.relays; health = h.health }) (record { terms = more t u x own h; relays = h.relays; health = h.health }) (record { terms = more t u x own h; relays = h.relays; health = h.health })
+          kept_either (λ v. IsSet s (record v { suspicions = insert v.suspicions u.subject x })) (profile_of s) u t
+          (record { terms = more t u x own h; relays = h.relays; health = h.health }) (record { terms = more t u x own h; relays = h.relays; health = h.health }) (record { terms = more t u x own h; relays = h.relays; health = h.health }) (record { terms = more t u x own h; relays = h.relays; health = h.health })
 
   moves : Moves s k Anyone (IsSet s)
   moves = record {
@@ -93,6 +94,8 @@ module _ (s : Setup) (k : Key) where
     picked = λ t buddy h. record { terms = h.terms; relays = h.relays; health = h.health };
     probing = λ t seq probe up aim h. record { terms = h.terms; relays = h.relays; health = h.health };
     turned = λ t h. record { terms = h.terms; relays = h.relays; health = h.health };
+    forgotten = λ t q held rules here dead h. record { terms = h.terms; relays = h.relays; health = h.health };
+    mixed = λ t h. record { terms = h.terms; relays = h.relays; health = h.health };
     relay_added = λ t relay on h. record { terms = h.terms; relays = λ off. absurd (false≢true (sym off ∙ on)); health = h.health };
     relay_removed = λ t relay h. record {
       terms = h.terms;
@@ -119,9 +122,10 @@ on_plain s what.Nack h = absurd h
 on_plain s what.Health h = absurd h
 on_plain s _ h = tt
 
-on_nack : (s : Setup) (t : State) (relay : ℕ × ℕ) (b : Bool) → s.lifeguard.probe ≡ b → IsSet s t → set.contains t.relays relay ≡ true → b ≡ true
-on_nack s t relay true e h here = refl
-on_nack s t relay false e h here = absurd (false≢true (sym (h.relays e relay) ∙ here))
+on_nack : (s : Setup) (t : State) (relay : ℕ × ℕ) (b c : Bool) → s.lifeguard.probe ≡ b → keeps_relays (profile_of s) ≡ c → SendsNacks s → IsSet s t → set.contains t.relays relay ≡ true → b ≡ true
+on_nack s t relay true c e kept sends h here = refl
+on_nack s t relay false true e kept sends h here = sym e ∙ sends kept
+on_nack s t relay false false e kept sends h here = absurd (false≢true (sym (h.relays (λ i. e i || kept i) relay) ∙ here))
 
 counts_shortens : (a b c : Bool) → (a && b && c) ≡ true → a ≡ true
 counts_shortens true b c h = refl
@@ -147,10 +151,10 @@ on_health s t h true e is as' differs = refl
 on_health s t h false e is as' differs =
     absurd (false≢true (sym differs ∙ none_differs (opening_health s) t.health h (ap (λ b. cond b s.lifeguard.ceiling 0) e) is as'))
 
-may : (s : Setup) → MayTell (IsSet s) (Unit {0}) (IsOn s)
+may : (s : Setup) → MayTell s (IsSet s) (Unit {0}) (IsOn s)
 may s = record {
   plain = on_plain s;
-  nacks = λ t relay h here. on_nack s t relay s.lifeguard.probe refl h here;
+  nacks = λ t relay h here sends. on_nack s t relay s.lifeguard.probe (keeps_relays (profile_of s)) refl refl sends h here;
   accuses = λ t u x h is. on_accuse s t u.subject u.accuser t.next_number x (get t.suspicions u.subject) h refl is;
   healths = λ t h is as' differs. on_health s t h s.lifeguard.probe refl is.health as'.health differs;
 }
@@ -206,3 +210,7 @@ full_without s m t off h =
 pub no_buddy : (s : Setup) (to : ℕ) (t : State) → s.lifeguard.buddy ≡ false → buddy_of s to t ≡ None
 unfolding buddy_of
 no_buddy s to t off = ap (λ b. cond b (suspicion_told t to (get t.table to)) None) off
+
+pub no_lone_buddy : (s : Setup) (me to : ℕ) (t : State) → s.lifeguard.buddy ≡ false → lone_buddy_of s me to t ≡ None
+unfolding lone_buddy_of
+no_lone_buddy s me to t off = ap (λ b. cond b (suspicion_held me to (get t.table to)) None) off

@@ -18,6 +18,10 @@ use Rattle.incarnation.specs.declared.Claim.{Claim}
 use Rattle.incarnation.specs.declared.Claim.TheVariants.{Alive}
 use Rattle.probing.specs.ProbeOrder.{ProbeOrder, IsSoundOrder, times_in, round_over, next_of, insert_of, remove_of}
 use Rattle.probing.proofs.SoundLemmas.{one_if, one_if-same, one_if-other, times_in-cons, are_members-insert, members_bounded}
+use Rattle.probing.specs.Mixed.{mixed_of}
+use Rattle.probing.specs.Displaced.{displaced_of}
+use Rattle.probing.proofs.MixedLemmas.{mixed_same, mixed_sound}
+use Rattle.probing.proofs.DisplacedLemmas.{displaced_sound, displaced_counted}
 use Rattle.probing.proofs.RoundLemmas.{is_probe, next_sound}
 use Rattle.probing.proofs.OthersLemmas.{removed_absent, others_counted, remove_sound}
 use Rattle.suspicion.specs.declared.terms.Terms.{Terms}
@@ -57,6 +61,23 @@ holds_put : (test : Claim → Bool) (table : Known) (k q : ℕ) (v : Claim × �
 holds_put test table k q v =
     ap (λ o. option_map_or (λ (held : Claim × ℕ). test held.0) o false) (get_put table k q v) ∙ held_either test (eqb q k) v (get table q)
 
+held_none : (test : Claim → Bool) (b : Bool) (o : Option (Claim × ℕ))
+    → option_map_or (λ (held : Claim × ℕ). test held.0) (cond b None o) false ≡ cond b false (option_map_or (λ (held : Claim × ℕ). test held.0) o false)
+held_none test true o = refl
+held_none test false o = refl
+
+holds_left : (test : Claim → Bool) (table : Known) (k q : ℕ) → holds test (remove table k) q ≡ cond (eqb q k) false (holds test table q)
+holds_left test table k q =
+    ap (λ o. option_map_or (λ (held : Claim × ℕ). test held.0) o false) (get_left table k q) ∙ held_none test (eqb q k) (get table q)
+
+-- of whom no claim passes the test it makes no difference that nothing is held any more
+same_left : (test : Claim → Bool) (table : Known) (k q : ℕ) → holds test table k ≡ false → holds test (remove table k) q ≡ holds test table q
+same_left test table k q none = holds_left test table k q ∙ either (eqb q k) refl
+  where
+    either : (b : Bool) → eqb q k ≡ b → cond b false (holds test table q) ≡ holds test table q
+    either true e = sym (ap (holds test table) (eqb-true q k e) ∙ none)
+    either false e = refl
+
 -- what is held of a member that passes a test makes it known
 pub known_held : (test : Claim → Bool) (o : Option (Claim × ℕ)) → option_map_or (λ (held : Claim × ℕ). test held.0) o false ≡ true → is_some o ≡ true
 known_held test None h = absurd (false≢true h)
@@ -76,6 +97,13 @@ pub others_put : (n m : ℕ) (table : Known) (k : ℕ) (v : Claim × ℕ) → k 
 others_put n m table k v low apart h = record {
   others = λ q here. others_cases n m table k q (eqb q k) refl low apart (h.others q) (sym (has_put table k q v) ∙ here);
 }
+
+pub others_left : (n m : ℕ) (table : Known) (k : ℕ) → HoldsOthers n m table → HoldsOthers n m (remove table k)
+others_left n m table k h = record { others = λ q here. h.others q (known (eqb q k) (contains_key table q) (sym (has_left table k q) ∙ here)) }
+  where
+    known : (b c : Bool) → cond b false c ≡ true → c ≡ true
+    known true c h = absurd (false≢true h)
+    known false c h = h
 
 -- ---- suspicions
 
@@ -135,6 +163,10 @@ cleared table suspicions terms k v is h = record {
   settled = of_left (λ x. x.terms ≡ terms) suspicions k h.settled;
 }
 
+-- where nothing is held any more of one that isn't suspected
+pub suspects_left : (table : Known) (suspicions : HeldSuspicions) (terms : Terms) (k : ℕ) → holds is_suspect table k ≡ false → SuspectsAlike table suspicions terms → SuspectsAlike (remove table k) suspicions terms
+suspects_left table suspicions terms k none h = record { alike = λ q. h.alike q ∙ sym (same_left is_suspect table k q none); settled = h.settled }
+
 -- one that is shortened
 same_keys : (b c : Bool) → c ≡ true → cond b true c ≡ c
 same_keys true c is = sym is
@@ -169,10 +201,20 @@ pub record ProbesAlike (table : Known) (rota : ProbeOrder) : Type 0 where
   pub probes : (q : ℕ) → times_in rota.members q ≡ cond (holds is_live table q) 1 0
   pub sound : IsSoundOrder rota
 
+-- where nothing is held any more of one that isn't probed
+pub probes_left : (table : Known) (rota : ProbeOrder) (k : ℕ) → holds is_live table k ≡ false → ProbesAlike table rota → ProbesAlike (remove table k) rota
+probes_left table rota k none h = record { probes = λ q. h.probes q ∙ ap (λ b. cond b 1 0) (sym (same_left is_live table k q none)); sound = h.sound }
+
 pub next_probes : (table : Known) (rota : ProbeOrder) (words : Words) → AreWords words → ProbesAlike table rota → ProbesAlike table (next_of words rota).1
 next_probes table rota words fit h = record {
   probes = λ q. sum_by-IsPermutation (λ (it : ℕ). one_if (it == q)) rota.members (next_of words rota).1.members (is_probe words rota fit h.sound).same ∙ h.probes q;
   sound = next_sound words rota fit h.sound;
+}
+
+pub mixed_probes : (table : Known) (rota : ProbeOrder) (words : Words) → AreWords words → ProbesAlike table rota → ProbesAlike table (mixed_of words rota).0
+mixed_probes table rota words fit h = record {
+  probes = λ q. sum_by-IsPermutation (λ (it : ℕ). one_if (it == q)) rota.members (mixed_of words rota).0.members (mixed_same words rota fit h.sound) ∙ h.probes q;
+  sound = mixed_sound words rota fit h.sound;
 }
 
 insert_sound : (words : Words) (member : ℕ) (order : ProbeOrder) → AreWords words → IsSoundOrder order → member < 2 ^ 16 → times_in order.members member ≡ 0
@@ -196,21 +238,32 @@ insert_counted words member q order = sum_by-insert (λ (it : ℕ). one_if (it =
 unheld : (test : Claim → Bool) (o : Option (Claim × ℕ)) → o ≡ None → option_map_or (λ (held : Claim × ℕ). test held.0) o false ≡ false
 unheld test o none = ap (λ o. option_map_or (λ (held : Claim × ℕ). test held.0) o false) none
 
+one_more : (table : Known) (rota : ProbeOrder) (k : ℕ) (v : Claim × ℕ) → is_live v.0 ≡ true → ProbesAlike table rota → (q : ℕ) (b : Bool) → eqb q k ≡ b → times_in rota.members k ≡ 0
+    → times_in rota.members q + one_if (k == q) ≡ cond (cond b (is_live v.0) (holds is_live table q)) 1 0
+one_more table rota k v is h q true e absent =
+    let same : q ≡ k = eqb-true q k e in
+    omega (arith, ap (times_in rota.members) same, absent, one_if-same k q (sym same)) ∙ ap (λ b. cond b 1 0) (sym is)
+one_more table rota k v is h q false e absent = omega (arith, one_if-other k q (λ same. eqb-false q k e (sym same))) ∙ h.probes q
+
 -- a member that wasn't known, or was confirmed, comes into the rota
 pub placed : (table : Known) (rota : ProbeOrder) (words : Words) (k : ℕ) (v : Claim × ℕ) → AreWords words → k < 2 ^ 16 → holds is_live table k ≡ false → is_live v.0 ≡ true
     → ProbesAlike table rota → ProbesAlike (insert table k v) (insert_of words k rota).0
 placed table rota words k v fit low none is h =
     let absent : times_in rota.members k ≡ 0 = h.probes k ∙ ap (λ b. cond b 1 0) none in
     record {
-      probes = λ q. insert_counted words k q rota ∙ counted q (eqb q k) refl absent ∙ ap (λ b. cond b 1 0) (sym (holds_put is_live table k q v));
+      probes = λ q. insert_counted words k q rota ∙ one_more table rota k v is h q (eqb q k) refl absent ∙ ap (λ b. cond b 1 0) (sym (holds_put is_live table k q v));
       sound = insert_sound words k rota fit h.sound low absent;
     }
-  where
-    counted : (q : ℕ) (b : Bool) → eqb q k ≡ b → times_in rota.members k ≡ 0 → times_in rota.members q + one_if (k == q) ≡ cond (cond b (is_live v.0) (holds is_live table q)) 1 0
-    counted q true e absent =
-        let same : q ≡ k = eqb-true q k e in
-        omega (arith, ap (times_in rota.members) same, absent, one_if-same k q (sym same)) ∙ ap (λ b. cond b 1 0) (sym is)
-    counted q false e absent = omega (arith, one_if-other k q (λ same. eqb-false q k e (sym same))) ∙ h.probes q
+
+-- one that takes the place of another comes into the rota too
+pub displaced : (table : Known) (rota : ProbeOrder) (words : Words) (k : ℕ) (v : Claim × ℕ) → AreWords words → k < 2 ^ 16 → holds is_live table k ≡ false → is_live v.0 ≡ true
+    → ProbesAlike table rota → ProbesAlike (insert table k v) (displaced_of words k rota).0
+displaced table rota words k v fit low none is h =
+    let absent : times_in rota.members k ≡ 0 = h.probes k ∙ ap (λ b. cond b 1 0) none in
+    record {
+      probes = λ q. displaced_counted words k q rota fit h.sound ∙ one_more table rota k v is h q (eqb q k) refl absent ∙ ap (λ b. cond b 1 0) (sym (holds_put is_live table k q v));
+      sound = displaced_sound words k rota fit h.sound low absent;
+    }
 
 -- one that is known, and not as confirmed, is there
 pub stays_probed : (table : Known) (rota : ProbeOrder) (k : ℕ) (v : Claim × ℕ) → holds is_live table k ≡ true → is_live v.0 ≡ true

@@ -1,14 +1,15 @@
 -- Every step is made of the changes.
 use Rattle.std.specs.Option.{is_some, option_map_or}
-use Rattle.std.proofs.Common.{◌≡◌, ℕ, ◌+◌, ◌-◌, length, map, Bool, true, false, cond, not, nat_eq, nat_lt, ◌&&◌, List, [], ◌∷◌, Option, Some, None, option_map, refl, ap, sym, subst, arith}
+use Rattle.std.proofs.Common.{◌≡◌, ℕ, zero, suc, ◌+◌, ◌-◌, ◌==◌, length, map, Bool, true, false, cond, not, nat_eq, nat_lt, ◌&&◌, ◌||◌, List, [], ◌∷◌, Option, Some, None, option_map, refl, ap, sym, subst, ◌∙◌, arith}
 use Rattle.std.proofs.lemmas.Option.{same_Some}
 use Rattle.std.specs.List.{AllByRecursion}
 use Rattle.std.specs.FinMap.{get}
 use Rattle.std.specs.FinSet as set
-use Rattle.std.proofs.lemmas.Bool.{eqb-false, false≢true}
+use Rattle.std.proofs.lemmas.Bool.{eqb-false, false≢true, and_parts}
 use Rattle.base.specs.declared.key.Key.{Key}
-use Rattle.scenario.specs.Setup.{Setup, start_of, contact_of}
+use Rattle.scenario.specs.Setup.{Setup, member_count, start_of, contact_of}
 use Rattle.trace.specs.declared.row.What.{What}
+use Rattle.trace.specs.declared.row.What.TheVariants as what
 use Rattle.streams.specs.Draw.{Words, IsRestOf, below_of}
 use Rattle.streams.proofs.PlaceLemmas.{below_rest, shuffle_rest}
 use Rattle.incarnation.specs.declared.Claim.{Claim}
@@ -30,17 +31,33 @@ use Rattle.member.specs.Announce.{is_aloud}
 use Rattle.member.specs.State.{State}
 use Rattle.base.specs.Beats.{next_in_step}
 use Rattle.base.specs.declared.profile.Profile.{Profile}
-use Rattle.base.specs.declared.profile.Profile.TheVariants.{Papers, Memberlist}
+use Rattle.base.specs.declared.profile.Profile.TheVariants.{Papers, Memberlist, Hashicorp}
 use Rattle.scenario.specs.Profile.{profile_of}
 use Rattle.scenario.specs.declared.settings.Gossip as settings
 use Rattle.incarnation.specs.Refutations.{does_refute}
 use Rattle.membership.specs.Table.{is_alive, is_confirm, does_override, alive_but}
 use Rattle.member.specs.Effects.{Effect, unchanged, on_state, with_row, with_number, with_event, with_timer}
 use Rattle.member.specs.Send.{sent_off, posted, sent, sent_to_each, carried, gossip_sent, call_sent, answer_sent, push_sent, pull_sent, with_picks, buddy_of, ping_sent, ping_req_sent, ack_sent, nack_sent, join_sent_to, join_sent, welcome_sent, bye_sent}
-use Rattle.member.specs.Apply.{gossip_set, with_put, with_health, with_told, passed_on, refuted, heard_dead, is_own_death, own_applied, claim_kept, alive_heard, suspect_heard, confirm_heard, claim_heard, news_heard, accusation_counted, accusation_heard, is_repeated, is_heeded, other_applied, applied, all_applied}
-use Rattle.member.specs.Step.{push_begun, first_push_set, suspected_at, timed_probe_failed, probe_settled, needs_timer, probe_timers_set, timed_probe_begun, timed_target_probed, next_timed_probed, waiting_probed, has_time, probed_in_turn, period_beaten, is_under_way, deadline_over, timed_answered, timed_ack_heard, sampled_help, helped, called, timed_out_timed, reached, answer_heard, is_told_out, gossip_spread, gossip_set_again, gossip_round, gossip_due, merged_claim, merged, pushed, push_due, push_heard, timed_handled, handled_by, first_period_set, began, join_asked, joining_begun, started, crashed, join_handled, joined, suspected, probe_failed, probe_ended, probe_begun, target_probed, next_probed, period_begun, with_expected, help_asked, timed_out, nack_heard, nacked, answered, ping_heard, with_relay, ping_req_heard, ack_taken, ack_heard, nack_due, confirmed, suspicion_over, withdrawn, byes_said, departed, plain_handled, handled, step}
+use Rattle.member.specs.Apply.{gossip_set, with_put, with_health, with_told, passed_on, refuted, heard_dead, is_own_death, own_applied, claim_kept_by, alive_heard, suspect_heard, confirm_heard, claim_heard, news_heard, accusation_counted, accusation_heard, is_repeated, is_heeded, other_applied, applied, all_applied}
+use Rattle.member.specs.Forgetting.{without_entry, kept_for, is_long_dead, forgotten_if, all_forgotten, round_ended}
+use Rattle.member.specs.FirstRounds.{first_round}
+use Rattle.member.specs.Step.{push_begun, even_push_begun, push_begun_by, push_period, first_push_set, suspected_at, timed_probe_failed, probe_settled, needs_timer, probe_timers_set, timed_probe_begun, timed_target_probed, next_timed_probed, waiting_probed, has_time, probed_in_turn, period_beaten, is_under_way, deadline_over, timed_answered, timed_ack_heard, sampled_help, helped, called, timed_out_timed, reached, answer_heard, is_told_out, gossip_spread, gossip_set_again, gossip_round, gossip_due, merged_claim, merged, pushed, push_due, push_heard, timed_handled, handled_by, first_period_set, began, join_asked, joining_begun, started, crashed, join_handled, joined, suspected, probe_failed, probe_ended, probe_begun, target_probed, next_probed, period_begun, with_expected, help_asked, timed_out, nack_heard, nacked, answered, ping_heard, with_relay, ping_req_heard, ack_taken, ack_heard, nack_due, confirmed, suspicion_over, withdrawn, byes_said, departed, plain_handled, handled, step}
 use Rattle.member_laws.proofs.Rests.{arrival_rest, call_rest, answer_rest, kept_rest, sample_rest}
+use Rattle.std.proofs.Math.Bool.{or-true}
+use Rattle.suspicion.specs.Suspicions.{is_over_of}
+use Rattle.membership.specs.Table.{is_suspect, size_by}
+use Rattle.member.specs.LateAccusations.{death_of, accused_confirmed, accusation_answered, prompt_accusation_heard, accusation_by}
+use Rattle.member.specs.LoneBuddy.{lone_buddy_of, plain_ping_sent, ping_with_lone, probe_ping_sent}
+use Rattle.member.specs.SingleBeat.{is_in_step, both_timers_set, single_probe_begun, single_target_probed, turn_probed, next_single_probed, next_if_waiting, single_beat_taken, single_beaten, single_deadline_over, single_answered}
+use Rattle.member.specs.LateAcks.{ping_answered, help_given, help_asked_for, single_ack_taken, single_ack_heard, help_over}
+use Rattle.member.specs.Step.{single_handled}
+use Rattle.member_laws.specs.Words.{has_relays, keeps_relays}
+use Rattle.member_laws.proofs.LateDeaths.{repeated_suspect, death_after}
 use Rattle.member_laws.proofs.Moves.{IsNews, NewsMoves, Moves, at_once, at_late, Anyone}
+
+-- by memberlist 0.5.0's rules helpers keep in mind whom they help
+pub always_relays : (s : Setup) → profile_of s ≡ Hashicorp → has_relays s ≡ true
+always_relays s rules = ap (λ profile. s.lifeguard.probe || keeps_relays profile) rules ∙ or-true s.lifeguard.probe
 
 -- whom the updates of an event are about
 abbrev pub AllNamed : (ℕ → Type 0) → List Update → Type 0
@@ -148,7 +165,7 @@ module _ (s : Setup) (k : Key) (Named : ℕ → Type 0) (R : State → Type 0) (
   on_passed telling u o named h = on_either (is_aloud telling) (with_put s k u o) o (on_put u o named h) h
 
   pub on_claim : (telling : Announce) (u : Update) (claim : Claim) (o : Effect) → Named u.subject → IsNews (profile_of s) k.to o.state u → u.claim ≡ claim → R o.state
-      → R (claim_heard s telling k u claim (on_state (claim_kept u) o)).state
+      → R (claim_heard s telling k u claim (on_state (claim_kept_by (profile_of s) u) o)).state
   unfolding alive_heard suspect_heard confirm_heard
   on_claim telling u Alive o named says e h = on_told telling _ u.subject u.inc _ (news.alive o.state u named says e h)
   on_claim telling u Suspect o named says e h =
@@ -157,7 +174,7 @@ module _ (s : Setup) (k : Key) (Named : ℕ → Type 0) (R : State → Type 0) (
 
   pub on_news : (telling : Announce) (u : Update) (o : Effect) → Named u.subject → IsNews (profile_of s) k.to o.state u → R o.state → R (news_heard s telling k u o).state
   unfolding news_heard
-  on_news telling u o named says h = on_passed telling u (claim_heard s telling k u u.claim (on_state (claim_kept u) o)) named (on_claim telling u u.claim o named says refl h)
+  on_news telling u o named says h = on_passed telling u (claim_heard s telling k u u.claim (on_state (claim_kept_by (profile_of s) u) o)) named (on_claim telling u u.claim o named says refl h)
 
   pub on_accusation_counted : (telling : Announce) (u : Update) (accused : Option Accused) (o : Effect) → Named u.subject → R o.state → R (accusation_counted s telling k u accused o).state
   on_accusation_counted telling u None o named h = h
@@ -169,11 +186,44 @@ module _ (s : Setup) (k : Key) (Named : ℕ → Type 0) (R : State → Type 0) (
   on_accusation telling u o named h =
       on_accusation_counted telling u (option_map (answer_to k.at) (accused_of o.state.suspicions u.subject u.accuser o.state.next_number)) _ named (news.accused o.state u h)
 
+  -- where the suspicion's time is up by now
+  on_accused_confirmed : (telling : Announce) (u : Update) (held : Claim × ℕ) (accused : Accused) (o : Effect) → Named u.subject → ¬ (u.subject ≡ k.to) → get o.state.table u.subject ≡ Some held
+      → is_suspect held.0 ≡ true → R o.state → R (accused_confirmed s telling k u held.1 accused o).state
+  on_accused_confirmed telling u held accused o named other here suspected h =
+      let told = with_told telling k what.Accuse u.subject accused.count o in
+      on_news telling (death_of k.to u.subject held.1) (passed_on s k telling u told) named
+      (record { other = other; news = death_after s (profile_of s) k telling what.Accuse u held accused.count o here suspected })
+      (on_passed telling u told named (on_told telling what.Accuse u.subject accused.count o h))
+
+  on_accusation_answered : (telling : Announce) (u : Update) (held : Claim × ℕ) (accused : Option Accused) (o : Effect) → Named u.subject → ¬ (u.subject ≡ k.to) → get o.state.table u.subject ≡ Some held
+      → is_suspect held.0 ≡ true → R o.state → R (accusation_answered s telling k u held.1 accused o).state
+  on_accusation_answered telling u held None o named other here suspected h = h
+  on_accusation_answered telling u held (Some accused) o named other here suspected h =
+      on_either (is_over_of o.state.suspicions u.subject k.at) (accused_confirmed s telling k u held.1 accused o) (accusation_counted s telling k u (Some accused) o)
+      (on_accused_confirmed telling u held accused o named other here suspected h) (on_accusation_counted telling u (Some accused) o named h)
+
+  on_prompt : (telling : Announce) (u : Update) (held : Claim × ℕ) (o : Effect) → Named u.subject → ¬ (u.subject ≡ k.to) → get o.state.table u.subject ≡ Some held
+      → is_suspect held.0 ≡ true → R o.state → R (prompt_accusation_heard s telling k u held.1 o).state
+  unfolding prompt_accusation_heard
+  on_prompt telling u held o named other here suspected h =
+      on_accusation_answered telling u held (option_map (answer_to k.at) (accused_of o.state.suspicions u.subject u.accuser o.state.next_number)) _ named other here suspected (news.accused o.state u h)
+
+  on_accusation_by : (profile : Profile) (telling : Announce) (u : Update) (held : Claim × ℕ) (o : Effect) → Named u.subject → ¬ (u.subject ≡ k.to) → get o.state.table u.subject ≡ Some held
+      → is_suspect held.0 ≡ true → R o.state → R (accusation_by profile s telling k u held.1 o).state
+  on_accusation_by Papers telling u held o named other here suspected h = on_accusation telling u o named h
+  on_accusation_by Memberlist telling u held o named other here suspected h = on_accusation telling u o named h
+  on_accusation_by Hashicorp telling u held o named other here suspected h = on_prompt telling u held o named other here suspected h
+
+  on_repeated : (telling : Announce) (u : Update) (held : Claim × ℕ) (b : Bool) (o : Effect) → Named u.subject → ¬ (u.subject ≡ k.to) → get o.state.table u.subject ≡ Some held
+      → is_repeated (profile_of s) u held ≡ b → R o.state → R (cond b (accusation_by (profile_of s) s telling k u held.1 o) o).state
+  on_repeated telling u held true o named other here e h = on_accusation_by (profile_of s) telling u held o named other here (repeated_suspect (profile_of s) u held e) h
+  on_repeated telling u held false o named other here e h = h
+
   pub on_known : (telling : Announce) (u : Update) (held : Claim × ℕ) (b : Bool) (o : Effect) → Named u.subject → ¬ (u.subject ≡ k.to) → get o.state.table u.subject ≡ Some held
       → does_override (profile_of s) (u.claim, u.inc) held ≡ b → R o.state
-      → R (cond b (news_heard s telling k u o) (cond (is_repeated (profile_of s) u held) (accusation_heard s telling k u o) o)).state
+      → R (cond b (news_heard s telling k u o) (cond (is_repeated (profile_of s) u held) (accusation_by (profile_of s) s telling k u held.1 o) o)).state
   on_known telling u held true o named other here e h = on_news telling u o named (record { other = other; news = rw here e }) h
-  on_known telling u held false o named other here e h = on_either (is_repeated (profile_of s) u held) (accusation_heard s telling k u o) o (on_accusation telling u o named h) h
+  on_known telling u held false o named other here e h = on_repeated telling u held (is_repeated (profile_of s) u held) o named other here refl h
 
   pub on_other : (telling : Announce) (u : Update) (held : Option (Claim × ℕ)) (o : Effect) → Named u.subject → ¬ (u.subject ≡ k.to) → get o.state.table u.subject ≡ held → R o.state
       → R (other_applied s telling k u held o).state
@@ -308,9 +358,20 @@ module _ (s : Setup) (k : Key) (Named : ℕ → Type 0) (R : State → Type 0) (
     unfolding push_begun
     on_push_begun beat push o h = on_event _ k.to PushTimer _ (moves.drawn o.state (below_of o.state.words push).1 (below_rest o.state.words push) h)
 
+    on_even_push : (beat push : ℕ) (o : Effect) → R o.state → R (even_push_begun s k beat push o).state
+    unfolding even_push_begun
+    on_even_push beat push o h =
+        let period = push_period push (size_by (profile_of s) o.state.table) in
+        on_event _ k.to PushTimer _ (moves.drawn o.state (below_of o.state.words period).1 (below_rest o.state.words period) h)
+
+    on_push_begun_by : (profile : Profile) (beat push : ℕ) (o : Effect) → R o.state → R (push_begun_by profile s k beat push o).state
+    on_push_begun_by Papers beat push o h = on_push_begun beat push o h
+    on_push_begun_by Memberlist beat push o h = on_push_begun beat push o h
+    on_push_begun_by Hashicorp beat push o h = on_even_push beat push o h
+
     pub on_first_push : (beat : ℕ) (gossip : Option settings.Gossip) (o : Effect) → R o.state → R (first_push_set s k beat gossip o).state
     on_first_push beat None o h = h
-    on_first_push beat (Some gossip) o h = on_either (nat_eq gossip.push 0) o (push_begun s k beat gossip.push o) h (on_push_begun beat gossip.push o h)
+    on_first_push beat (Some gossip) o h = on_either (nat_eq gossip.push 0) o (push_begun_by (profile_of s) s k beat gossip.push o) h (on_push_begun_by (profile_of s) beat gossip.push o h)
 
     pub on_first_period : (o : Effect) → R o.state → R (first_period_set s k o).state
     unfolding first_period_set
@@ -318,9 +379,14 @@ module _ (s : Setup) (k : Key) (Named : ℕ → Type 0) (R : State → Type 0) (
         let drawn = below_of o.state.words s.swim.spread in
         on_first_push _ s.gossip _ (on_timer _ PeriodTimer _ (moves.beaten (record o.state { words = drawn.1 }) _ (moves.drawn o.state drawn.1 (below_rest o.state.words s.swim.spread) h)))
 
+    pub on_first_round : (profile : Profile) (t : State) → R t → R (first_round profile t)
+    on_first_round Papers t h = h
+    on_first_round Memberlist t h = h
+    on_first_round Hashicorp t h = moves.mixed t h
+
     pub on_began : (o : Effect) → R (at_once s k o.state) → R (began s k o).state
     unfolding began
-    on_began o h = on_first_period _ h
+    on_began o h = on_first_period _ (on_first_round (profile_of s) (at_once s k o.state) h)
 
     pub on_join_asked : (o : Effect) → R o.state → R (join_asked s k o).state
     unfolding join_asked
@@ -418,7 +484,7 @@ module _ (s : Setup) (k : Key) (Named : ℕ → Type 0) (R : State → Type 0) (
     on_ping_heard initiator seq updates o named h = on_ack k.from initiator seq _ (on_all Aloud updates o named h)
 
     pub on_relay : (b : Bool) (seq : ℕ) (o : Effect) → s.lifeguard.probe ≡ b → R o.state → R (cond b (with_relay s k seq o) o).state
-    on_relay true seq o on h = on_timer _ _ _ (moves.relay_added o.state (k.from, seq) on h)
+    on_relay true seq o on h = on_timer _ _ _ (moves.relay_added o.state (k.from, seq) (ap (λ b. b || keeps_relays (profile_of s)) on) h)
     on_relay false seq o off h = h
 
     pub on_ping_req_heard : (seq target : ℕ) (updates : List Update) (o : Effect) → AllNamed Named updates → R o.state → R (ping_req_heard s k seq target updates o).state
@@ -691,17 +757,129 @@ module _ (s : Setup) (k : Key) (Named : ℕ → Type 0) (R : State → Type 0) (
     on_timed (Pull entries) o is sender named h = on_merged entries o named h
     on_timed content o is sender named h = on_handled content Running o is sender named h
 
-    pub on_by : (content : EventKind) (phase : Phase) (profile : Profile) (o : Effect) → o.state.phase ≡ phase → Named k.from → NamesOnly Named (Unit {0}) content → R o.state
+    -- ---- by memberlist 0.5.0's rules
+
+    on_plain_ping : (to initiator seq : ℕ) (o : Effect) → R o.state → R (plain_ping_sent s k to initiator seq o).state
+    unfolding plain_ping_sent
+    on_plain_ping to initiator seq o h = on_sent _ to seq _ (on_state (with_picks s None) o) (moves.picked o.state None h)
+
+    on_lone : (to seq : ℕ) (buddy : Option Update) (o : Effect) → R o.state → R (ping_with_lone s k to seq buddy o).state
+    on_lone to seq None o h = on_plain_ping to k.to seq o h
+    on_lone to seq (Some buddy) o h = on_sent _ to seq _ o h
+
+    pub on_probe_ping : (to seq : ℕ) (o : Effect) → R o.state → R (probe_ping_sent s k to seq o).state
+    unfolding probe_ping_sent
+    on_probe_ping to seq o h = on_lone to seq (lone_buddy_of s k.to to o.state) o h
+
+    pub on_both_timers : (seq timeout deadline : ℕ) (o : Effect) → R o.state → R (both_timers_set s k seq timeout deadline o).state
+    on_both_timers seq timeout deadline o h =
+        let timed = with_timer s k timeout (TimeoutTimer seq) o in
+        let there : R timed.state = on_timer timeout (TimeoutTimer seq) o h in
+        on_either (is_in_step timed.state.beat s.swim.period deadline) (on_state with_number timed) (with_event s k deadline k.to (DeadlineTimer seq) timed)
+        (on_number timed there) (on_event deadline k.to (DeadlineTimer seq) timed there)
+
+    pub on_single_begun : (target : ℕ) (o : Effect) → Named target → R o.state → R (single_probe_begun s k target o).state
+    unfolding single_probe_begun
+    on_single_begun target o named h =
+        let seq = o.state.sequence + 1 in
+        let probe = timed_probe seq target (option_map_or (λ held. held.1) (get o.state.table target) 0) (k.at + scaled o.state.health s.swim.period) in
+        on_both_timers _ _ _ _ (on_probe_ping target seq _ (moves.probing o.state seq (Some probe) (omega arith) (one_target Named probe named) h))
+
+    pub on_single_target : (target : Option ℕ) (o : Effect) → ((q : ℕ) → target ≡ Some q → Named q) → R o.state → R (single_target_probed s k target o).state
+    on_single_target None o named h = moves.probing o.state o.state.sequence None (omega arith) (no_target Named) h
+    on_single_target (Some target) o named h = on_single_begun target o (named target refl) h
+
+    -- who has been dead for long is forgotten, where that keeps the fact
+    module _ (forgets : (t : State) (q : ℕ) (held : Claim × ℕ) → get t.table q ≡ Some held → is_confirm held.0 ≡ true → R t → R (without_entry q t)) where
+      on_forgotten_if : (member : ℕ) (held : Option (Claim × ℕ)) (o : Effect) → get o.state.table member ≡ held → R o.state → R (forgotten_if s k member held o).state
+      on_forgotten_if member None o none h = h
+      on_forgotten_if member (Some held) o here h = either (is_long_dead k.at (kept_for s.gossip) (o.state.since member) held.0) refl
+        where
+          gone : Effect
+          gone = on_state (without_entry member) o
+
+          either : (b : Bool) → is_long_dead k.at (kept_for s.gossip) (o.state.since member) held.0 ≡ b → R (cond b (with_row k what.Forget (Some member) held.1 false gone) o).state
+          either true dead = on_row what.Forget (Some member) held.1 false gone (forgets o.state member held here (and_parts _ _ dead).0 h)
+          either false dead = h
+
+      pub on_forgotten : (count : ℕ) (o : Effect) → R o.state → R (all_forgotten s k count o).state
+      unfolding all_forgotten
+      on_forgotten zero o h = h
+      on_forgotten (suc count) o h = on_forgotten_if count _ (all_forgotten s k count o) refl (on_forgotten count o h)
+
+      pub on_round_ended : (o : Effect) → R o.state → R (round_ended s k o).state
+      unfolding round_ended
+      on_round_ended o h = on_either (o.state.rota.mark == length o.state.rota.members) (all_forgotten s k (member_count s) o) o (on_forgotten (member_count s) o h) h
+
+    pub on_turn_probed : (o : Effect) → R o.state → R (turn_probed s k o).state
+    unfolding turn_probed
+    on_turn_probed o h = on_single_target (next_of o.state.words o.state.rota).0 _ (λ q is. moves.targets o.state q h is) (moves.turned o.state h)
+
+    module _ (rules : profile_of s ≡ Hashicorp) where
+      pub on_next_single : (o : Effect) → R o.state → R (next_single_probed s k o).state
+      unfolding next_single_probed
+      on_next_single o h = on_turn_probed (round_ended s k o) (on_round_ended (λ t q held here dead r. moves.forgotten t q held rules here dead r) o h)
+
+      pub on_if_waiting : (o : Effect) → R o.state → R (next_if_waiting s k o).state
+      on_if_waiting o h = on_either o.state.waits _ o (on_next_single (on_state (λ t. record t { waits = false }) o) (moves.waiting o.state false h)) h
+
+      pub on_beat_taken : (o : Effect) → R o.state → R (single_beat_taken s k o).state
+      on_beat_taken o h =
+          on_either (has_time k.at o.state.probe) _ _ (moves.waiting o.state true h)
+          (on_next_single _ (on_settled o.state.probe (on_state (λ t. record t { waits = false }) o) (moves.waiting o.state false h)))
+
+      pub on_single_beaten : (o : Effect) → R o.state → R (single_beaten s k o).state
+      unfolding single_beaten
+      on_single_beaten o h = on_beat_taken _ (on_event _ k.to PeriodTimer o h)
+
+      pub on_single_deadline : (seq : ℕ) (o : Effect) → R o.state → R (single_deadline_over s k seq o).state
+      unfolding single_deadline_over
+      on_single_deadline seq o h = on_either (is_under_way seq o.state.probe) _ o (on_if_waiting _ (on_settled o.state.probe o h)) h
+
+      pub on_single_answered : (seq : ℕ) (o : Effect) → R o.state → R (single_answered s k seq o).state
+      unfolding single_answered
+      on_single_answered seq o h =
+          let ended = on_state (λ t. record t { probe = None }) o in
+          on_either (is_under_way seq o.state.probe) _ o
+          (on_if_waiting _ (on_health (lowered o.state.health) ended (moves.mended ended.state (moves.probing o.state o.state.sequence None (omega arith) (no_target Named) h)))) h
+
+      pub on_help_given : (seq target : ℕ) (o : Effect) → has_relays s ≡ true → R o.state → R (help_given s k seq target o).state
+      on_help_given seq target o on h =
+          let pinged = plain_ping_sent s k target k.from seq o in
+          on_timer _ _ _ (moves.relay_added pinged.state (k.from, seq) on (on_plain_ping target k.from seq o h))
+
+      pub on_single_ack_taken : (initiator seq : ℕ) (o : Effect) → R o.state → R (single_ack_taken s k initiator seq o).state
+      on_single_ack_taken initiator seq o h =
+          on_either (nat_eq initiator k.to) _ _ (on_single_answered seq o h)
+          (on_either (set.contains o.state.relays (initiator, seq)) _ o (on_ack initiator initiator seq _ (moves.relay_removed o.state (initiator, seq) h)) h)
+
+      pub on_help_over : (initiator seq : ℕ) (o : Effect) → R o.state → R (help_over s k initiator seq o).state
+      unfolding help_over
+      on_help_over initiator seq o h = on_either s.lifeguard.probe _ _ (on_nack_due initiator seq o h) (moves.relay_removed o.state (initiator, seq) h)
+
+      pub on_single : (content : EventKind) (o : Effect) → o.state.phase ≡ Running → Named k.from → NamesOnly Named (Unit {0}) content → R o.state
+          → R (single_handled s k content o).state
+      unfolding single_handled ping_answered help_asked_for single_ack_heard
+      on_single PeriodTimer o is sender named h = on_single_beaten o h
+      on_single (DeadlineTimer seq) o is sender named h = on_single_deadline seq o h
+      on_single (Ping initiator seq updates) o is sender named h = on_all Aloud updates _ named.1 (on_ack k.from initiator seq o h)
+      on_single (PingReq target seq updates) o is sender named h = on_all Aloud updates _ named.1 (on_help_given seq target o (always_relays s rules) h)
+      on_single (Ack initiator seq updates) o is sender named h = on_all Aloud updates _ named.1 (on_single_ack_taken initiator seq o h)
+      on_single (NackTimer initiator seq) o is sender named h = on_help_over initiator seq o h
+      on_single content o is sender named h = on_timed content o is sender named h
+
+    pub on_by : (content : EventKind) (phase : Phase) (profile : Profile) (o : Effect) → profile_of s ≡ profile → o.state.phase ≡ phase → Named k.from → NamesOnly Named (Unit {0}) content → R o.state
         → R (handled_by phase profile s k content o).state
-    on_by content Running Memberlist o is sender named h = on_timed content o is sender named h
-    on_by content Running Papers o is sender named h = on_handled content Running o is sender named h
-    on_by content Waiting profile o is sender named h = on_handled content Waiting o is sender named h
-    on_by content Joining profile o is sender named h = on_handled content Joining o is sender named h
-    on_by content Down profile o is sender named h = on_handled content Down o is sender named h
+    on_by content Running Memberlist o rules is sender named h = on_timed content o is sender named h
+    on_by content Running Hashicorp o rules is sender named h = on_single rules content o is sender named h
+    on_by content Running Papers o rules is sender named h = on_handled content Running o is sender named h
+    on_by content Waiting profile o rules is sender named h = on_handled content Waiting o is sender named h
+    on_by content Joining profile o rules is sender named h = on_handled content Joining o is sender named h
+    on_by content Down profile o rules is sender named h = on_handled content Down o is sender named h
 
     pub on_step : (content : EventKind) (t : State) → Named k.from → NamesOnly Named (Unit {0}) content → R t → R (step s k content t).state
     unfolding step
-    on_step content t sender named h = on_by content t.phase (profile_of s) (unchanged t) refl sender named h
+    on_step content t sender named h = on_by content t.phase (profile_of s) (unchanged t) refl refl sender named h
 
     -- A fact of any state, where another holds once the member has started, and that one is kept.
     module _ (Q : State → Type 0) (content : EventKind) (t : State) (to_Q : (v : State) → R v → Q v) (before : Q t) (up : ¬ (t.phase ≡ Waiting) → R t)
@@ -734,9 +912,9 @@ module _ (s : Setup) (k : Key) (Named : ℕ → Type 0) (R : State → Type 0) (
 
       on_phase : (phase : Phase) → t.phase ≡ phase → NamesOnly Named (Unit {0}) content → Q (handled_by phase (profile_of s) s k content (unchanged t)).state
       on_phase Waiting is named = on_waiting content is
-      on_phase Joining is named = to_Q _ (on_by content Joining (profile_of s) (unchanged t) is sender named (up (λ waits. absurd (let e = waits in cc))))
-      on_phase Running is named = to_Q _ (on_by content Running (profile_of s) (unchanged t) is sender named (up (λ waits. absurd (let e = waits in cc))))
-      on_phase Down is named = to_Q _ (on_by content Down (profile_of s) (unchanged t) is sender named (up (λ waits. absurd (let e = waits in cc))))
+      on_phase Joining is named = to_Q _ (on_by content Joining (profile_of s) (unchanged t) refl is sender named (up (λ waits. absurd (let e = waits in cc))))
+      on_phase Running is named = to_Q _ (on_by content Running (profile_of s) (unchanged t) refl is sender named (up (λ waits. absurd (let e = waits in cc))))
+      on_phase Down is named = to_Q _ (on_by content Down (profile_of s) (unchanged t) refl is sender named (up (λ waits. absurd (let e = waits in cc))))
 
       pub on_any_step : NamesOnly Named (Unit {0}) content → Q (step s k content t).state
       unfolding step

@@ -1,11 +1,13 @@
 -- What the laws say of a member, in the words of the protocol.
-use Rattle.std.specs.Prelude.{◌≡◌, ◌≢◌, ℕ, ◌<◌, ◌≤◌, Bool, true, false, not, if◌then◌else◌, Some}
+use Rattle.std.specs.Prelude.{◌≡◌, ◌≢◌, ℕ, ◌<◌, ◌≤◌, Bool, true, false, not, ◌||◌, if◌then◌else◌, Some}
 use Rattle.std.specs.Option.{option_map_or}
 use Rattle.std.specs.FinMap.{get, contains_key}
 use Rattle.std.specs.FinSet as set
 use Rattle.base.specs.declared.key.Key.{Key}
 use Rattle.base.specs.declared.profile.Profile.{Profile}
+use Rattle.base.specs.declared.profile.Profile.TheVariants.{Papers, Memberlist, Hashicorp}
 use Rattle.scenario.specs.Setup.{Setup, member_count}
+use Rattle.scenario.specs.Profile.{profile_of}
 use Rattle.incarnation.specs.Refutations.{does_refute}
 use Rattle.streams.specs.Draw.{AreWords}
 use Rattle.incarnation.specs.declared.Claim.{Claim}
@@ -66,9 +68,19 @@ ProbesTheLiving t = (q : ℕ) → times_in t.rota.members q ≡ (if holds is_liv
 abbrev pub HasTerms : Setup → State → Type 0
 HasTerms s t = (q : ℕ) (x : HeldSuspicion) → get t.suspicions q ≡ Some x → x.terms ≡ terms_of s
 
--- without LHA-Probe no answer is owed to another's probe
+-- whether a helper keeps in mind whom it helps also where it sends no nacks: by memberlist 0.5.0's rules
+abbrev pub keeps_relays : Profile → Bool
+keeps_relays Papers = false
+keeps_relays Memberlist = false
+keeps_relays Hashicorp = true
+
+-- whether helpers keep in mind whom they help
+abbrev pub has_relays : Setup → Bool
+has_relays s = s.lifeguard.probe || keeps_relays (profile_of s)
+
+-- where helpers don't, as without LHA-Probe by the older rules, no answer is owed to another's probe
 abbrev pub OwesNoneWithout : Setup → State → Type 0
-OwesNoneWithout s t = s.lifeguard.probe ≡ false → (relay : ℕ × ℕ) → set.contains t.relays relay ≡ false
+OwesNoneWithout s t = has_relays s ≡ false → (relay : ℕ × ℕ) → set.contains t.relays relay ≡ false
 
 -- the updates that are still to be sent are about members of the scenario
 abbrev pub SendsOfMembers : Setup → State → Type 0

@@ -1,18 +1,19 @@
 //! What holds of every step, stated over the definitions alone.
 
-ghost use Rattle.std.specs.Prelude.{◌≡◌, ◌≢◌, ◌<◌, ◌≤◌, ◌+◌, ◌^◌, ℕ, false, Some, None, List, [], map, All};
+ghost use Rattle.std.specs.Prelude.{◌≡◌, ◌≢◌, ◌<◌, ◌≤◌, ◌+◌, ◌^◌, ℕ, true, false, Some, None, List, [], map, length, All};
 ghost use Rattle.std.specs.List.Sorted.{IsStrictlyIncreasing};
 ghost use Rattle.std.specs.FinMap.{get};
 ghost use Rattle.std.specs.FinSet as set;
 ghost use Rattle.base.specs.Beats.{next_in_step};
 ghost use Rattle.base.specs.declared.key.Key.{Key};
 ghost use Rattle.base.specs.World.{Run};
-ghost use Rattle.scenario.specs.Setup.{Setup, IsSound};
+ghost use Rattle.scenario.specs.Setup.{Setup, IsSound, member_count};
 ghost use Rattle.scenario.specs.Profile.{profile_of};
-ghost use Rattle.base.specs.declared.profile.Profile.TheVariants.{Papers, Memberlist};
+ghost use Rattle.base.specs.declared.profile.Profile.TheVariants.{Papers, Memberlist, Hashicorp};
 ghost use Rattle.trace.specs.declared.row.Row.{Row};
 ghost use Rattle.trace.specs.declared.row.What.TheVariants as what;
 ghost use Rattle.trace.specs.Text.{NamesMembers};
+ghost use Rattle.incarnation.specs.declared.Claim.{Claim};
 ghost use Rattle.incarnation.specs.declared.Claim.TheVariants.{Alive, Confirm};
 ghost use Rattle.incarnation.specs.declared.Update.{Update};
 ghost use Rattle.lifeguard.specs.declared.probe.Probe.{Probe};
@@ -25,10 +26,13 @@ ghost use Rattle.member.specs.State.{State};
 ghost use Rattle.member.specs.Opening.{opening_state, opening};
 ghost use Rattle.member.specs.declared.announce.Announce.{Announce};
 ghost use Rattle.member.specs.Effects.{Effect, unchanged};
+ghost use Rattle.member.specs.Forgetting.{kept_for, is_long_dead, round_ended};
+ghost use Rattle.member.specs.LoneBuddy.{lone_buddy_of};
+ghost use Rattle.member.specs.SingleBeat.{is_in_step};
 ghost use Rattle.member.specs.Send.{whole_table, buddy_of};
 ghost use Rattle.member.specs.Apply.{applied};
 ghost use Rattle.member.specs.Step.{needs_timer, is_under_way, step, plain_step};
-ghost use Rattle.member_laws.specs.Words.{AccusesOneself, IsRefuted, WaitsAsOpened, IsWithinCeiling, IsTimely, IsConsistent, IsAmongMembers};
+ghost use Rattle.member_laws.specs.Words.{has_relays, AccusesOneself, IsRefuted, WaitsAsOpened, IsWithinCeiling, IsTimely, IsConsistent, IsAmongMembers};
 ghost use Rattle.member_laws.specs.Rows.{IsOn};
 ghost use Rattle.member_laws.specs.Runs.{Cluster, IsRunOf, IsPlainRunOf, LeadsTo, IsReached};
 
@@ -67,6 +71,18 @@ pub fn a_higher_number_alone_revives()
         → get (step s k c t).state.table subject ≡ Some (Alive, after) → number < after }
 {}
 
+/// By memberlist 0.5.0's rules a member forgets, where a round of its probes is over, just those whom it has held dead
+/// for longer than the dead are gossiped to. All else that it holds stays.
+pub fn the_long_dead_alone_are_forgotten()
+    ensures others { (s : Setup) (k : Key) (o : Effect) (q : ℕ) (held : Claim × ℕ) → get o.state.table q ≡ Some held
+        → is_long_dead k.at (kept_for s.gossip) (o.state.since q) held.0 ≡ false
+        → get (round_ended s k o).state.table q ≡ Some held }
+    ensures gone { (s : Setup) (k : Key) (o : Effect) (q : ℕ) (held : Claim × ℕ) → q < member_count s
+        → o.state.rota.mark ≡ length o.state.rota.members → get o.state.table q ≡ Some held
+        → is_long_dead k.at (kept_for s.gossip) (o.state.since q) held.0 ≡ true
+        → get (round_ended s k o).state.table q ≡ None }
+{}
+
 /// A member that is down does nothing, and one that waits does nothing before its start: nothing of
 /// its state changes, no word is drawn, no event is made and no row is written.
 pub fn a_silent_member_keeps_silent()
@@ -78,7 +94,9 @@ pub fn a_silent_member_keeps_silent()
 
 /// By memberlist's rules a beat ends the probe whose deadline has come, so the timer that it spares a
 /// probe would change nothing: only a timer for the beat's very moment is spared, after that beat the
-/// probe isn't under way, and a deadline timer of a probe that isn't under way changes nothing.
+/// probe isn't under way, and a deadline timer of a probe that isn't under way changes nothing. By memberlist
+/// 0.5.0's rules a timer is spared for each moment that is in step with the beat, and the period timer, which
+/// comes by then, ends the probe.
 pub fn a_beat_ends_a_probe_at_its_deadline()
     ensures spared { (beat period now : ℕ) (health : LocalHealth)
         → needs_timer (Some (next_in_step beat period now)) (now + scaled health period) ≡ false
@@ -86,6 +104,11 @@ pub fn a_beat_ends_a_probe_at_its_deadline()
     ensures ended { (s : Setup) (k : Key) (probe : Probe) (t : State) → profile_of s ≡ Memberlist → t.phase ≡ Running
         → t.probe ≡ Some probe → probe.deadline ≤ k.at → probe.seq ≤ t.sequence
         → is_under_way probe.seq (step s k PeriodTimer t).state.probe ≡ false }
+    ensures in_step { (beat period now deadline : ℕ) → 0 < period → now < deadline → is_in_step beat period deadline ≡ true
+        → next_in_step beat period now ≤ deadline }
+    ensures once { (s : Setup) (k : Key) (its : Probe) (t : State) → profile_of s ≡ Hashicorp → t.phase ≡ Running
+        → t.probe ≡ Some its → its.deadline ≤ k.at → its.seq ≤ t.sequence
+        → is_under_way its.seq (step s k PeriodTimer t).state.probe ≡ false }
     ensures idle { (s : Setup) (k : Key) (seq : ℕ) (t : State) → is_under_way seq t.probe ≡ false
         → step s k (DeadlineTimer seq) t ≡ unchanged t }
 {}
@@ -120,16 +143,19 @@ pub fn states_stay_consistent()
 
 /// What Lifeguard's mechanisms do is not done where they are switched off. Without LHA-Suspicion no
 /// further accuser counts, without LHA-Probe no nack is sent and health stays full, so no time is
-/// scaled and no answer is owed to another's probe; without the Buddy System no ping has a buddy.
+/// scaled; without the Buddy System no ping has a buddy. Without LHA-Probe no answer is owed to another's
+/// probe, but by memberlist 0.5.0's rules, where a helper passes acks on only while it is.
 pub fn what_is_off_is_not_done()
     ensures rows { (s : Setup) (k : Key) (c : EventKind) (t : State) → IsConsistent s k.to t
         → All (λ (row : Row). IsOn s row.what) (step s k c t).rows }
     ensures health { (s : Setup) (m : ℕ) (t : State) → s.lifeguard.probe ≡ false → IsConsistent s m t
         → t.health.counter ≡ 0 }
-    ensures relays { (s : Setup) (m : ℕ) (t : State) → s.lifeguard.probe ≡ false → IsConsistent s m t
+    ensures relays { (s : Setup) (m : ℕ) (t : State) → has_relays s ≡ false → IsConsistent s m t
         → (relay : ℕ × ℕ) → set.contains t.relays relay ≡ false }
     ensures buddy { (s : Setup) (to : ℕ) (t : State) → s.lifeguard.buddy ≡ false
         → buddy_of s to t ≡ None }
+    ensures lone_buddy { (s : Setup) (me to : ℕ) (t : State) → s.lifeguard.buddy ≡ false
+        → lone_buddy_of s me to t ≡ None }
 {}
 
 /// What a welcome holds, and a push and a pull, is sent in the sender's own name: the sender is the

@@ -14,10 +14,10 @@ use Rattle.std.proofs.lemmas.List.Elements.{filter-append}
 use Rattle.std.proofs.lemmas.List.Sums.{sum_by-cons, sum_by_push}
 use Rattle.incarnation.specs.declared.Claim.{Claim}
 use Rattle.incarnation.specs.declared.Update.{Update}
-use Rattle.membership.specs.Table.{known_of, all_alive, is_alive, is_confirm, live_count, update_by}
-use Rattle.membership.proofs.Entries.{live_count-entries}
+use Rattle.membership.specs.Table.{known_of, all_alive, is_alive, is_confirm, live_count, known_count, update_by}
+use Rattle.membership.proofs.Entries.{live_count-entries, known_count-entries}
 use Rattle.membership.proofs.Alive.{get-alive}
-use Rattle.membership.specs.Columns.{entries_from, claim_at, held_at, claim_weight}
+use Rattle.membership.specs.Columns.{entries_from, claim_at, held_at, claim_weight, known_weight}
 
 abbrev pub Entry : Type 0
 Entry = ℕ × (Claim × ℕ)
@@ -132,6 +132,14 @@ nobody_weighs (c ∷ claims) none =
     let first : claim_weight c ≡ 0 = ap claim_weight (none 0) in
     omega arith
 
+pub nobody_known : (claims : List (Option Claim)) → ((k : ℕ) → claim_at claims k ≡ None) → sum_by known_weight claims ≡ 0
+nobody_known [] none = refl
+nobody_known (c ∷ claims) none =
+    let more = sum_by-cons known_weight c claims in
+    let rest = nobody_known claims (λ k. none (suc k)) in
+    let first : known_weight c ≡ 0 = ap known_weight (none 0) in
+    omega arith
+
 pub nobody_replicated : (n k : ℕ) → claim_at (replicate n None) k ≡ None
 nobody_replicated zero k = refl
 nobody_replicated (suc n) zero = refl
@@ -154,7 +162,18 @@ number_more (i ∷ incs) (suc k) = number_more incs k
 pub weight_more : (claims : List (Option Claim)) → sum_by claim_weight (claims ++ None ∷ []) ≡ sum_by claim_weight claims
 weight_more claims = let more = sum_by_push claim_weight claims None in omega arith
 
+pub known_more : (claims : List (Option Claim)) → sum_by known_weight (claims ++ None ∷ []) ≡ sum_by known_weight claims
+known_more claims = let more = sum_by_push known_weight claims None in omega arith
+
 -- ---- the count
+
+pub known_small : (c : Option Claim) → known_weight c ≤ 1
+known_small None = omega arith
+known_small (Some c) = omega arith
+
+pub known_few : (claims : List (Option Claim)) → sum_by known_weight claims ≤ length claims
+known_few [] = omega arith
+known_few (c ∷ claims) = let more = sum_by-cons known_weight c claims in let small = known_small c in let rest = known_few claims in omega arith
 
 weight_small : (c : Option Claim) → claim_weight c ≤ 1
 weight_small None = omega arith
@@ -190,6 +209,11 @@ module _ (incs : List ℕ) where
       sum_by-cons (λ (e : Entry). cond (not (is_confirm e.1.0)) 1 0) (n, (c, slice_index incs n)) (entries_from (n + 1) claims incs) ∙ ap (λ m. claim_weight (Some c) + m) (counted_entries claims (n + 1))
       ∙ sym (sum_by-cons claim_weight (Some c) claims)
 
+  pub known_entries : (claims : List (Option Claim)) (n : ℕ) → length (entries_from n claims incs) ≡ sum_by known_weight claims
+  known_entries [] n = refl
+  known_entries (None ∷ claims) n = let more = sum_by-cons known_weight None claims in let rest = known_entries claims (n + 1) in omega arith
+  known_entries (Some c ∷ claims) n = let more = sum_by-cons known_weight (Some c) claims in let rest = known_entries claims (n + 1) in omega arith
+
   -- ---- one claim more
 
   -- the entry of a claim, if there is one
@@ -222,6 +246,12 @@ live_is claims incs live counted =
     let all = counted_entries incs claims 0 in
     let h : live ≡ 1 + count_by (λ (e : Entry). not (is_confirm e.1.0)) (entries_from 0 claims incs) = omega arith in
     h ∙ sym (live_count-entries (entries_from 0 claims incs) (entries_rise incs claims 0))
+
+pub known_is : (claims : List (Option Claim)) (incs : List ℕ) (known : ℕ) → known ≡ sum_by known_weight claims + 1 → known ≡ known_count (known_of (entries_from 0 claims incs))
+known_is claims incs known counted =
+    let all = known_entries incs claims 0 in
+    let h : known ≡ 1 + length (entries_from 0 claims incs) = omega arith in
+    h ∙ sym (known_count-entries (entries_from 0 claims incs) (entries_rise incs claims 0))
 
 pub little_weight : (c : Option Claim) → claim_weight c ≤ 1
 little_weight c = weight_small c

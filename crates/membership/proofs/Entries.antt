@@ -1,5 +1,5 @@
 -- The entries of a tree as a table.
-use Rattle.std.proofs.Common.{◌≡◌, ℕ, ◌+◌, Bool, true, false, not, nat_eq, ◌&&◌, List, [], ◌∷◌, map, filter, sym, ap, ◌∙◌, T}
+use Rattle.std.proofs.Common.{◌≡◌, ℕ, ◌+◌, Bool, true, false, not, nat_eq, ◌&&◌, List, [], ◌∷◌, length, map, filter, sym, ap, ◌∙◌, T}
 use Rattle.std.specs.Prelude.{count_by}
 use Rattle.std.specs.List.{AllByRecursion}
 use Rattle.std.specs.List.Sorted.{IsStrictlySortedBy}
@@ -10,7 +10,7 @@ use Rattle.std.specs.declared.cmp.Ordering.TheVariants.{Less}
 use Rattle.std.specs.FinMap.{entries, from_sorted, entries-from_sorted, get-from_entries, get-from_sorted, same_map, nat_cmp-IsAntisymmetric}
 use Rattle.std.specs.FinMap.Entries as by
 use Rattle.incarnation.specs.declared.Claim.{Claim}
-use Rattle.membership.specs.Table.{Known, known_of, is_alive, is_confirm, live_count, alive_but, update_by, updates_by}
+use Rattle.membership.specs.Table.{Known, known_of, is_alive, is_confirm, live_count, known_count, alive_but, update_by, updates_by}
 
 abbrev Entry : Type 0
 Entry = ℕ × (Claim × ℕ)
@@ -40,6 +40,11 @@ entries-known_of es ordered =
 pub live_count-entries : (es : List Entry) → IsStrictlySortedBy nat_cmp (keys_of es) → live_count (known_of es) ≡ 1 + count_by (λ (e : Entry). not (is_confirm e.1.0)) es
 unfolding live_count
 live_count-entries es ordered = ap (λ l. 1 + count_by (λ (e : Entry). not (is_confirm e.1.0)) l) (entries-known_of es ordered)
+
+-- and with those that are confirmed
+pub known_count-entries : (es : List Entry) → IsStrictlySortedBy nat_cmp (keys_of es) → known_count (known_of es) ≡ 1 + length es
+unfolding known_count
+known_count-entries es ordered = ap (λ (l : List Entry). 1 + length l) (entries-known_of es ordered)
 
 pub alive_but-entries : (member : ℕ) (es : List Entry) → IsStrictlySortedBy nat_cmp (keys_of es)
     → alive_but member (known_of es) ≡ map (λ (e : Entry). e.0) (filter (λ (e : Entry). is_alive e.1.0 && not (nat_eq e.0 member)) es)

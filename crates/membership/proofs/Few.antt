@@ -12,7 +12,9 @@ use Rattle.std.proofs.lemmas.Bool.{eqb-true, cases_Bool}
 use Rattle.std.proofs.lemmas.List.Sums.{count_by-le-length}
 use Rattle.incarnation.specs.declared.Claim.{Claim}
 use Rattle.incarnation.specs.declared.Claim.TheVariants.{Alive}
-use Rattle.membership.specs.Table.{Known, is_confirm, live_count}
+use Rattle.base.specs.declared.profile.Profile.{Profile}
+use Rattle.base.specs.declared.profile.Profile.TheVariants.{Papers, Memberlist, Hashicorp}
+use Rattle.membership.specs.Table.{Known, is_confirm, live_count, known_count, size_by}
 
 abbrev Entry : Type 0
 Entry = ℕ × (Claim × ℕ)
@@ -72,10 +74,9 @@ with_one : (n m : ℕ) (table : Known) → m < n → ((q : ℕ) → contains_key
 with_one n m table own others q true e there = let same : q ≡ m = eqb-true q m e in omega arith
 with_one n m table own others q false e there = others q there
 
--- n, the members that are not confirmed, is no more than the members that there are
-pub live_count-le : (n m : ℕ) (table : Known) → m < n → ((q : ℕ) → contains_key table q ≡ true → (q < n) × (q ≢ m)) → live_count table ≤ n
-unfolding live_count
-live_count-le n m table own others =
+-- all that are known and oneself are no more than the members that there are
+all-le : (n m : ℕ) (table : Known) → m < n → ((q : ℕ) → contains_key table q ≡ true → (q < n) × (q ≢ m)) → 1 + length (entries table) ≤ n
+all-le n m table own others =
     let all = len_below n (insert table m (Alive, 0)) (λ q there.
     with_one n m table own (λ r here. (others r here).0) q (eqb q m) refl
     (subst (λ b. is_some (cond b (Some (Alive, 0)) (get table q)) ≡ true) (unsigned_tied q m)
@@ -83,11 +84,30 @@ live_count-le n m table own others =
     let none = absent table m (λ r here. (others r here).1) in
     let more : len (insert table m (Alive, 0)) ≡ len table + 1 =
     len-insert nat_cmp_total table m (Alive, 0) ∙ ap (λ b. cond b (len table) (len table + 1)) none in
-    omega (arith, all, more, len-entries table, count_by-le-length (λ (e : Entry). not (is_confirm e.1.0)) (entries table))
+    omega (arith, all, more, len-entries table)
+
+-- n, the members that are not confirmed, is no more than the members that there are
+pub live_count-le : (n m : ℕ) (table : Known) → m < n → ((q : ℕ) → contains_key table q ≡ true → (q < n) × (q ≢ m)) → live_count table ≤ n
+unfolding live_count
+live_count-le n m table own others =
+    omega (arith, all-le n m table own others, count_by-le-length (λ (e : Entry). not (is_confirm e.1.0)) (entries table))
 
 pub live_count-positive : (table : Known) → 1 ≤ live_count table
 unfolding live_count
 live_count-positive table = omega arith
+
+-- and so is n as any rules count it
+pub size-le : (profile : Profile) (n m : ℕ) (table : Known) → m < n → ((q : ℕ) → contains_key table q ≡ true → (q < n) × (q ≢ m)) → size_by profile table ≤ n
+unfolding known_count
+size-le Papers n m table own others = live_count-le n m table own others
+size-le Memberlist n m table own others = live_count-le n m table own others
+size-le Hashicorp n m table own others = all-le n m table own others
+
+pub size-positive : (profile : Profile) (table : Known) → 1 ≤ size_by profile table
+unfolding known_count
+size-positive Papers table = live_count-positive table
+size-positive Memberlist table = live_count-positive table
+size-positive Hashicorp table = omega arith
 
 -- the entries of a table of numbers below n
 pub entries_below : (n : ℕ) (table : Known) → ((q : ℕ) → contains_key table q ≡ true → q < n) → AllByRecursion (λ (e : Entry). e.0 < n) (entries table)

@@ -23,7 +23,13 @@ abbrev pub claim_weight : Option Claim → ℕ
 claim_weight None = 0
 claim_weight (Some claim) = if not (is_confirm claim) then 1 else 0
 
--- the claims are of members with numbers of 16 bits, and the count is of those not confirmed and of oneself
-pub record IsCounted (claims : List (Option Claim)) (live : ℕ) : Type 0 where
+-- 1 for a member that is known
+abbrev pub known_weight : Option Claim → ℕ
+known_weight None = 0
+known_weight (Some claim) = 1
+
+-- the claims are of members with numbers of 16 bits, and the counts are of those not confirmed and of all, and of oneself
+pub record IsCounted (claims : List (Option Claim)) (live known : ℕ) : Type 0 where
   pub few : length claims ≤ 2 ^ 16
   pub counted : live ≡ sum_by claim_weight claims + 1
+  pub all : known ≡ sum_by known_weight claims + 1

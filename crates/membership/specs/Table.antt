@@ -1,9 +1,9 @@
 -- What a member holds of others (SWIM, section 4.2), and what is read from it.
-use Rattle.std.specs.Prelude.{ℕ, ◌+◌, ◌&&◌, ◌||◌, Bool, true, false, not, nat_lt, nat_le, nat_eq, if◌then◌else◌, List, map, filter, count_by}
+use Rattle.std.specs.Prelude.{ℕ, ◌+◌, ◌&&◌, ◌||◌, Bool, true, false, not, nat_lt, nat_le, nat_eq, if◌then◌else◌, List, length, map, filter, count_by}
 use Rattle.std.specs.Ordering.{nat_cmp}
 use Rattle.std.specs.FinMap.{FinMap, entries, from_entries}
 use Rattle.base.specs.declared.profile.Profile.{Profile}
-use Rattle.base.specs.declared.profile.Profile.TheVariants.{Papers, Memberlist}
+use Rattle.base.specs.declared.profile.Profile.TheVariants.{Papers, Memberlist, Hashicorp}
 use Rattle.incarnation.specs.declared.Claim.{Claim}
 use Rattle.incarnation.specs.declared.Claim.TheVariants.{Alive, Suspect, Confirm}
 use Rattle.incarnation.specs.declared.Update.{Update}
@@ -37,10 +37,22 @@ does_override Papers new old =
     not (is_confirm old.0) && (is_confirm new.0 || nat_lt old.1 new.1 || (is_suspect new.0 && is_alive old.0 && nat_eq new.1 old.1))
 does_override Memberlist new old =
     if is_alive new.0 then nat_lt old.1 new.1 else (is_alive old.0 || (is_confirm new.0 && is_suspect old.0)) && nat_le old.1 new.1
+does_override Hashicorp new old =
+    if is_alive new.0 then nat_lt old.1 new.1 else (is_alive old.0 || (is_confirm new.0 && is_suspect old.0)) && nat_le old.1 new.1
 
 -- n, the members that are not confirmed, oneself included
 unfoldable pub live_count : Known → ℕ
 live_count table = 1 + count_by (λ e. not (is_confirm e.1.0)) (entries table)
+
+-- n by memberlist 0.5.0's rules: all that are known, whatever is held of them, and oneself
+unfoldable pub known_count : Known → ℕ
+known_count table = 1 + length (entries table)
+
+-- n, as the rules of a profile count the cluster's members
+abbrev pub size_by : Profile → Known → ℕ
+size_by Papers table = live_count table
+size_by Memberlist table = live_count table
+size_by Hashicorp table = known_count table
 
 -- the members that are held to be alive, but one, in the order of their numbers
 unfoldable pub alive_but : ℕ → Known → List ℕ

@@ -2,8 +2,8 @@
 ghost use Rattle.std.specs.Prelude.{List, [], EachIndex, None, Some, set, max, ◌≡◌, ◌≢◌, ◌+◌, ◌^◌, ◌<◌, ◌≤◌, ◌&&◌, ℕ, true, not, nat_eq, map, filter, length, vec_len, sum_by, slice_index, OnOk, OnErr, IfOk};
 ghost use Rattle.std.specs.Option.{option_map_or};
 ghost use Rattle.std.specs.FinMap.{empty, get, insert, remove};
-ghost use Rattle.membership.specs.Table.{all_alive, is_alive, known_of, live_count, alive_but, update_by, updates_by};
-ghost use Rattle.membership.specs.Columns.{entries_from, claim_at, claim_weight};
+ghost use Rattle.membership.specs.Table.{all_alive, is_alive, known_of, live_count, known_count, alive_but, update_by, updates_by};
+ghost use Rattle.membership.specs.Columns.{entries_from, claim_at, claim_weight, known_weight};
 ghost use Rattle.membership.specs.Deaths.{since_of};
 ghost use Rattle.membership.specs.Candidates.{candidates_of, does_fit};
 
@@ -26,9 +26,21 @@ pub struct Table {
     /// The incarnation numbers in the same places, and 0 past the end: so as long as nobody has refuted
     /// anything, there are none.
     incs: Vec<u64>,
-    /// How many members are not confirmed, oneself included. Each message asks for it.
-    live: usize,
+    /// How many members there are, oneself included. Each message asks for it.
+    counts: Counts,
 }
+
+/// How many members there are as far as one knows, oneself included.
+#[derive(Clone, Copy, Debug, PartialEq, Eq)]
+struct Counts {
+    /// Those that are not confirmed.
+    live: usize,
+    /// All that are known.
+    known: usize,
+}
+
+/// Oneself alone.
+const ALONE: Counts = Counts { live: 1, known: 1 };
 
 impl Model for Table {
     ghost use Rattle.std.specs.Coded.{coded_ℕ, coded×};
@@ -43,7 +55,7 @@ impl Model for Table {
 
     ghost view = { λ table. known_of (entries_from 0 table.claims.items table.incs.items) };
 
-    ghost invariant = { λ table. IsCounted table.claims.items table.live };
+    ghost invariant = { λ table. IsCounted table.claims.items table.counts.live table.counts.known };
 }
 
 impl Table {
@@ -54,7 +66,7 @@ impl Table {
         Table {
             claims: Vec::new(alloc),
             incs: Vec::new(alloc),
-            live: 1,
+            counts: ALONE,
         }
     }
 
@@ -65,11 +77,11 @@ impl Table {
         ensures { IfOk result (λ table. table ≡ all_alive members.now) }
     {
         let mut claims = nobody(alloc, past_all(members))?;
-        let live = hold_alive(&mut claims, members);
+        let counts = hold_alive(&mut claims, members);
         Ok(Table {
             claims,
             incs: Vec::new(alloc),
-            live,
+            counts,
         })
     }
 
@@ -107,7 +119,7 @@ impl Table {
         let place = usize::from(member.0);
         reach_number(&mut self.incs, place, held.1)?;
         reach_claim(&mut self.claims, place)?;
-        self.live = put_claim(&mut self.claims, place, held.0, self.live);
+        self.counts = put_claim(&mut self.claims, place, held.0, self.counts);
         write_number(&mut self.incs, place, held.1);
         Ok(())
     }
@@ -118,7 +130,8 @@ impl Table {
     {
         let place = member.index();
         if place < self.claims.len() {
-            self.live -= weight(self.claims[place]);
+            self.counts.live -= weight(self.claims[place]);
+            self.counts.known -= known_weight(self.claims[place]);
             self.claims[place] = None;
         }
     }
@@ -128,7 +141,14 @@ impl Table {
     pub fn live_count(&self) -> usize
         ensures { result ≡ live_count self.now }
     {
-        self.live
+        self.counts.live
+    }
+
+    /// How many members are known, whatever is held of them, oneself included.
+    pub fn known_count(&self) -> usize
+        ensures { result ≡ known_count self.now }
+    {
+        self.counts.known
     }
 
     /// The members that are held to be up, but one, in the order of their numbers: those who may help
@@ -190,6 +210,7 @@ fn reach_claim(claims: &mut Vec<Option<Claim>>, place: usize) -> Result<(), Memo
     ensures place { OnOk result (place < vec_len claims.new) }
     ensures same { (k : ℕ) → claim_at claims.new.items k ≡ claim_at claims.old.items k }
     ensures weight { sum_by claim_weight claims.new.items ≡ sum_by claim_weight claims.old.items }
+    ensures known { sum_by known_weight claims.new.items ≡ sum_by known_weight claims.old.items }
     ensures bound { length claims.new.items ≤ max (length claims.old.items) (place + 1) }
 {
     while claims.len() <= place {
@@ -228,35 +249,52 @@ fn nobody(alloc: Global, places: usize) -> Result<Vec<Option<Claim>>, Memory>
     Ok(claims)
 }
 
-// Holds a claim at a place from now on. Given how many members are not confirmed, oneself included, it returns
-// how many are not then.
-fn put_claim(claims: &mut Vec<Option<Claim>>, place: usize, claim: Claim, live: usize) -> usize
+// Holds a claim at a place from now on. Given how many members there are, oneself included, it returns how many
+// there are then.
+fn put_claim(claims: &mut Vec<Option<Claim>>, place: usize, claim: Claim, counts: Counts) -> Counts
     requires place { place < length claims.old.items }
     requires few { length claims.old.items ≤ 2 ^ 16 }
-    requires counted { live ≡ sum_by claim_weight claims.old.items + 1 }
+    requires counted { counts.live ≡ sum_by claim_weight claims.old.items + 1 }
+    requires all { counts.known ≡ sum_by known_weight claims.old.items + 1 }
     ensures put { claims.new.items ≡ set claims.old.items place (Some claim) }
-    ensures counted { result ≡ sum_by claim_weight claims.new.items + 1 }
+    ensures counted { result.live ≡ sum_by claim_weight claims.new.items + 1 }
+    ensures all { result.known ≡ sum_by known_weight claims.new.items + 1 }
 {
     let old = weight(claims[place]);
+    let was_known = known_weight(claims[place]);
     claims[place] = Some(claim);
-    live + weight(Some(claim)) - old
+    Counts {
+        live: counts.live + weight(Some(claim)) - old,
+        known: counts.known + 1 - was_known,
+    }
 }
 
-// Holds each of these members to be up, where nothing is held of anybody. Returns how many members are not
-// confirmed then, oneself included.
-fn hold_alive(claims: &mut Vec<Option<Claim>>, members: &[MemberId]) -> usize
+// Holds each of these members to be up, where nothing is held of anybody. Returns how many members there are
+// then, oneself included.
+fn hold_alive(claims: &mut Vec<Option<Claim>>, members: &[MemberId]) -> Counts
     requires nobody { (k : ℕ) → claim_at claims.old.items k ≡ None }
     requires places { EachIndex members.now (λ k. slice_index members.now k < length claims.old.items) }
     requires few { length claims.old.items ≤ 2 ^ 16 }
     ensures held { known_of (entries_from 0 claims.new.items []) ≡ all_alive members.now }
     ensures few { length claims.new.items ≤ 2 ^ 16 }
-    ensures counted { result ≡ sum_by claim_weight claims.new.items + 1 }
+    ensures counted { result.live ≡ sum_by claim_weight claims.new.items + 1 }
+    ensures all { result.known ≡ sum_by known_weight claims.new.items + 1 }
 {
-    let mut live = 1;
+    let mut counts = ALONE;
     for member in members {
-        live = put_claim(claims, member.index(), Claim::Alive, live);
+        counts = put_claim(claims, member.index(), Claim::Alive, counts);
     }
-    live
+    counts
+}
+
+// What a claim adds to the count of those who are known.
+fn known_weight(claim: Option<Claim>) -> usize
+    ensures { result ≡ known_weight claim }
+{
+    match claim {
+        Some(_) => 1,
+        None => 0,
+    }
 }
 
 // What a claim adds to the count of those who are not confirmed.

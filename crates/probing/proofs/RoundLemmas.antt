@@ -100,7 +100,7 @@ pub some_none : (x : ℕ) → Some x ≡ None → ⊥
 some_none x is = not_one (ap one_if_some is)
 
 -- the rest of a rest
-rest_of_rest : (words left last : Words) → IsRestOf words left → IsRestOf left last → IsRestOf words last
+pub rest_of_rest : (words left last : Words) → IsRestOf words left → IsRestOf left last → IsRestOf words last
 rest_of_rest words left last (n, is_left) (m, is_last) =
     (n + m, is_last ∙ ap (rest_after m) is_left ∙ rest-rest m n words)
 

@@ -39,10 +39,8 @@ are_members-permutation xs ys same h =
     }
 
 -- with one more
-pub are_members-insert : (xs : List ℕ) (i m : ℕ) → m < 2 ^ 16 → times_in xs m ≡ 0 → AreMembers xs → AreMembers (insert xs i m)
-are_members-insert xs i m low absent h =
-    let counted : (k : ℕ) → times_in (insert xs i m) k ≡ times_in xs k + one_if (m == k) =
-    λ k. sum_by-insert (λ other. one_if (other == k)) xs i m in
+pub are_members-more : (xs ys : List ℕ) (m : ℕ) → ((k : ℕ) → times_in ys k ≡ times_in xs k + one_if (m == k)) → m < 2 ^ 16 → times_in xs m ≡ 0 → AreMembers xs → AreMembers ys
+are_members-more xs ys m counted low absent h =
     record {
       distinct = λ k. elim (cases_Bool (m == k)) [
         | inl own ↦
@@ -56,6 +54,10 @@ are_members-insert xs i m low absent h =
           let apart : m ≢ k = λ same. omega arith in
           omega (arith, counted k, one_if-other m k apart, h.numbers k high);
     }
+
+pub are_members-insert : (xs : List ℕ) (i m : ℕ) → m < 2 ^ 16 → times_in xs m ≡ 0 → AreMembers xs → AreMembers (insert xs i m)
+are_members-insert xs i m low absent h =
+    are_members-more xs (insert xs i m) m (λ k. sum_by-insert (λ other. one_if (other == k)) xs i m) low absent h
 
 -- with one less
 pub are_members-remove : (xs : List ℕ) (i : ℕ) → i < length xs → AreMembers xs → AreMembers (remove xs i)

@@ -3,6 +3,8 @@
 ghost use Rattle.std.specs.Prelude.{◌≡◌, ◌≢◌, ℕ, ◌-◌, ◌*◌, ◌<◌, ◌≤◌, ◌^◌, true, false, Some, None, List, [], length, map, min, All, IsPermutation};
 ghost use Rattle.streams.specs.Draw.{Words, AreWords, IsRestOf, shuffle_of};
 ghost use Rattle.probing.specs.ProbeOrder.{ProbeOrder, IsSoundOrder, times_in, round_over, next_of, insert_of, remove_of, helpers_of};
+ghost use Rattle.probing.specs.Mixed.{mixed_of};
+ghost use Rattle.probing.specs.Displaced.{displaced_of};
 ghost use Rattle.probing.specs.Rounds.{probes_of, probed, coming, others};
 ghost use Rattle.probing.specs.Samples.{is_in, does_fit_in, sample_of, words_after};
 ghost use Rattle.membership.specs.declared.candidates.Candidate.{Candidate};
@@ -11,9 +13,14 @@ ghost use Rattle.membership.specs.declared.candidates.Candidate.{Candidate};
 pub fn orders_stay_sound()
     ensures next { (words : Words) (order : ProbeOrder) → AreWords words → IsSoundOrder order
         → IsSoundOrder (next_of words order).1 }
+    ensures mix { (words : Words) (order : ProbeOrder) → AreWords words → IsSoundOrder order
+        → IsSoundOrder (mixed_of words order).0 }
     ensures insert { (words : Words) (member : ℕ) (order : ProbeOrder) → AreWords words
         → IsSoundOrder order → member < 2 ^ 16 → times_in order.members member ≡ 0
         → IsSoundOrder (insert_of words member order).0 }
+    ensures displace { (words : Words) (member : ℕ) (order : ProbeOrder) → AreWords words
+        → IsSoundOrder order → member < 2 ^ 16 → times_in order.members member ≡ 0
+        → IsSoundOrder (displaced_of words member order).0 }
     ensures remove { (member : ℕ) (order : ProbeOrder) → IsSoundOrder order
         → IsSoundOrder (remove_of member order) }
 {}
@@ -21,8 +28,11 @@ pub fn orders_stay_sound()
 /// A call takes some first words of those that are left, or none, and leaves the others.
 pub fn calls_take_the_first_words()
     ensures next { (words : Words) (order : ProbeOrder) → IsRestOf words (next_of words order).2 }
+    ensures mix { (words : Words) (order : ProbeOrder) → IsRestOf words (mixed_of words order).1 }
     ensures insert { (words : Words) (member : ℕ) (order : ProbeOrder)
         → IsRestOf words (insert_of words member order).1 }
+    ensures displace { (words : Words) (member : ℕ) (order : ProbeOrder)
+        → IsRestOf words (displaced_of words member order).1 }
     ensures helpers { (words : Words) (count : ℕ) (candidates : List ℕ)
         → IsRestOf words (helpers_of words count candidates).1 }
     ensures sample { (words : Words) (k : ℕ) (candidates : List Candidate)
@@ -38,6 +48,12 @@ pub fn probes_go_to_members()
         → (next_of words order).0 ≡ None → length order.members ≡ 0 }
     ensures members { (words : Words) (order : ProbeOrder) → AreWords words → IsSoundOrder order
         → IsPermutation order.members (next_of words order).1.members }
+{}
+
+/// A mix keeps the members.
+pub fn a_mix_keeps_the_members()
+    ensures { (words : Words) (order : ProbeOrder) → AreWords words → IsSoundOrder order
+        → IsPermutation order.members (mixed_of words order).0.members }
 {}
 
 /// The probes of a round go to the shuffled members in their order, so to each member once, and take
@@ -69,6 +85,19 @@ pub fn an_insert_keeps_the_others()
     ensures coming { (words : Words) (member : ℕ) (order : ProbeOrder) → IsSoundOrder order
         → times_in order.members member ≡ 0
         → others member (coming (insert_of words member order).0) ≡ coming order }
+{}
+
+/// A new member that takes another one's place is there once, and all others are as often there as before. The mark
+/// stays.
+pub fn who_is_displaced_stays()
+    ensures added { (words : Words) (member : ℕ) (order : ProbeOrder) → AreWords words → IsSoundOrder order
+        → times_in order.members member ≡ 0
+        → times_in (displaced_of words member order).0.members member ≡ 1 }
+    ensures others { (words : Words) (member other : ℕ) (order : ProbeOrder) → AreWords words
+        → IsSoundOrder order → member ≢ other
+        → times_in (displaced_of words member order).0.members other ≡ times_in order.members other }
+    ensures mark { (words : Words) (member : ℕ) (order : ProbeOrder)
+        → (displaced_of words member order).0.mark ≡ order.mark }
 {}
 
 /// Without a member the others keep their order, and whether their turn is over.

@@ -4,6 +4,8 @@
 ghost use Rattle.std.specs.Prelude.{◌≡◌, ℕ, ◌==◌, Some, IfOk, OnOk, OnErr, ◌+◌, ◌-◌, ◌<◌, ◌≤◌, ◌^◌, nat_lt, if◌then◌else◌, length, slice_get, All, position};
 ghost use Rattle.streams.specs.Draw.{words_of};
 ghost use Rattle.probing.specs.Ahead.{AreAhead};
+ghost use Rattle.probing.specs.Mixed.{mixed_of};
+ghost use Rattle.probing.specs.Displaced.{place_among, displaced_of};
 ghost use Rattle.probing.specs.ProbeOrder.{NoRepeats, IsSoundOrder, times_in, round_over, next_of, insert_of, remove_of, helpers_of};
 
 pub mod laws;
@@ -79,6 +81,25 @@ impl Rota {
         Some(member)
     }
 
+    /// Whether all have been probed in this round: also where there is nobody.
+    pub fn is_round_over(&self) -> bool
+        ensures { result ≡ (self.now.mark == length self.now.members) }
+    {
+        self.mark == self.members.len()
+    }
+
+    /// Puts the members in a new order, and the mark at a place that is drawn, the end too: so is a member that has probed
+    /// others for long.
+    #[tactic(auto, unfolding(crate::specs::Mixed::mixed_of))]
+    pub fn mix(&mut self, stream: &mut Stream)
+        ensures drawn { (self.new, words_of stream.new) ≡ mixed_of (words_of stream.old) self.old }
+        ensures sound { IsSoundOrder self.new }
+    {
+        stream.shuffle(&mut self.members);
+        self.mark = stream.below(self.members.len() as u32 + 1) as usize;
+        self.ahead = sixteen_from(&self.members, self.mark);
+    }
+
     /// Puts a new member at a place that is drawn. Behind the mark it is probed in this round, before
     /// it from the next one on. A refusal leaves the rota and the stream as they were.
     #[tactic(auto, unfolding(crate::specs::ProbeOrder::insert_of))]
@@ -97,6 +118,30 @@ impl Rota {
         let place = stream.below(self.members.len() as u32 + 1) as usize;
         self.members.insert(place, member).unwrap();
         self.mark = mark_with(self.mark, place);
+        self.ahead = sixteen_from(&self.members, self.mark);
+        Ok(())
+    }
+
+    /// Puts a new member in the place of one that is drawn, who goes to the end; the mark stays. Where nobody is, nothing
+    /// is drawn. A refusal leaves the rota and the stream as they were.
+    #[tactic(auto, unfolding(crate::specs::Displaced::displaced_of))]
+    pub fn displace(&mut self, member: MemberId, stream: &mut Stream) -> Result<(), Memory>
+        requires { times_in self.old.members member ≡ 0 }
+        ensures ok { OnOk result ((self.new, words_of stream.new)
+            ≡ displaced_of (words_of stream.old) member self.old) }
+        ensures err { OnErr result ((self.new ≡ self.old) × (stream.new ≡ stream.old)) }
+        ensures sound { IsSoundOrder self.new }
+    {
+        let last = self.members.len();
+        let room = self.members.reserve(1);
+        if room.is_err() {
+            return Err(Memory);
+        }
+        // Distinct numbers of 16 bits are few enough for the draw.
+        see_numbers(&[member]);
+        let place = place_among(last, stream);
+        self.members.push_reserved(member);
+        self.members.swap(place, last);
         self.ahead = sixteen_from(&self.members, self.mark);
         Ok(())
     }
@@ -130,6 +175,18 @@ fn number(member: MemberId) -> u16
     ensures { result ≡ member }
 {
     member.0
+}
+
+/// A place that is drawn among so many: where there are none it is the first, and nothing is drawn.
+fn place_among(count: usize, stream: &mut Stream) -> usize
+    requires { count ≤ 2 ^ 16 }
+    ensures drawn { (result, words_of stream.new) ≡ place_among (words_of stream.old) count }
+    ensures within { result < count + 1 }
+{
+    if count == 0 {
+        return 0;
+    }
+    stream.below(count as u32) as usize
 }
 
 /// Where the mark is once a member was put at a place.

@@ -2,7 +2,7 @@
 use Rattle.std.specs.Prelude.{ℕ, Option, Some, None, List, [], ◌∷◌, ◌++◌, codes, decimal, length, flat_map, min, max}
 use Rattle.std.specs.List.{join_with_byte, reduce}
 use Rattle.schema.specs.declared.schema.Version.{Version}
-use Rattle.schema.specs.declared.schema.Version.TheVariants.{One, Two, Three}
+use Rattle.schema.specs.declared.schema.Version.TheVariants.{One, Two, Three, Four}
 use Rattle.scenario.specs.Setup.{Setup, member_count, name_of}
 use Rattle.trace.specs.Text.{word_of}
 use Rattle.trace.specs.declared.row.What.{What}
@@ -66,6 +66,7 @@ abbrev pub message_kinds : Version → List What
 message_kinds One = first_message_kinds
 message_kinds Two = first_message_kinds ++ what.Bye ∷ []
 message_kinds Three = first_message_kinds ++ what.Bye ∷ what.Gossip ∷ what.Call ∷ what.Answer ∷ what.Push ∷ what.Pull ∷ []
+message_kinds Four = first_message_kinds ++ what.Bye ∷ what.Gossip ∷ what.Call ∷ what.Answer ∷ what.Push ∷ what.Pull ∷ []
 
 -- how large the cluster is, how long it ran, and how many rows it wrote
 abbrev pub size_lines : Setup → List Row → List ℕ
@@ -84,6 +85,7 @@ abbrev pub leave_lines : Version → Setup → List DepartureReport → List ℕ
 leave_lines One s leaves = []
 leave_lines Two s leaves = flat_map (leave_line s) leaves
 leave_lines Three s leaves = flat_map (leave_line s) leaves
+leave_lines Four s leaves = flat_map (leave_line s) leaves
 
 -- false suspicions, and members that were falsely confirmed to have failed, where members depart in these ways
 abbrev pub false_claim_line : Setup → List What → List Row → What → List ℕ
@@ -94,6 +96,7 @@ abbrev pub revived_lines : Version → List Row → List ℕ
 revived_lines One rows = []
 revived_lines Two rows = []
 revived_lines Three rows = count_line (codes "revived") (revivals rows)
+revived_lines Four rows = count_line (codes "revived") (revivals rows)
 
 -- how often members accused and refuted, how often probes failed, and how bad a member's health got
 abbrev pub protocol_lines : List Row → List ℕ

@@ -107,6 +107,6 @@ pub fn message_kinds(version: Version) -> &'static [What]
     match version {
         Version::One => &MESSAGES_1,
         Version::Two => &MESSAGES_2,
-        Version::Three => &MESSAGES_3,
+        Version::Three | Version::Four => &MESSAGES_3,
     }
 }

@@ -115,7 +115,7 @@ pub(crate) fn push_leaves(
 {
     match scenario.version() {
         Version::One => Ok(()),
-        Version::Two | Version::Three => push_each_leave(text, leaves, scenario),
+        Version::Two | Version::Three | Version::Four => push_each_leave(text, leaves, scenario),
     }
 }
 
@@ -220,7 +220,7 @@ pub(crate) fn push_revived(
 {
     match version {
         Version::One | Version::Two => Ok(()),
-        Version::Three => push_count(text, "revived", tallies.revivals()),
+        Version::Three | Version::Four => push_count(text, "revived", tallies.revivals()),
     }
 }
 

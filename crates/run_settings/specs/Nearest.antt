@@ -4,7 +4,7 @@ use Rattle.presets.specs.declared.preset.Preset.{Preset}
 use Rattle.presets.specs.declared.preset.Preset.TheVariants.{Local, Lan, Wan, Swim}
 use Rattle.schema.specs.Schema.{key_rules_of}
 use Rattle.schema.specs.declared.schema.Version.{Version}
-use Rattle.schema.specs.declared.schema.Version.TheVariants.{One, Two, Three}
+use Rattle.schema.specs.declared.schema.Version.TheVariants.{One, Two, Three, Four}
 use Rattle.schema.specs.declared.schema.KeyRule.{KeyRule}
 use Rattle.schema.specs.declared.schema.FormatKey.{FormatKey}
 use Rattle.schema.specs.declared.schema.FormatKey.TheVariants as key
@@ -98,6 +98,7 @@ abbrev pub nearest_in : Setup → Version → Preset
 nearest_in s One = Swim
 nearest_in s Two = Swim
 nearest_in s Three = of_least (differing s Lan) (differing s Wan) (differing s Local)
+nearest_in s Four = of_least (differing s Lan) (differing s Wan) (differing s Local)
 
 abbrev pub nearest : Setup → Preset
 nearest s = nearest_in s s.version

@@ -4,7 +4,7 @@ use Rattle.presets.specs.Presets.{word_of}
 use Rattle.presets.specs.declared.preset.Preset.{Preset}
 use Rattle.schema.specs.Schema.{key_rules_of, spelling_of}
 use Rattle.schema.specs.declared.schema.Version.{Version}
-use Rattle.schema.specs.declared.schema.Version.TheVariants.{One, Two, Three}
+use Rattle.schema.specs.declared.schema.Version.TheVariants.{One, Two, Three, Four}
 use Rattle.schema.specs.declared.schema.KeyRule.{KeyRule}
 use Rattle.schema.specs.declared.schema.FormatKey.{FormatKey}
 use Rattle.schema.specs.declared.schema.Section.{Section}
@@ -55,6 +55,7 @@ abbrev pub third_entries : Setup → Preset → Version → List ℕ
 third_entries s preset One = []
 third_entries s preset Two = []
 third_entries s preset Three = gossip_entries s preset s.gossip ++ section_entries s preset (codes "stream.") section.Stream
+third_entries s preset Four = gossip_entries s preset s.gossip ++ section_entries s preset (codes "stream.") section.Stream
 
 -- when the members of a group start, where that is later than at 0
 abbrev pub start_words : ℕ → List ℕ
@@ -95,6 +96,7 @@ abbrev pub version_number : Version → ℕ
 version_number One = 1
 version_number Two = 2
 version_number Three = 3
+version_number Four = 4
 
 -- the keys that stand above all tables
 unfoldable pub top_entries : Setup → List ℕ

@@ -14,7 +14,7 @@ pub(crate) fn nearest(scenario: &Scenario) -> Preset
 {
     match scenario.version() {
         Version::One | Version::Two => Preset::Swim,
-        Version::Three => of_least(
+        Version::Three | Version::Four => of_least(
             differing(scenario, Preset::Lan),
             differing(scenario, Preset::Wan),
             differing(scenario, Preset::Local),

@@ -117,6 +117,7 @@ fn version_number(version: Version) -> u64
         Version::One => 1,
         Version::Two => 2,
         Version::Three => 3,
+        Version::Four => 4,
     }
 }
 
@@ -126,7 +127,7 @@ fn push_third(text: &mut String, scenario: &Scenario, preset: Preset) -> Result<
 {
     match scenario.version() {
         Version::One | Version::Two => Ok(()),
-        Version::Three => {
+        Version::Three | Version::Four => {
             push_gossip(text, scenario, preset)?;
             push_section(text, scenario, preset, "stream.", Section::Stream)
         }

@@ -3,7 +3,7 @@ use Rattle.std.specs.Prelude.{ℕ, Bool, false, nat_lt, nat_eq, if◌then◌else
 use Rattle.std.specs.Option.{is_some}
 use Rattle.std.specs.List.{reduce, list_any}
 use Rattle.schema.specs.declared.schema.Version.{Version}
-use Rattle.schema.specs.declared.schema.Version.TheVariants.{One, Two, Three}
+use Rattle.schema.specs.declared.schema.Version.TheVariants.{One, Two, Three, Four}
 use Rattle.scenario.specs.Setup.{Setup, member_count}
 use Rattle.trace.specs.declared.row.What.TheVariants as what
 use Rattle.trace.specs.declared.row.Row.{Row}
@@ -110,6 +110,7 @@ abbrev pub back_figure : Version → List Row → List ℕ
 back_figure One rows = []
 back_figure Two rows = []
 back_figure Three rows = figure (codes "") (revivals rows) (codes "time declared alive again") (codes "times declared alive again")
+back_figure Four rows = figure (codes "") (revivals rows) (codes "time declared alive again") (codes "times declared alive again")
 
 -- how many members crashed, how many have a false death, and how many false deaths there are
 unfoldable pub first_figures : ℕ → ℕ → ℕ → List ℕ

@@ -508,7 +508,7 @@ fn push_back(text: &mut String, version: Version, tallies: &Tallies) -> Result<(
 {
     match version {
         Version::One | Version::Two => Ok(()),
-        Version::Three => push_figure(
+        Version::Three | Version::Four => push_figure(
             text,
             "",
             tallies.revivals(),

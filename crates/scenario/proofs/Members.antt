@@ -2,7 +2,7 @@
 use Rattle.std.proofs.Common.{◌≡◌, ℕ, zero, suc, ◌<◌, ◌≤◌, Option, Some, None, IfSome, subst, sym, refl, arith}
 use Rattle.schema.specs.Schema.{most_members}
 use Rattle.schema.specs.declared.schema.Version.{Version}
-use Rattle.schema.specs.declared.schema.Version.TheVariants.{One, Two, Three}
+use Rattle.schema.specs.declared.schema.Version.TheVariants.{One, Two, Three, Four}
 use Rattle.scenario.specs.Setup.{Setup, start_of, contact_of, member_count, IsSoundContact}
 
 by_start : (n k : ℕ) (o : Option ℕ) (P : ℕ → Type 0) → (n ≡ 0 → o ≡ None) → (0 < n → (c : ℕ) × (o ≡ Some c) × (c < k) × P c) → IfSome o (λ c. c < k)
@@ -22,3 +22,4 @@ pub most_of_all : (v : Version) → most_members v ≤ 4096
 most_of_all One = omega arith
 most_of_all Two = omega arith
 most_of_all Three = omega arith
+most_of_all Four = omega arith

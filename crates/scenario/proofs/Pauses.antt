@@ -4,8 +4,7 @@ use Rattle.std.specs.List.{find, list_any, range_with_len, sum_by, AllByRecursio
 use Rattle.std.specs.Option.{unwrap_or}
 use Rattle.std.proofs.lemmas.Bool.{false≢true, not-true, not_from_true, not_from_false, and_parts, and_from, or_left, or_right, leb-true, ltb-true, ltb-false, le-leb, lt-ltb}
 use Rattle.std.proofs.lemmas.List.Sums.{sum_by-cons}
-use Rattle.schema.specs.declared.schema.Version.TheVariants.{Three}
-use Rattle.scenario.specs.Setup.{Setup, is_in_pause, is_paused, ends_of, awake, IsSound}
+use Rattle.scenario.specs.Setup.{Setup, is_in_pause, is_paused, ends_of, awake, IsBeforeThird, IsSound}
 use Rattle.scenario.specs.declared.settings.Pause.{Pause}
 use Rattle.scenario.specs.declared.spells.Spell.{Spell}
 use Rattle.scenario.specs.Spells.{is_in_any}
@@ -185,5 +184,5 @@ awake_least s m t = let at = is_awake_at s m t in (at.later, at.free, λ u from 
     least u false from free late = ltb-false u (awake s m t) late
 
 -- before version 3 nobody pauses
-pub always_awake : (s : Setup) (m t : ℕ) → IsSound s → s.version ≢ Three → awake s m t ≡ t
+pub always_awake : (s : Setup) (m t : ℕ) → IsSound s → IsBeforeThird s.version → awake s m t ≡ t
 always_awake s m t sound old = awake_at_once s m t (sound.before_third old).pauses

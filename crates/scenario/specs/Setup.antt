@@ -1,9 +1,9 @@
 -- A scenario as its text says it, and what is said of its members.
-use Rattle.std.specs.Prelude.{◌≡◌, ◌≢◌, ℕ, ◌<◌, ◌≤◌, ◌^◌, ◌+◌, ◌-◌, Bool, true, false, not, ◌&&◌, if◌then◌else◌, nat_lt, nat_le, nat_eq, List, [], ◌∷◌, ◌++◌, map, filter, find, sum_by, flat_map, codes, decimal, Option, Some, None, IfSome, option_map, option_and_then, unwrap_or, slice_get}
+use Rattle.std.specs.Prelude.{◌≡◌, ℕ, ◌<◌, ◌≤◌, ◌^◌, ◌+◌, ◌-◌, Bool, true, false, not, ◌&&◌, if◌then◌else◌, nat_lt, nat_le, nat_eq, List, [], ◌∷◌, ◌++◌, map, filter, find, sum_by, flat_map, codes, decimal, Option, Some, None, IfSome, option_map, option_and_then, unwrap_or, slice_get}
 use Rattle.std.specs.List.{range_with_len, list_any, list_all, AllByRecursion}
 use Rattle.std.specs.Option.{is_some, option_map_or}
 use Rattle.schema.specs.declared.schema.Version.{Version}
-use Rattle.schema.specs.declared.schema.Version.TheVariants.{One, Three}
+use Rattle.schema.specs.declared.schema.Version.TheVariants.{One, Two, Three, Four}
 use Rattle.scenario.specs.GroupNames.{is_group_name}
 use Rattle.scenario.specs.declared.settings.Swim.{Swim}
 use Rattle.scenario.specs.declared.settings.Suspicion.{Suspicion}
@@ -168,6 +168,13 @@ pub record IsSoundGossip (g : Gossip) : Type 0 where
   pub dead : g.dead ≤ 2 ^ 40
   pub push : g.push ≤ 2 ^ 24
 
+-- versions 1 and 2
+abbrev pub IsBeforeThird : Version → Type 0
+IsBeforeThird One = Unit {0}
+IsBeforeThird Two = Unit {0}
+IsBeforeThird Three = ⊥
+IsBeforeThird Four = ⊥
+
 -- Nobody calls, gossips or pauses: so is every scenario of versions 1 and 2.
 pub record IsWithoutThird (s : Setup) : Type 0 where
   pub fallback : s.swim.fallback ≡ false
@@ -208,4 +215,4 @@ pub record IsSound (s : Setup) : Type 0 where
   pub connect : (0 < s.stream.connect) × (s.stream.connect ≤ 2 ^ 24)
   pub again : (0 < s.stream.again) × (s.stream.again ≤ 2 ^ 24)
   pub pauses : AllByRecursion (λ p. (p.from < p.until) × (p.until ≤ 2 ^ 40)) s.pauses
-  pub before_third : s.version ≢ Three → IsWithoutThird s
+  pub before_third : IsBeforeThird s.version → IsWithoutThird s

@@ -1,8 +1,7 @@
 //! Laws of pauses.
 
-ghost use Rattle.std.specs.Prelude.{◌≡◌, ◌≢◌, ◌≤◌, ℕ, false};
-ghost use Rattle.schema.specs.declared.schema.Version.TheVariants.{Three};
-ghost use Rattle.scenario.specs.Setup.{Setup, is_paused, awake, IsSound};
+ghost use Rattle.std.specs.Prelude.{◌≡◌, ◌≤◌, ℕ, false};
+ghost use Rattle.scenario.specs.Setup.{Setup, is_paused, awake, IsBeforeThird, IsSound};
 
 /// A member handles what is for a moment at the least moment, from that one on, at which it isn't paused.
 pub fn members_are_awake_as_soon_as_they_can()
@@ -12,5 +11,5 @@ pub fn members_are_awake_as_soon_as_they_can()
 
 /// Before version 3 of the format everybody is always awake.
 pub fn earlier_versions_never_pause()
-    ensures { (s : Setup) (m t : ℕ) → IsSound s → s.version ≢ Three → awake s m t ≡ t }
+    ensures { (s : Setup) (m t : ℕ) → IsSound s → IsBeforeThird s.version → awake s m t ≡ t }
 {}

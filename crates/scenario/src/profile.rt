@@ -1,5 +1,5 @@
 //! Which rules the members follow: those of the SWIM and Lifeguard papers in versions 1 and 2 of the format, those of
-//! memberlist in version 3.
+//! memberlist in version 3, and all of memberlist 0.5.0's in version 4.
 ghost use Rattle.std.specs.Prelude.{◌≡◌};
 ghost use Rattle.scenario.specs.Profile.{profile_of};
 
@@ -15,6 +15,7 @@ impl Scenario {
         match self.version() {
             Version::One | Version::Two => Profile::Papers,
             Version::Three => Profile::Memberlist,
+            Version::Four => Profile::Hashicorp,
         }
     }
 }

@@ -1,6 +1,6 @@
 -- A document of version 1 is judged as before there was version 2, and says nothing of leaves and cuts. One of
 -- version 2 is judged as before there was version 3. Neither says anything of what version 3 adds.
-use Rattle.std.proofs.Common.{◌≡◌, ◌≢◌, ℕ, List, [], ◌||◌, Bool, true, false, nat_lt, Option, Some, None, refl, ap, sym, ◌∙◌}
+use Rattle.std.proofs.Common.{◌≡◌, ℕ, List, [], ◌||◌, Bool, true, false, nat_lt, Option, Some, None, refl, ap, sym, subst, ◌∙◌}
 use Rattle.std.specs.List.{list_any}
 use Rattle.std.specs.Option.{option_or, option_map_or}
 use Rattle.toml.specs.Data.{Data}
@@ -8,9 +8,9 @@ use Rattle.schema.specs.Schema.{most_members}
 use Rattle.schema.specs.Tree.{value_at}
 use Rattle.schema.specs.Shape.{least_broken_of_shape}
 use Rattle.schema.specs.declared.schema.Version.{Version}
-use Rattle.schema.specs.declared.schema.Version.TheVariants.{One, Two, Three}
+use Rattle.schema.specs.declared.schema.Version.TheVariants.{One, Two, Three, Four}
 use Rattle.schema.specs.declared.schema.FormatKey.TheVariants as key
-use Rattle.scenario.specs.Setup.{Setup, member_count, IsPlain, IsWithoutThird}
+use Rattle.scenario.specs.Setup.{Setup, member_count, IsPlain, IsBeforeThird, IsWithoutThird}
 use Rattle.scenario_reader.specs.Reading.{version_of, added_items, pause_items, plain_groups, leaves_in, cuts_in, pauses_in, fallback_in, gossip_in, setup_of_tree}
 use Rattle.scenario_reader.specs.Rules.{names_no_member, names_no_group, is_early_leave, is_cut_over, is_pause_over, breaks_names, breaks_references, breaks_pairs, breaks_times, breaks_added_references, breaks_departures, breaks_pauses, breaks_added_times, breaks_size, least_of, least_broken, least_broken_by, first_least_broken, first_least_broken_by, judged_if_read, unless_broken, tree_of, verdict, first_verdict, second_breaks_references, second_breaks_times, second_least_broken, second_least_broken_by, second_verdict, version_in}
 use Rattle.scenario_reader.proofs.Chain.{version_is}
@@ -19,20 +19,21 @@ pub plain_of : (d : Data) → version_of d ≡ One → IsPlain (setup_of_tree d)
 unfolding setup_of_tree
 plain_of d first = record { leaves = ap (λ v. leaves_in v (plain_groups d) d) first; cuts = ap (λ v. cuts_in v (plain_groups d) d) first }
 
-without : (v : Version) (d : Data) → v ≢ Three → (fallback_in v (value_at key.Swim d) ≡ false) × (gossip_in v (value_at key.Gossip d) ≡ None) × (pauses_in v (plain_groups d) d ≡ [])
+without : (v : Version) (d : Data) → IsBeforeThird v → (fallback_in v (value_at key.Swim d) ≡ false) × (gossip_in v (value_at key.Gossip d) ≡ None) × (pauses_in v (plain_groups d) d ≡ [])
 without One d old = (refl, refl, refl)
 without Two d old = (refl, refl, refl)
-without Three d old = absurd (old refl)
+without Three d old = absurd old
+without Four d old = absurd old
 
-pub without_third : (d : Data) → version_of d ≢ Three → IsWithoutThird (setup_of_tree d)
+pub without_third : (d : Data) → IsBeforeThird (version_of d) → IsWithoutThird (setup_of_tree d)
 unfolding setup_of_tree
 without_third d old = let none = without (version_of d) d old in record { fallback = none.0; gossip = none.1; pauses = none.2 }
 
-first_is_old : (v : Version) → v ≡ One → v ≢ Three
-first_is_old v first third = let no : One ≡ Three = sym first ∙ third in cc
+first_is_old : (v : Version) → v ≡ One → IsBeforeThird v
+first_is_old v first = subst IsBeforeThird (sym first) tt
 
-second_is_old : (v : Version) → v ≡ Two → v ≢ Three
-second_is_old v second third = let no : Two ≡ Three = sym second ∙ third in cc
+second_is_old : (v : Version) → v ≡ Two → IsBeforeThird v
+second_is_old v second = subst IsBeforeThird (sym second) tt
 
 no_references : (d : Data) (v : Version) → v ≡ One → breaks_added_references v d (plain_groups d) ≡ false
 unfolding breaks_added_references

@@ -14,7 +14,7 @@ use Rattle.schema.specs.Values.{default_of, whole_or, number_at, text_if}
 use Rattle.schema.specs.Shape.{is_over_0, is_refused, is_absent, is_missing, is_other_kind, is_outside, has_fault, table_breaks, breaks, KeepsShape}
 use Rattle.schema.proofs.Trees.{any-flat_map}
 use Rattle.schema.specs.declared.schema.Version.{Version}
-use Rattle.schema.specs.declared.schema.Version.TheVariants.{One, Two, Three}
+use Rattle.schema.specs.declared.schema.Version.TheVariants.{One, Two, Three, Four}
 use Rattle.schema.specs.declared.schema.KeyRule.{KeyRule}
 use Rattle.schema.specs.declared.schema.FormatKey.{FormatKey}
 use Rattle.schema.specs.declared.schema.FormatKey.TheVariants as key
@@ -263,12 +263,14 @@ unfolding key_rules_of
 gossip_sound One tree kept = tt
 gossip_sound Two tree kept = tt
 gossip_sound Three tree kept = gossip_if Three (value_at key.Gossip tree) (table_kept Three tree 13 key.Gossip Optional section.Gossip (λ _. refl) kept)
+gossip_sound Four tree kept = gossip_if Four (value_at key.Gossip tree) (table_kept Four tree 13 key.Gossip Optional section.Gossip (λ _. refl) kept)
 
 stream_kept : (v : Version) (tree : Data) → AllKept v tree → (d : Data) → stream_table v tree ≡ Some d → Keeps v section.Stream d
 unfolding key_rules_of
 stream_kept One tree kept d at = absurd (let no : None ≡ Some d = at in cc)
 stream_kept Two tree kept d at = absurd (let no : None ≡ Some d = at in cc)
 stream_kept Three tree kept d at = table_kept Three tree 14 key.Stream Optional section.Stream (λ _. refl) kept d at
+stream_kept Four tree kept d at = table_kept Four tree 14 key.Stream Optional section.Stream (λ _. refl) kept d at
 
 record StreamSound (s : StreamTimes) : Type 0 where
   connect : Within 1 0x100_0000 s.connect
@@ -422,6 +424,10 @@ leaves_kept Three tree shape =
     let row = list_row key.Leave Optional section.Departure in
     items_kept Three section.Departure (value_at key.Leave tree) (below_kept Three tree Missing 12 row (λ _. refl) shape.missing) (below_kept Three tree WrongKind 12 row (λ _. refl) shape.kinds)
     (below_kept Three tree OutOfRange 12 row (λ _. refl) shape.ranges)
+leaves_kept Four tree shape =
+    let row = list_row key.Leave Optional section.Departure in
+    items_kept Four section.Departure (value_at key.Leave tree) (below_kept Four tree Missing 12 row (λ _. refl) shape.missing) (below_kept Four tree WrongKind 12 row (λ _. refl) shape.kinds)
+    (below_kept Four tree OutOfRange 12 row (λ _. refl) shape.ranges)
 
 cuts_kept : (v : Version) (tree : Data) → KeepsShape v tree → AllByRecursion (Keeps v section.Cut) (added_items v key.Cut tree)
 unfolding key_rules_of
@@ -434,6 +440,10 @@ cuts_kept Three tree shape =
     let row = list_row key.Cut Optional section.Cut in
     items_kept Three section.Cut (value_at key.Cut tree) (below_kept Three tree Missing 11 row (λ _. refl) shape.missing) (below_kept Three tree WrongKind 11 row (λ _. refl) shape.kinds)
     (below_kept Three tree OutOfRange 11 row (λ _. refl) shape.ranges)
+cuts_kept Four tree shape =
+    let row = list_row key.Cut Optional section.Cut in
+    items_kept Four section.Cut (value_at key.Cut tree) (below_kept Four tree Missing 11 row (λ _. refl) shape.missing) (below_kept Four tree WrongKind 11 row (λ _. refl) shape.kinds)
+    (below_kept Four tree OutOfRange 11 row (λ _. refl) shape.ranges)
 
 pauses_kept : (v : Version) (tree : Data) → KeepsShape v tree → AllByRecursion (Keeps v section.Pause) (pause_items v tree)
 unfolding key_rules_of
@@ -443,6 +453,10 @@ pauses_kept Three tree shape =
     let row = list_row key.Pause Optional section.Pause in
     items_kept Three section.Pause (value_at key.Pause tree) (below_kept Three tree Missing 15 row (λ _. refl) shape.missing) (below_kept Three tree WrongKind 15 row (λ _. refl) shape.kinds)
     (below_kept Three tree OutOfRange 15 row (λ _. refl) shape.ranges)
+pauses_kept Four tree shape =
+    let row = list_row key.Pause Optional section.Pause in
+    items_kept Four section.Pause (value_at key.Pause tree) (below_kept Four tree Missing 15 row (λ _. refl) shape.missing) (below_kept Four tree WrongKind 15 row (λ _. refl) shape.kinds)
+    (below_kept Four tree OutOfRange 15 row (λ _. refl) shape.ranges)
 
 until_kept : (v : Version) (d : Data) → Keeps v section.Cut d → number_at section.Cut key.Until (Some d) ≤ 2 ^ 40
 unfolding key_rules_of

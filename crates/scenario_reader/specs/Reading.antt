@@ -5,7 +5,7 @@ use Rattle.toml.specs.Data.{Data}
 use Rattle.schema.specs.Tree.{value_at, items_at}
 use Rattle.schema.specs.Values.{whole_or, number_at, switch_at, switch_set, text_if, text_at}
 use Rattle.schema.specs.declared.schema.Version.{Version}
-use Rattle.schema.specs.declared.schema.Version.TheVariants.{One, Two, Three}
+use Rattle.schema.specs.declared.schema.Version.TheVariants.{One, Two, Three, Four}
 use Rattle.schema.specs.declared.schema.FormatKey.{FormatKey}
 use Rattle.schema.specs.declared.schema.FormatKey.TheVariants as key
 use Rattle.schema.specs.declared.schema.Section.TheVariants as section
@@ -36,12 +36,14 @@ abbrev pub added_items : Version → FormatKey → Data → List Data
 added_items One key tree = []
 added_items Two key tree = items_at key tree
 added_items Three key tree = items_at key tree
+added_items Four key tree = items_at key tree
 
 -- the pauses, which version 3 adds
 abbrev pub pause_items : Version → Data → List Data
 pause_items One tree = []
 pause_items Two tree = []
 pause_items Three tree = items_at key.Pause tree
+pause_items Four tree = items_at key.Pause tree
 
 -- one item of the list of groups, its contact left out
 abbrev pub plain_group : Data → Group
@@ -151,6 +153,7 @@ abbrev pub fallback_in : Version → Option Data → Bool
 fallback_in One d = false
 fallback_in Two d = false
 fallback_in Three d = switch_set key.Fallback d
+fallback_in Four d = switch_set key.Fallback d
 
 -- how members probe and gossip
 abbrev pub swim_in : Version → Option Data → Swim
@@ -197,6 +200,7 @@ abbrev pub gossip_in : Version → Option Data → Option Gossip
 gossip_in One d = None
 gossip_in Two d = None
 gossip_in Three d = option_map gossip_of d
+gossip_in Four d = option_map gossip_of d
 
 -- how streams send again
 abbrev pub stream_in : Option Data → StreamTimes
@@ -207,6 +211,7 @@ abbrev pub stream_table : Version → Data → Option Data
 stream_table One tree = None
 stream_table Two tree = None
 stream_table Three tree = value_at key.Stream tree
+stream_table Four tree = value_at key.Stream tree
 
 -- the scenario of a document
 unfoldable pub setup_of_tree : Data → Setup

@@ -44,7 +44,7 @@ pub(crate) fn added_items(version: Version, key: FormatKey, tree: &Value) -> &[V
 {
     match version {
         Version::One => &[],
-        Version::Two | Version::Three => items_at(key, tree),
+        Version::Two | Version::Three | Version::Four => items_at(key, tree),
     }
 }
 
@@ -54,7 +54,7 @@ pub(crate) fn pause_items(version: Version, tree: &Value) -> &[Value]
 {
     match version {
         Version::One | Version::Two => &[],
-        Version::Three => items_at(FormatKey::Pause, tree),
+        Version::Three | Version::Four => items_at(FormatKey::Pause, tree),
     }
 }
 

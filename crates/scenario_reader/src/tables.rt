@@ -31,7 +31,7 @@ fn fallback(version: Version, swim: Option<&Value>) -> bool
 {
     match version {
         Version::One | Version::Two => false,
-        Version::Three => switch_set(FormatKey::Fallback, swim),
+        Version::Three | Version::Four => switch_set(FormatKey::Fallback, swim),
     }
 }
 
@@ -83,7 +83,7 @@ pub(crate) fn read_gossip(tree: &Value) -> Option<Gossip>
 {
     match version_of(tree) {
         Version::One | Version::Two => None,
-        Version::Three => match tree.get(FormatKey::Gossip.text()) {
+        Version::Three | Version::Four => match tree.get(FormatKey::Gossip.text()) {
             Some(table) => Some(gossip_of(table)),
             None => None,
         },
@@ -120,6 +120,6 @@ fn stream_table(version: Version, tree: &Value) -> Option<&Value>
 {
     match version {
         Version::One | Version::Two => None,
-        Version::Three => tree.get(FormatKey::Stream.text()),
+        Version::Three | Version::Four => tree.get(FormatKey::Stream.text()),
     }
 }

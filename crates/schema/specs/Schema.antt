@@ -1,7 +1,7 @@
 -- How the keys of the format are spelt, and which keys a kind of table has in a version, with their ranges and defaults.
 use Rattle.std.specs.Prelude.{ℕ, ◌-◌, ◌^◌, List, [], ◌∷◌, codes}
 use Rattle.schema.specs.declared.schema.Version.{Version}
-use Rattle.schema.specs.declared.schema.Version.TheVariants.{One, Two, Three}
+use Rattle.schema.specs.declared.schema.Version.TheVariants.{One, Two, Three, Four}
 use Rattle.schema.specs.declared.schema.KeyRule.{KeyRule}
 use Rattle.schema.specs.declared.schema.FormatKey.{FormatKey}
 use Rattle.schema.specs.declared.schema.FormatKey.TheVariants as key
@@ -89,14 +89,16 @@ abbrev pub number_of : Version → ℕ
 number_of One = 1
 number_of Two = 2
 number_of Three = 3
+number_of Four = 4
 
 -- how many members a scenario may have
 abbrev pub most_members : Version → ℕ
 most_members One = 1024
 most_members Two = 4096
 most_members Three = 4096
+most_members Four = 4096
 
--- what versions 2 and 3 add to the whole text
+-- what later versions add to the whole text
 abbrev pub added_keys : Version → List KeyRule
 added_keys One = []
 added_keys Two = optional key.Cut (kind.List section.Cut) ∷ optional key.Leave (kind.List section.Departure) ∷ []
@@ -107,12 +109,20 @@ added_keys Three =
     ∷ optional key.Stream (Table section.Stream)
     ∷ optional key.Pause (kind.List section.Pause)
     ∷ []
+added_keys Four =
+    optional key.Cut (kind.List section.Cut)
+    ∷ optional key.Leave (kind.List section.Departure)
+    ∷ optional key.Gossip (Table section.Gossip)
+    ∷ optional key.Stream (Table section.Stream)
+    ∷ optional key.Pause (kind.List section.Pause)
+    ∷ []
 
--- what version 3 adds to how members probe
+-- what versions 3 and 4 add to how members probe
 abbrev pub added_to_swim : Version → List KeyRule
 added_to_swim One = []
 added_to_swim Two = []
 added_to_swim Three = off key.Fallback ∷ []
+added_to_swim Four = off key.Fallback ∷ []
 
 -- The keys of a kind of table, each with its kind, its range and its default: moments go up to 2^40, lengths of time up to 2^24, delays and jitters up to
 -- 2^20 ticks, and a loss is in parts per million. No default differs between versions.

@@ -5,7 +5,7 @@ ghost use Rattle.schema.specs.Schema.{most_members, spelling_of, key_rules_of};
 
 use crate::tables::{
     CUT, DEPARTURE, GOSSIP, GROUP_1, GROUP_2, LIFEGUARD, LINK, PATH, PAUSE, SLOW, STREAM,
-    SUSPICION, SWIM_1, SWIM_3, TOP_1, TOP_2, TOP_3,
+    SUSPICION, SWIM_1, SWIM_3, TOP_1, TOP_2, TOP_3, TOP_4,
 };
 use base::limits::{MOST_MEMBERS, MOST_MEMBERS_AT_FIRST};
 
@@ -18,6 +18,8 @@ pub enum Version {
     Two,
     /// Members follow memberlist's rules, and their processes pause.
     Three,
+    /// They follow all rules of memberlist 0.5.0. No text is of this version yet: the reader refuses its number.
+    Four,
 }
 
 impl Version {
@@ -27,7 +29,7 @@ impl Version {
     {
         match self {
             Version::One => MOST_MEMBERS_AT_FIRST,
-            Version::Two | Version::Three => MOST_MEMBERS,
+            Version::Two | Version::Three | Version::Four => MOST_MEMBERS,
         }
     }
 }
@@ -206,6 +208,7 @@ fn top_rows(version: Version) -> &'static [KeyRule]
         Version::One => &TOP_1,
         Version::Two => &TOP_2,
         Version::Three => &TOP_3,
+        Version::Four => &TOP_4,
     }
 }
 
@@ -216,7 +219,7 @@ fn swim_rows(version: Version) -> &'static [KeyRule]
 {
     match version {
         Version::One | Version::Two => &SWIM_1,
-        Version::Three => &SWIM_3,
+        Version::Three | Version::Four => &SWIM_3,
     }
 }
 
@@ -227,7 +230,7 @@ fn group_rows(version: Version) -> &'static [KeyRule]
 {
     match version {
         Version::One => &GROUP_1,
-        Version::Two | Version::Three => &GROUP_2,
+        Version::Two | Version::Three | Version::Four => &GROUP_2,
     }
 }
 

@@ -20,6 +20,12 @@ const VERSION_3: KeyRule = KeyRule {
     kind: Kind::Whole { least: 1, most: 3 },
 };
 
+const VERSION_4: KeyRule = KeyRule {
+    key: FormatKey::Version,
+    absence: Absence::Refused,
+    kind: Kind::Whole { least: 1, most: 4 },
+};
+
 const SEED: KeyRule = KeyRule {
     key: FormatKey::Seed,
     absence: Absence::Refused,
@@ -151,6 +157,25 @@ pub(crate) const TOP_2: [KeyRule; 13] = [
 /// The whole text in version 3.
 pub(crate) const TOP_3: [KeyRule; 16] = [
     VERSION_3,
+    SEED,
+    END,
+    SWIM_TABLE,
+    SUSPICION_TABLE,
+    LIFEGUARD_TABLE,
+    LINK_TABLE,
+    GROUPS,
+    PATHS,
+    SLOWS,
+    CRASHES,
+    CUTS,
+    LEAVES,
+    GOSSIP_TABLE,
+    STREAM_TABLE,
+    PAUSES,
+];
+
+pub(crate) const TOP_4: [KeyRule; 16] = [
+    VERSION_4,
     SEED,
     END,
     SWIM_TABLE,

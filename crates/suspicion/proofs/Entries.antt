@@ -9,7 +9,7 @@ use Rattle.std.proofs.lemmas.Map.Views.{tells_apart}
 use Rattle.std.specs.BTreeMap.{is_at}
 use Rattle.std.specs.FinMap.{find, get, insert, remove, get-from_entries, get-insert, get-remove, same_map, nat_cmp-IsAntisymmetric}
 use Rattle.suspicion.specs.declared.standing.Standing.{Standing}
-use Rattle.suspicion.specs.Suspicions.{HeldSuspicion, HeldSuspicions, accused, accused_of, after_accusation, is_due, first_accuser_of}
+use Rattle.suspicion.specs.Suspicions.{HeldSuspicion, HeldSuspicions, accused, accused_of, after_accusation, is_due, is_over, is_over_of, first_accuser_of}
 use Rattle.suspicion.specs.SuspicionOf.{suspicion_of, held_of}
 
 -- the entry of a subject
@@ -100,3 +100,9 @@ is_due-found es q generation o here =
 
 pub first_accuser_of-found : (es : List (ℕ × Standing)) (q : ℕ) (o : Option Standing) → o ≡ found es q → first_accuser_of (held_of es) q ≡ option_map (λ s. s.first) (option_map suspicion_of o)
 first_accuser_of-found es q o here = ap (option_map (λ s. s.first)) (get-held_of es q ∙ ap (option_map suspicion_of) (sym here))
+
+-- whether a suspect's time is over
+pub is_over_of-found : (es : List (ℕ × Standing)) (q now : ℕ) (o : Option Standing) → o ≡ found es q
+    → is_over_of (held_of es) q now ≡ option_map_or (λ s. is_over s now) (option_map suspicion_of o) false
+is_over_of-found es q now o here =
+    ap (λ p. option_map_or (λ s. is_over s now) p false) (get-held_of es q ∙ ap (option_map suspicion_of) (sym here))

@@ -1,13 +1,13 @@
 -- The tables of logarithms, and a number's logarithm by them, by both profiles.
-use Rattle.std.proofs.Common.{◌≡◌, ℕ, zero, suc, ◌+◌, ◌-◌, ◌*◌, ◌/◌, ◌<◌, ◌≤◌, ◌^◌, Bool, true, false, ◌&&◌, leb, ◌⊎◌, inl, inr, List, [], ◌∷◌, length, get_or, ap, ◌∙◌, sym, refl, arith, lit≤}
+use Rattle.std.proofs.Common.{◌≡◌, ℕ, zero, suc, ◌+◌, ◌-◌, ◌*◌, ◌/◌, ◌%◌, ◌<◌, ◌≤◌, ◌^◌, Bool, true, false, ◌&&◌, leb, ◌⊎◌, inl, inr, List, [], ◌∷◌, length, get_or, ap, ◌∙◌, sym, refl, arith, lit≤}
 use Rattle.std.specs.Fmt.{decimal, digits}
-use Rattle.std.proofs.Math.Nat.{div-one}
+use Rattle.std.proofs.Math.Nat.{div-one, mod-lt}
 use Rattle.std.proofs.lemmas.Bool.{leb-true, false≢true}
 use Rattle.std.proofs.lemmas.Fmt.{decimal_digit, length-decimal-le}
 use Rattle.base.specs.declared.profile.Profile.{Profile}
-use Rattle.base.specs.declared.profile.Profile.TheVariants.{Papers, Memberlist}
-use Rattle.base.specs.Logarithm.{thousandths_table, thousandths_of, digit_count, leading_digit, log_of, leading_digits, tenth_log_of, fine_log_of}
-use Rattle.base.proofs.FineLogs.{tenths, tenth_is, tenth-le}
+use Rattle.base.specs.declared.profile.Profile.TheVariants.{Papers, Memberlist, Hashicorp}
+use Rattle.base.specs.Logarithm.{thousandths_table, thousandths_of, digit_count, leading_digit, log_of, leading_digits, tenth_log_of, fine_log_of, three_leading_digits}
+use Rattle.base.proofs.FineLogs.{tenths, tenth_is, tenth-le, further-le_thousand, close_is_fine}
 use Rattle.suspicion.specs.Times.{size_log, accuser_log}
 
 -- ---- tables that rise
@@ -132,31 +132,39 @@ fine_is m some few = fine_of_table m some (up_to_ten m few)
 
 -- ---- by both profiles
 
+fine-rises : (a b : ℕ) → 1 ≤ a → a ≤ b → b ≤ 10 → fine_log_of a ≤ fine_log_of b
+fine-rises a b some h few =
+    let rise = of_ten-rise fine_table a b refl refl some h few in
+    omega (arith, rise, fine_is a some (omega arith), fine_is b (omega arith) few)
+
 -- the logarithms of accusers rise
 pub log-rises : (p : Profile) (a b : ℕ) → 1 ≤ a → a ≤ b → b ≤ 10 → accuser_log p a ≤ accuser_log p b
 log-rises Papers a b some h few = of_ten-rise thousandths_table a b refl refl some h few
-log-rises Memberlist a b some h few =
-    let rise = of_ten-rise fine_table a b refl refl some h few in
-    omega (arith, rise, fine_is a some (omega arith), fine_is b (omega arith) few)
+log-rises Memberlist a b some h few = fine-rises a b some h few
+log-rises Hashicorp a b some h few = fine-rises a b some h few
 
 -- none is over 1000
 pub log-le_thousand : (p : Profile) (d : ℕ) → 1 ≤ d → d ≤ 10 → accuser_log p d ≤ 1000
 log-le_thousand Papers d some few = thousandths-le d
-log-le_thousand Memberlist d some few = let rise = log-rises Memberlist d 10 some few (lit≤ tt) in omega (arith, rise, fine_ten)
+log-le_thousand Memberlist d some few = let rise = fine-rises d 10 some few (lit≤ tt) in omega (arith, rise, fine_ten)
+log-le_thousand Hashicorp d some few = let rise = fine-rises d 10 some few (lit≤ tt) in omega (arith, rise, fine_ten)
 
 -- that of 1 is 0, and of more it is not
 pub log-one : (p : Profile) → accuser_log p 1 ≡ 0
 log-one Papers = refl
 log-one Memberlist = fine_is 1 (lit≤ tt) (lit≤ tt)
+log-one Hashicorp = fine_is 1 (lit≤ tt) (lit≤ tt)
 
 pub log-positive : (p : Profile) (b : ℕ) → 2 ≤ b → b ≤ 10 → 301 ≤ accuser_log p b
 log-positive Papers b some few = log-rises Papers 2 b (lit≤ tt) some few
-log-positive Memberlist b some few = let rise = log-rises Memberlist 2 b (lit≤ tt) some few in omega (arith, rise, fine_is 2 (lit≤ tt) (lit≤ tt))
+log-positive Memberlist b some few = let rise = fine-rises 2 b (lit≤ tt) some few in omega (arith, rise, fine_is 2 (lit≤ tt) (lit≤ tt))
+log-positive Hashicorp b some few = let rise = fine-rises 2 b (lit≤ tt) some few in omega (arith, rise, fine_is 2 (lit≤ tt) (lit≤ tt))
 
 -- up to ten the logarithm of a size is that of as many accusers
 pub size_log-small : (p : Profile) (m : ℕ) → m ≤ 10 → size_log p m ≡ accuser_log p m
 size_log-small Papers m h = of_table m (up_to_ten m h)
 size_log-small Memberlist m h = refl
+size_log-small Hashicorp m h = close_is_fine m (length-decimal-le 2 m (lit≤ tt) (omega arith) (omega arith))
 
 -- the logarithm of a cluster's size
 pub size_log-le : (p : Profile) (n : ℕ) → n ≤ 4096 → size_log p n ≤ 4000
@@ -168,3 +176,8 @@ size_log-le Memberlist n h =
     let few : digit_count n ≤ 4 = length-decimal-le 4 n (lit≤ tt) (omega arith) (omega arith) in
     let entry = tenth-le (leading_digits n) in
     omega (arith, few, entry)
+size_log-le Hashicorp n h =
+    let few : digit_count n ≤ 4 = length-decimal-le 4 n (lit≤ tt) (omega arith) (omega arith) in
+    let third : three_leading_digits n % 10 ≤ 10 = let below : three_leading_digits n % 10 < 10 = mod-lt (three_leading_digits n) (lit≤ tt) in omega (arith, below) in
+    let rest = further-le_thousand (three_leading_digits n / 10) (three_leading_digits n % 10) third in
+    omega (arith, few, rest)

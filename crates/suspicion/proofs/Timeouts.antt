@@ -5,19 +5,20 @@ use Rattle.std.proofs.lemmas.Nat.{le-div, mul-le}
 use Rattle.std.proofs.Math.Bool.{or-true}
 use Rattle.std.proofs.lemmas.Bool.{leb-true, leb-false, le-leb, lt-leb}
 use Rattle.base.specs.declared.profile.Profile.{Profile}
-use Rattle.base.specs.declared.profile.Profile.TheVariants.{Papers, Memberlist}
+use Rattle.base.specs.declared.profile.Profile.TheVariants.{Papers, Memberlist, Hashicorp}
 use Rattle.suspicion.specs.declared.terms.Terms.{Terms}
 use Rattle.suspicion.specs.Ranges.{AreSound}
 use Rattle.suspicion.proofs.Tables.{log-rises, log-positive, log-one}
 use Rattle.suspicion.specs.Times.{counted_of, accuser_log, min_timeout, max_timeout, most_accusers, timeout}
 
+either_most : (b : Bool) (wanted : ℕ) → cond b wanted 0 ≤ wanted
+either_most true wanted = omega arith
+either_most false wanted = omega arith
+
 counted-le : (p : Profile) (wanted others : ℕ) → counted_of p wanted others ≤ wanted
 counted-le Papers wanted others = omega arith
-counted-le Memberlist wanted others = either (leb wanted others)
-  where
-    either : (b : Bool) → cond b wanted 0 ≤ wanted
-    either true = omega arith
-    either false = omega arith
+counted-le Memberlist wanted others = either_most (leb wanted others) wanted
+counted-le Hashicorp wanted others = either_most (leb wanted others) wanted
 
 -- no more accusers count than are wanted
 pub most-le : (terms : Terms) (n : ℕ) → most_accusers terms n ≤ terms.accusers_wanted

@@ -1,5 +1,5 @@
 -- The suspicions that stand at a member, and what starts them, who accuses, and what ends them (SWIM, section 4.2; Lifeguard's LHA-Suspicion).
-use Rattle.std.specs.Prelude.{ℕ, ◌+◌, ◌≤◌, max, count_by, ◌==◌, ◌||◌, ◌&&◌, Bool, not, false, nat_lt, if◌then◌else◌, Option, Some, None, List, [], ◌∷◌, ◌++◌, length}
+use Rattle.std.specs.Prelude.{ℕ, ◌+◌, ◌≤◌, max, count_by, ◌==◌, ◌||◌, ◌&&◌, Bool, not, false, nat_lt, nat_le, if◌then◌else◌, Option, Some, None, List, [], ◌∷◌, ◌++◌, length}
 use Rattle.std.specs.List.{list_any}
 use Rattle.std.specs.Option.{option_map, option_map_or, option_and_then}
 use Rattle.std.specs.Ordering.{nat_cmp}
@@ -52,6 +52,14 @@ accused s accuser generation = if counts s accuser then Some (with_accuser s acc
 -- when its time is over: its timeout after its start, but later than now
 abbrev pub due_of : HeldSuspicion → ℕ → ℕ
 due_of s now = max (now + 1) (s.since + timeout s.terms s.members (accusers_counted s))
+
+-- whether its time is over by now
+abbrev pub is_over : HeldSuspicion → ℕ → Bool
+is_over s now = nat_le (s.since + timeout s.terms s.members (accusers_counted s)) now
+
+-- whether a suspicion of the subject stands whose time is over by now
+abbrev pub is_over_of : HeldSuspicions → ℕ → ℕ → Bool
+is_over_of held subject now = option_map_or (λ s. is_over s now) (get held subject) false
 
 -- the count and the due moment that an accusation answers
 abbrev pub answer_of : ℕ → HeldSuspicion → Accused

@@ -1,19 +1,21 @@
 -- How long a suspicion lasts, among n members and with C further accusers (Lifeguard's LHA-Suspicion). Quotients are rounded down.
 use Rattle.std.specs.Prelude.{ℕ, ◌+◌, ◌-◌, ◌*◌, ◌/◌, max, min, not, nat_le, ◌||◌, if◌then◌else◌}
-use Rattle.base.specs.Logarithm.{log_of, thousandths_of, fine_log_of}
+use Rattle.base.specs.Logarithm.{log_of, thousandths_of, fine_log_of, close_log_of}
 use Rattle.base.specs.declared.profile.Profile.{Profile}
-use Rattle.base.specs.declared.profile.Profile.TheVariants.{Papers, Memberlist}
+use Rattle.base.specs.declared.profile.Profile.TheVariants.{Papers, Memberlist, Hashicorp}
 use Rattle.suspicion.specs.declared.terms.Terms.{Terms}
 
--- the logarithm of a cluster's size, in thousandths: by the leading digit, or by the two leading ones
+-- the logarithm of a cluster's size, in thousandths: by the leading digit, by the two leading ones, or by the three leading ones
 abbrev pub size_log : Profile → ℕ → ℕ
 size_log Papers n = log_of n
 size_log Memberlist n = fine_log_of n
+size_log Hashicorp n = close_log_of n
 
 -- that of a number of accusers, from 1 to 10
 abbrev pub accuser_log : Profile → ℕ → ℕ
 accuser_log Papers d = thousandths_of d
 accuser_log Memberlist d = fine_log_of d
+accuser_log Hashicorp d = fine_log_of d
 
 -- Lifeguard's Min: alpha periods times log10(n), a logarithm below 1 taken as 1; no less than a tick
 abbrev pub min_timeout : Terms → ℕ → ℕ
@@ -27,6 +29,7 @@ max_timeout terms n = terms.beta * min_timeout terms n
 abbrev pub counted_of : Profile → ℕ → ℕ → ℕ
 counted_of Papers wanted others = min wanted others
 counted_of Memberlist wanted others = if nat_le wanted others then wanted else 0
+counted_of Hashicorp wanted others = if nat_le wanted others then wanted else 0
 
 -- K': those who may accuse are all members but the suspect and the first accuser
 abbrev pub most_accusers : Terms → ℕ → ℕ

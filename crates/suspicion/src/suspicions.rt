@@ -6,7 +6,7 @@ ghost use Rattle.std.specs.FinMap.{empty, contains_key, insert, remove};
 ghost use Rattle.suspicion.specs.Ranges.{AreSound};
 ghost use Rattle.suspicion.specs.Settings.{terms_of};
 ghost use Rattle.suspicion.specs.Times.{timeout};
-ghost use Rattle.suspicion.specs.Suspicions.{started_of, accused, accused_of, after_accusation, answer_of, is_due, first_accuser_of, counts};
+ghost use Rattle.suspicion.specs.Suspicions.{started_of, accused, accused_of, after_accusation, answer_of, is_due, is_over, is_over_of, first_accuser_of, counts};
 ghost use Rattle.suspicion.specs.SuspicionOf.{suspicion_of, held_of};
 
 use crate::accusers::Accusers;
@@ -167,6 +167,16 @@ impl Suspicions {
         standing.timer == generation
     }
 
+    /// Whether a suspicion of the subject stands whose time is over by now, by its accusers so far.
+    pub fn is_over(&self, subject: MemberId, now: Moment) -> bool
+        ensures { result ≡ is_over_of self.now subject now }
+    {
+        let Some(standing) = self.standing.get(&subject) else {
+            return false;
+        };
+        has_passed(standing, now)
+    }
+
     /// Who accused a suspect first; by Lifeguard's Buddy System a ping reports this to the suspect.
     pub fn first_accuser(&self, subject: MemberId) -> Option<MemberId>
         ensures { result ≡ first_accuser_of self.now subject }
@@ -250,6 +260,15 @@ fn does_count(suspicion: &Standing, accuser: MemberId) -> bool
     suspicion.terms.shortens
         && count < most_counted(suspicion.terms, suspicion.members)
         && !(suspicion.first == accuser || suspicion.further.contains(accuser))
+}
+
+// Whether the time of a suspicion is over by now.
+fn has_passed(suspicion: &Standing, now: Moment) -> bool
+    ensures { result ≡ is_over (suspicion_of suspicion.now) now }
+{
+    let count = suspicion.further.len() as u64;
+    let lasts = suspicion.terms.timeout(suspicion.members, count);
+    suspicion.since.ticks() + lasts <= now.ticks()
 }
 
 // When a suspicion with so many further accusers is over.

@@ -1,11 +1,11 @@
 //! How long a suspicion lasts: from the most to the least time, shortened by each confirmation (Lifeguard's
 //! LHA-Suspicion), with logarithms and confirmations counted as in the papers or as in memberlist.
-ghost use Rattle.std.specs.Prelude.{◌≡◌, ◌^◌, ◌<◌, ◌≤◌};
+ghost use Rattle.std.specs.Prelude.{◌≡◌, ◌^◌, ◌<◌, ◌≤◌, nat_le, if◌then◌else◌};
 ghost use Rattle.suspicion.specs.Ranges.{AreSound};
 ghost use Rattle.suspicion.specs.Times.{size_log, min_timeout, most_accusers, timeout};
 ghost use Rattle.suspicion.specs.Settings.{terms_of};
 
-use base::{Profile, fine_log_thousandths, log_thousandths};
+use base::{Profile, close_log_thousandths, fine_log_thousandths, log_thousandths};
 use scenario::Scenario;
 
 /// The settings that say how long suspicions last.
@@ -76,6 +76,7 @@ fn logarithm(profile: Profile, n: u32) -> u64
     match profile {
         Profile::Papers => u64::from(log_thousandths(n)),
         Profile::Memberlist => u64::from(fine_log_thousandths(n)),
+        Profile::Hashicorp => u64::from(close_log_thousandths(n)),
     }
 }
 
@@ -101,7 +102,13 @@ pub(crate) fn most_counted(terms: Terms, members: u32) -> u64
     let others = u64::from(members.saturating_sub(2));
     match terms.profile {
         Profile::Papers => terms.accusers_wanted.min(others),
-        Profile::Memberlist if terms.accusers_wanted <= others => terms.accusers_wanted,
-        Profile::Memberlist => 0,
+        Profile::Memberlist | Profile::Hashicorp => wanted_or_none(terms.accusers_wanted, others),
     }
+}
+
+// So many accusers as are wanted, or none where there are fewer members to accuse.
+fn wanted_or_none(wanted: u64, others: u64) -> u64
+    ensures { result ≡ (if nat_le wanted others then wanted else 0) }
+{
+    if wanted <= others { wanted } else { 0 }
 }

@@ -11,7 +11,7 @@ use Rattle.schema.specs.Tree.{SectionTable, section_table, tables_at, tables_bel
 use Rattle.schema.specs.Values.{whole_or, default_of, number_at}
 use Rattle.schema.specs.Shape.{is_over_0, is_absent, is_other_kind, is_outside, has_fault, table_breaks, breaks, least_broken_of_shape}
 use Rattle.schema.specs.declared.schema.Version.{Version}
-use Rattle.schema.specs.declared.schema.Version.TheVariants.{One, Two, Three}
+use Rattle.schema.specs.declared.schema.Version.TheVariants.{One, Two, Three, Four}
 use Rattle.schema.specs.declared.schema.FormatKey.{FormatKey}
 use Rattle.schema.specs.declared.schema.FormatKey.TheVariants as key
 use Rattle.schema.specs.declared.schema.KeyRule.{KeyRule}
@@ -207,6 +207,7 @@ module _ (a b : ℕ) (ms : Members) where
   top_missing One = λ i. is_absent (kind.Whole 1 1) (f i key.Version) || (of_seed (is_absent seed_kind) refl i || list_any (missing_by (f i)) (other_rows One))
   top_missing Two = λ i. is_absent (kind.Whole 1 2) (f i key.Version) || (of_seed (is_absent seed_kind) refl i || list_any (missing_by (f i)) (other_rows Two))
   top_missing Three = λ i. is_absent (kind.Whole 1 3) (f i key.Version) || (of_seed (is_absent seed_kind) refl i || list_any (missing_by (f i)) (other_rows Three))
+  top_missing Four = λ i. is_absent (kind.Whole 1 4) (f i key.Version) || (of_seed (is_absent seed_kind) refl i || list_any (missing_by (f i)) (other_rows Four))
 
   top_unknown : (v : Version) → table_breaks v Unknown (section_table section.Top (table (given a ms))) ≡ table_breaks v Unknown (section_table section.Top (table (given b ms)))
   unfolding table_breaks
@@ -222,6 +223,8 @@ module _ (a b : ℕ) (ms : Members) where
       || (of_seed (λ o. option_map_or (fault seed_kind) o false) same i || list_any (fault_by fault (f i)) (other_rows Two))
   top_faults Three fault same = λ i. option_map_or (fault (kind.Whole 1 3)) (f i key.Version) false
       || (of_seed (λ o. option_map_or (fault seed_kind) o false) same i || list_any (fault_by fault (f i)) (other_rows Three))
+  top_faults Four fault same = λ i. option_map_or (fault (kind.Whole 1 4)) (f i key.Version) false
+      || (of_seed (λ o. option_map_or (fault seed_kind) o false) same i || list_any (fault_by fault (f i)) (other_rows Four))
 
   top_kinds : (v : Version) → table_breaks v WrongKind (section_table section.Top (table (given a ms))) ≡ table_breaks v WrongKind (section_table section.Top (table (given b ms)))
   unfolding table_breaks
@@ -237,6 +240,7 @@ module _ (a b : ℕ) (ms : Members) where
   same_tables One = λ i. flat_map (below_by (f i)) (other_rows One)
   same_tables Two = λ i. flat_map (below_by (f i)) (other_rows Two)
   same_tables Three = λ i. flat_map (below_by (f i)) (other_rows Three)
+  same_tables Four = λ i. flat_map (below_by (f i)) (other_rows Four)
 
   module _ (within : is_outside seed_kind (number a) ≡ is_outside seed_kind (number b)) where
     same_top : (v : Version) (check : Check) → table_breaks v check (section_table section.Top (table (given a ms))) ≡ table_breaks v check (section_table section.Top (table (given b ms)))
@@ -278,16 +282,19 @@ module _ (a b : ℕ) (ms : Members) where
   added One k other = refl
   added Two k other = ap listed (elsewhere a b ms k other)
   added Three k other = ap listed (elsewhere a b ms k other)
+  added Four k other = ap listed (elsewhere a b ms k other)
 
   paused : (v : Version) → pause_items v (table (given a ms)) ≡ pause_items v (table (given b ms))
   paused One = refl
   paused Two = refl
   paused Three = λ i. listed (f i key.Pause)
+  paused Four = λ i. listed (f i key.Pause)
 
   streamed : (v : Version) → stream_table v (table (given a ms)) ≡ stream_table v (table (given b ms))
   streamed One = refl
   streamed Two = refl
   streamed Three = λ i. f i key.Stream
+  streamed Four = λ i. f i key.Stream
 
   -- but for its seed it is the same
   same_setup : seeded 0 (setup_of_tree (table (given a ms))) ≡ seeded 0 (setup_of_tree (table (given b ms)))

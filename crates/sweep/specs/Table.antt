@@ -8,7 +8,7 @@ use Rattle.base.specs.declared.fault.Fault.{Fault}
 use Rattle.base.specs.declared.fault.Fault.TheVariants as fault
 use Rattle.base.specs.declared.fault.Memory.{Memory}
 use Rattle.schema.specs.declared.schema.Version.{Version}
-use Rattle.schema.specs.declared.schema.Version.TheVariants.{One, Two, Three}
+use Rattle.schema.specs.declared.schema.Version.TheVariants.{One, Two, Three, Four}
 use Rattle.scenario.specs.Setup.{Setup}
 use Rattle.scenario_reader.specs.Reading.{version_of}
 use Rattle.trace.specs.Sinks.{AppendsBeginning}
@@ -38,6 +38,7 @@ abbrev pub has_revivals : Version → Bool
 has_revivals One = false
 has_revivals Two = false
 has_revivals Three = true
+has_revivals Four = true
 
 -- the sweep of a text of such a version counts them
 abbrev pub counts_revived : Data → Bool

@@ -21,6 +21,6 @@ fn has_revivals(version: Version) -> bool
 {
     match version {
         Version::One | Version::Two => false,
-        Version::Three => true,
+        Version::Three | Version::Four => true,
     }
 }

@@ -2,9 +2,10 @@
 use Rattle.std.proofs.Common.{◌≡◌, ℕ, nat_eq, nat_lt, ◌<◌, Bool, true, false, cond, List, Option, Some, None, subst, refl, arith, inl, inr}
 use Rattle.std.specs.Option.{option_map_or, option_or}
 use Rattle.base.specs.declared.key.Key.{Key}
+use Rattle.std.specs.FinSet as set
 use Rattle.scenario.specs.Setup.{Setup, crash_of, leave_of}
 use Rattle.base.specs.declared.profile.Profile.{Profile}
-use Rattle.base.specs.declared.profile.Profile.TheVariants.{Papers, Memberlist}
+use Rattle.base.specs.declared.profile.Profile.TheVariants.{Papers, Memberlist, Hashicorp}
 use Rattle.scenario.specs.Profile.{profile_of}
 use Rattle.scenario.specs.declared.settings.Gossip as settings
 use Rattle.incarnation.specs.declared.Claim.{Claim}
@@ -16,12 +17,16 @@ use Rattle.member.specs.declared.event_kind.EventKind.{EventKind}
 use Rattle.member.specs.declared.event_kind.EventKind.TheVariants.{Start, Crash, Leave, JoinTimer, PeriodTimer, TimeoutTimer, NackTimer, SuspicionTimer, Join, Welcome, Ping, PingReq, Ack, Nack, Bye, DeadlineTimer, GossipTimer, PushTimer, Call, Answer, Gossip, Push, Pull}
 use Rattle.member.specs.declared.announce.Announce.TheVariants.{Aloud, Quietly}
 use Rattle.member.specs.State.{State}
-use Rattle.member.specs.Effects.{Effect, unchanged}
+use Rattle.member.specs.Effects.{Effect, unchanged, with_event}
 use Rattle.member.specs.Send.{ping_req_sent, nack_sent, bye_sent, gossip_sent, answer_sent, push_sent, pull_sent}
 use Rattle.member.specs.Opening.{opening_state}
-use Rattle.member.specs.Step.{period_beaten, is_under_way, deadline_over, timed_ack_heard, sampled_help, timed_out_timed, answer_heard, is_told_out, gossip_spread, gossip_due, pushed, push_due, push_heard, timed_handled, handled_by, crashed, join_asked, join_handled, joined, period_begun, timed_out, help_asked, ping_heard, ping_req_heard, ack_heard, nack_due, nack_heard, confirmed, suspicion_over, withdrawn, byes_said, departed, plain_handled, handled, step}
+use Rattle.base.specs.Beats.{next_in_step}
+use Rattle.member.specs.LoneBuddy.{plain_ping_sent}
+use Rattle.member.specs.SingleBeat.{single_beaten, single_deadline_over, single_answered}
+use Rattle.member.specs.LateAcks.{ping_answered, help_asked_for, single_ack_taken, single_ack_heard, help_over}
+use Rattle.member.specs.Step.{single_handled, period_beaten, is_under_way, deadline_over, timed_ack_heard, sampled_help, timed_out_timed, answer_heard, is_told_out, gossip_spread, gossip_due, pushed, push_due, push_heard, timed_handled, handled_by, crashed, join_asked, join_handled, joined, period_begun, timed_out, help_asked, ping_heard, ping_req_heard, ack_heard, nack_due, nack_heard, confirmed, suspicion_over, withdrawn, byes_said, departed, plain_handled, handled, step}
 use Rattle.member.specs.CounterOverflow.{IsOverflowed}
-use Rattle.member.proofs.CounterOverflow.{kept_event, kept_posted, kept_gossip, kept_push, kept_merged, kept_in_turn, kept_waiting, kept_settled, kept_timed_taken, kept_called, kept_gossip_set_again, kept_row, kept_timer, kept_sent, kept_ping, kept_ping_req, kept_ack, kept_join, kept_welcome, kept_bye, kept_each, kept_applied, kept_all, kept_probe_ended, kept_next, kept_owed, kept_taken, kept_first_period}
+use Rattle.member.proofs.CounterOverflow.{kept_event, kept_posted, kept_gossip, kept_push, kept_merged, kept_in_turn, kept_waiting, kept_settled, kept_timed_taken, kept_called, kept_gossip_set_again, kept_row, kept_timer, kept_sent, kept_ping, kept_ping_req, kept_ack, kept_join, kept_welcome, kept_bye, kept_each, kept_applied, kept_all, kept_probe_ended, kept_next, kept_owed, kept_taken, kept_first_period, kept_health, kept_beat_taken, kept_if_waiting, kept_plain_ping, kept_relay}
 use Rattle.member_laws.specs.Words.{WaitsAsOpened}
 
 either_overflow : (b : Bool) (o p : Effect) → IsOverflowed o.state → IsOverflowed p.state → IsOverflowed (cond b o p).state
@@ -195,8 +200,42 @@ kept_timed s k (Push entries) o overflow = kept_push_heard s k entries o overflo
 kept_timed s k (Pull entries) o overflow = kept_merged s k entries o overflow
 kept_timed s k c o overflow = kept_handled s k c Running o (λ is. absurd (let e = is in cc)) overflow
 
+-- ---- by memberlist 0.5.0's rules
+
+kept_single_beaten : (s : Setup) (k : Key) (o : Effect) → IsOverflowed o.state → IsOverflowed (single_beaten s k o).state
+unfolding single_beaten
+kept_single_beaten s k o overflow = kept_beat_taken s k (with_event s k (next_in_step o.state.beat s.swim.period k.at) k.to PeriodTimer o) (kept_event s k _ _ _ o overflow)
+
+kept_single_deadline : (s : Setup) (k : Key) (seq : ℕ) (o : Effect) → IsOverflowed o.state → IsOverflowed (single_deadline_over s k seq o).state
+unfolding single_deadline_over
+kept_single_deadline s k seq o overflow = either_overflow (is_under_way seq o.state.probe) _ _ (kept_if_waiting s k _ (kept_settled s k o.state.probe o overflow)) overflow
+
+kept_single_answered : (s : Setup) (k : Key) (seq : ℕ) (o : Effect) → IsOverflowed o.state → IsOverflowed (single_answered s k seq o).state
+unfolding single_answered
+kept_single_answered s k seq o overflow = either_overflow (is_under_way seq o.state.probe) _ _ (kept_if_waiting s k _ (kept_health k _ _ overflow)) overflow
+
+kept_single_ack : (s : Setup) (k : Key) (initiator seq : ℕ) (o : Effect) → IsOverflowed o.state → IsOverflowed (single_ack_taken s k initiator seq o).state
+kept_single_ack s k initiator seq o overflow =
+    either_overflow (nat_eq initiator k.to) _ _ (kept_single_answered s k seq o overflow)
+    (either_overflow (set.contains o.state.relays (initiator, seq)) _ _ (kept_ack s k initiator initiator seq _ overflow) overflow)
+
+kept_help_over : (s : Setup) (k : Key) (initiator seq : ℕ) (o : Effect) → IsOverflowed o.state → IsOverflowed (help_over s k initiator seq o).state
+unfolding help_over
+kept_help_over s k initiator seq o overflow = either_overflow s.lifeguard.probe _ _ (kept_nack_due s k initiator seq o overflow) overflow
+
+kept_single : (s : Setup) (k : Key) (c : EventKind) (o : Effect) → IsOverflowed o.state → IsOverflowed (single_handled s k c o).state
+unfolding single_handled ping_answered help_asked_for single_ack_heard
+kept_single s k PeriodTimer o overflow = kept_single_beaten s k o overflow
+kept_single s k (DeadlineTimer seq) o overflow = kept_single_deadline s k seq o overflow
+kept_single s k (Ping initiator seq updates) o overflow = kept_all s Aloud k updates _ (kept_ack s k k.from initiator seq o overflow)
+kept_single s k (PingReq target seq updates) o overflow = kept_all s Aloud k updates _ (kept_relay s k seq (plain_ping_sent s k target k.from seq o) (kept_plain_ping s k target k.from seq o overflow))
+kept_single s k (Ack initiator seq updates) o overflow = kept_all s Aloud k updates _ (kept_single_ack s k initiator seq o overflow)
+kept_single s k (NackTimer initiator seq) o overflow = kept_help_over s k initiator seq o overflow
+kept_single s k c o overflow = kept_timed s k c o overflow
+
 kept_by : (s : Setup) (k : Key) (c : EventKind) (phase : Phase) (profile : Profile) (o : Effect) → (phase ≡ Waiting → ¬ (IsOverflowed o.state)) → IsOverflowed o.state → IsOverflowed (handled_by phase profile s k c o).state
 kept_by s k c Running Memberlist o waits overflow = kept_timed s k c o overflow
+kept_by s k c Running Hashicorp o waits overflow = kept_single s k c o overflow
 kept_by s k c Running Papers o waits overflow = kept_handled s k c Running o waits overflow
 kept_by s k c Waiting profile o waits overflow = kept_handled s k c Waiting o waits overflow
 kept_by s k c Joining profile o waits overflow = kept_handled s k c Joining o waits overflow

@@ -3,8 +3,8 @@ use Rattle.std.proofs.Common.{◌≡◌, List, ap, subst, sym, refl, ◌∙◌}
 use Rattle.base.specs.World.{Run, SequentialRun}
 use Rattle.base.specs.declared.key.Key.{Key}
 use Rattle.schema.specs.declared.schema.Version.{Version}
-use Rattle.schema.specs.declared.schema.Version.TheVariants.{One, Two, Three}
-use Rattle.scenario.specs.Setup.{Setup, IsSound}
+use Rattle.schema.specs.declared.schema.Version.TheVariants.{One, Two, Three, Four}
+use Rattle.scenario.specs.Setup.{Setup, IsBeforeThird, IsSound}
 use Rattle.trace.specs.declared.row.Row.{Row}
 use Rattle.trace.specs.Text.{line_of, trace_text}
 use Rattle.member.specs.Opening.{opening}
@@ -64,15 +64,11 @@ pub same_trace : (s : Setup) (rows : List Row) → trace_text (in_version_2 s) r
 unfolding line_of
 same_trace s rows = refl
 
-abbrev IsOne : Version → Type 0
-IsOne One = Unit {0}
-IsOne Two = ⊥
-IsOne Three = ⊥
-
 abbrev IsTwo : Version → Type 0
 IsTwo One = ⊥
 IsTwo Two = Unit {0}
 IsTwo Three = ⊥
+IsTwo Four = ⊥
 
 pub stays_sound : (s : Setup) → IsSound s → s.version ≡ One → IsSound (in_version_2 s)
 stays_sound s sound first = record {
@@ -106,5 +102,5 @@ stays_sound s sound first = record {
   connect = sound.connect;
   again = sound.again;
   pauses = sound.pauses;
-  before_third = λ _. let without = sound.before_third (λ is. subst IsOne (sym first ∙ is) tt) in record { fallback = without.fallback; gossip = without.gossip; pauses = without.pauses };
+  before_third = λ _. let without = sound.before_third (subst IsBeforeThird (sym first) tt) in record { fallback = without.fallback; gossip = without.gossip; pauses = without.pauses };
 }

@@ -3,7 +3,7 @@ use Rattle.std.specs.Prelude.{ℕ, ◌+◌, ◌-◌, ◌*◌, Bool, true, false,
 use Rattle.std.specs.List.{list_all, list_any, range_with_len}
 use Rattle.std.specs.Option.{is_some, option_map_or}
 use Rattle.base.specs.declared.profile.Profile.{Profile}
-use Rattle.base.specs.declared.profile.Profile.TheVariants.{Papers, Memberlist}
+use Rattle.base.specs.declared.profile.Profile.TheVariants.{Papers, Memberlist, Hashicorp}
 use Rattle.scenario.specs.Setup.{Setup, member_count, start_of, crash_of, leave_of}
 use Rattle.scenario.specs.Profile.{profile_of}
 use Rattle.scenario.specs.declared.settings.Link.{Link}
@@ -88,6 +88,7 @@ is_unconfirmed s at = are_several s && nat_le at s.end && nat_lt s.end (at + lea
 abbrev pub goes_by_memberlist : Profile → Bool
 goes_by_memberlist Papers = false
 goes_by_memberlist Memberlist = true
+goes_by_memberlist Hashicorp = true
 
 -- by memberlist's rules, and yet nobody gossips
 abbrev pub is_without_gossip : Setup → Bool

@@ -37,7 +37,7 @@ fn goes_by_memberlist(scenario: &Scenario) -> bool
 {
     match scenario.profile() {
         Profile::Papers => false,
-        Profile::Memberlist => true,
+        Profile::Memberlist | Profile::Hashicorp => true,
     }
 }
 

@@ -1,4 +1,4 @@
-use Rattle.member_laws.proofs.Deadlines.{spared, ended_step, idle_step}
+use Rattle.member_laws.proofs.Deadlines.{spared, ended_step, spared_in_step, ended_by_single, idle_step}
 use Rattle.member_laws.proofs.laws.a_beat_ends_a_probe_at_its_deadline.Goals as goal
 
 pub returns-clause-spared : goal.returns-clause-spared
@@ -9,3 +9,9 @@ returns-clause-ended c = ended_step
 
 pub returns-clause-idle : goal.returns-clause-idle
 returns-clause-idle c = idle_step
+
+pub returns-clause-in_step : goal.returns-clause-in_step
+returns-clause-in_step c = spared_in_step
+
+pub returns-clause-once : goal.returns-clause-once
+returns-clause-once c = ended_by_single

@@ -5,13 +5,14 @@ use Rattle.incarnation.specs.declared.Claim.TheVariants.{Alive}
 use Rattle.membership.specs.Columns.{entries_from}
 use Rattle.membership.specs.Table.{known_of}
 use Rattle.membership.proofs.Alive.{alive_next}
-use Rattle.membership.proofs.Columns.{nobody_held, nobody_weighs, table_set}
+use Rattle.membership.proofs.Columns.{nobody_held, nobody_weighs, nobody_known, table_set}
 use Rattle.membership.proofs.table.hold_alive.Goals as goal
 
 pub loop-member-init : goal.loop-member-init
 loop-member-init c =
     let none = nobody_weighs c.args.claims.now.items c.requires.nobody in
-    record { held = nobody_held c.args.claims.now.items c.requires.nobody; long = refl; counted = omega (arith, none) }
+    let unknown = nobody_known c.args.claims.now.items c.requires.nobody in
+    record { held = nobody_held c.args.claims.now.items c.requires.nobody; long = refl; counted = omega (arith, none); all = omega (arith, unknown) }
 
 pub loop-member-preserved : goal.loop-member-preserved
 loop-member-preserved c =
@@ -20,9 +21,10 @@ loop-member-preserved c =
     let within : c.index.result < length c.loop-member.claims.items = omega (arith, below, here, c.index.ensures, c.loop-member.invariant.long) in
     record {
       held = alive_next c.args.members.now c.loop-member.member-index c.member-item.result _ _ c.loop-member-test.true c.member-item.is c.loop-member.invariant.held
-          (ap (λ l. known_of (entries_from 0 l [])) c.put_claim-live.ensures.put
+          (ap (λ l. known_of (entries_from 0 l [])) c.put_claim-counts.ensures.put
           ∙ table_set c.loop-member.claims.items [] c.index.result [] Alive 0 within refl (λ k other. refl)
           ∙ ap (λ n. insert (known_of (entries_from 0 c.loop-member.claims.items [])) n (Alive, 0)) c.index.ensures);
-      long = ap length c.put_claim-live.ensures.put ∙ length-set c.loop-member.claims.items c.index.result _ ∙ c.loop-member.invariant.long;
-      counted = c.put_claim-live.ensures.counted;
+      long = ap length c.put_claim-counts.ensures.put ∙ length-set c.loop-member.claims.items c.index.result _ ∙ c.loop-member.invariant.long;
+      counted = c.put_claim-counts.ensures.counted;
+      all = c.put_claim-counts.ensures.all;
     }

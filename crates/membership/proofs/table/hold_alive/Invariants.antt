@@ -1,5 +1,5 @@
 use Rattle.std.proofs.Common.{◌≡◌, ◌+◌, [], length, take, sum_by}
-use Rattle.membership.specs.Columns.{entries_from, claim_weight}
+use Rattle.membership.specs.Columns.{entries_from, claim_weight, known_weight}
 use Rattle.membership.specs.Table.{known_of, all_alive}
 use Rattle.membership.proofs.table.hold_alive.Given as goal
 
@@ -7,5 +7,6 @@ abbrev pub invariant-loop-member : goal.invariant-loop-member
 invariant-loop-member l = record {
   held : known_of (entries_from 0 l.claims.items []) ≡ all_alive (take l.member-index l.members);
   long : length l.claims.items ≡ length l.fn.claims.items;
-  counted : l.live ≡ sum_by claim_weight l.claims.items + 1;
+  counted : l.counts.live ≡ sum_by claim_weight l.claims.items + 1;
+  all : l.counts.known ≡ sum_by known_weight l.claims.items + 1;
 }

@@ -13,3 +13,7 @@ returns-in-Two c = search rules
 pub returns-in-Three : goal.returns-in-Three
 unfolding key_rules_of
 returns-in-Three c = search rules
+
+pub returns-in-Four : goal.returns-in-Four
+unfolding key_rules_of
+returns-in-Four c = search rules

@@ -15,4 +15,4 @@ returns-in_err-hear_claim c =
     let effects = c.args.effects.now in
     refused _ _ c.from_residual-in_err-hear_claim.ensures.1 (λ h. kept_passed_on s k c.args.telling u _
     (subst (λ (t : State). IsOverflowed (claim_heard s c.args.telling k u u.claim (record { state = t; events = map pair_of effects.events.items; rows = effects.rows.items })).state)
-    c.in_ok-keep_claim.ensures.made.ok (c.in_err-hear_claim.ensures.overflow h)))
+    c.in_ok-keep_claim_by.ensures.made.ok (c.in_err-hear_claim.ensures.overflow h)))

@@ -4,4 +4,4 @@ use Rattle.membership.proofs.Columns.{live_is}
 use Rattle.membership.proofs.table.Table.live_count.Goals as goal
 
 pub returns : goal.returns
-returns c = live_is c.self.inside.claims.items c.self.inside.incs.items c.self.inside.live c.self.invariant.counted ∙ ap live_count c.self.view_is
+returns c = live_is c.self.inside.claims.items c.self.inside.incs.items c.self.inside.counts.live c.self.invariant.counted ∙ ap live_count c.self.view_is

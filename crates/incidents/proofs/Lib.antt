@@ -1,0 +1,13 @@
+mod Turning
+mod Pushes
+mod Members
+mod Columns
+mod Keeping
+mod Counting
+mod Sums
+mod Holding
+mod Wholes
+mod Clusters
+mod Deciding
+mod Living
+mod Listing
