@@ -99,7 +99,7 @@ fn with_settings<'a>(
         alloc,
         limited,
         "set",
-        "KEY=V1,V2,..",
+        "KEY=VALUE,VALUE,..",
         "A key of the scenario, as swim.period or group.NAME.count, and its values: each choice of values, one for each key, is a setting; for any number of keys; A+B=1+2,3+4 sets keys that go together",
     )
 }

@@ -150,9 +150,9 @@ fn advice_of(fault: WordFault) -> &'static str
         WordFault::Seeds => "write A..B, two whole numbers with two dots between them",
         WordFault::SeedsOrder => "the first seed is greater than the last",
         WordFault::SeedsMany => "a sweep has at most 1000000 runs",
-        WordFault::Swept => "write KEY=V1,V2,.., as swim.period=200,300",
+        WordFault::Swept => "write KEY=VALUE,VALUE,.., as swim.period=200,300",
         WordFault::Joined =>
-            "keys joined by + take values joined by +; write KEY1+KEY2=V1+W1,V2+W2,.., as 3+1,4+2",
+            "keys joined by + take values joined by +; write KEY1+KEY2=VALUE1+VALUE2,.., as 3+1,4+2",
         WordFault::KeyTwice => "the key is set twice; write all its values behind one --set",
         WordFault::Want =>
             "write 'STATISTIC<=N', as 'out<=0.01', with at most six digits behind the point",
