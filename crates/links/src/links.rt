@@ -11,9 +11,9 @@ ghost use Rattle.links.specs.Table.{link_at, extra_at, is_cut_at};
 ghost use Rattle.links.specs.Least.{IsDelayOfAPair, IsNoGreater};
 
 use crate::least::least_delay;
-use crate::outages::outages_of;
+use crate::outages::{calendar_of_cuts, outages_of};
 use crate::routes::routes_of;
-use crate::spans::spans_of;
+use crate::spans::{calendar_of_slows, spans_of};
 use crate::table::Links;
 use base::{MemberId, Memory, Moment};
 use scenario::{Link, Scenario, Spells};
@@ -26,12 +26,15 @@ impl Links {
         ensures { IfOk result (λ links. AreLinksOf links scenario.now) }
     {
         let stream = scenario.stream();
+        let end = scenario.end();
         Ok(Links {
             groups: groups_of(alloc, scenario)?,
             link: scenario.link(),
             routes: routes_of(alloc, scenario.paths())?,
             spans: spans_of(alloc, scenario.slows())?,
             outages: outages_of(alloc, scenario.cuts())?,
+            slow_calendar: calendar_of_slows(alloc, end, scenario.slows())?,
+            cut_calendar: calendar_of_cuts(alloc, end, scenario.cuts())?,
             connect: stream.connect,
             again: stream.again,
         })
@@ -103,7 +106,7 @@ impl Links {
     pub(crate) fn is_cut(&self, from: usize, to: usize, at: u64) -> bool
         ensures { result ≡ is_cut_at self.now from to at }
     {
-        if self.outages.is_empty() {
+        if !self.cut_calendar.may_be_in(0, at) {
             return false;
         }
         match self.outages(from, to) {
@@ -126,6 +129,9 @@ impl Links {
         ensures value { result ≡ extra_at self.now member at }
         ensures extra_fits { result ≤ 2 ^ 24 }
     {
+        if !self.slow_calendar.may_be_in(member.index(), at) {
+            return 0;
+        }
         match self.spans.get(member.index()) {
             Some(times) => times.extra(at),
             None => 0,

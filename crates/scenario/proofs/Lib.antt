@@ -5,3 +5,4 @@ pub mod Pauses
 pub mod Turns
 pub mod Apart
 pub mod Napping
+pub mod Noting

@@ -6,3 +6,5 @@ pub mod Division
 pub mod Spells
 pub mod SpellsOf
 pub mod Naps
+pub mod Calendar
+pub mod CalendarOf

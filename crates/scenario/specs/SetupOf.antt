@@ -3,7 +3,7 @@ use Rattle.std.specs.Prelude.{◌≡◌, ℕ, map, string_bytes}
 use Rattle.std.specs.List.{range_with_len}
 use Rattle.scenario.specs.Setup.{Setup, Group, group_at, member_count, member_names, is_paused, IsSound}
 use Rattle.scenario.specs.Spells.{is_in_any}
-use Rattle.scenario.specs.Naps.{naps_at}
+use Rattle.scenario.specs.Naps.{naps_at, AreNoted}
 use Rattle.scenario.specs.declared.settings.Group.{Group as Stored}
 use Rattle.scenario.specs.declared.scenario.Contents.{Contents}
 use Rattle.scenario.specs.declared.scenario.Scenario.TheInside.{Inside}
@@ -19,9 +19,10 @@ setup_in s = record { version = s.version; seed = s.seed; end = s.end; swim = s.
 abbrev pub setup_of : Inside → Setup
 setup_of s = setup_in s.contents
 
--- the names are those of all members, at their numbers, the numbers are in their ranges, and the tables give each member's group and when it is paused
+-- the names are those of all members, at their numbers, the numbers are in their ranges, the tables give each member's group and when it is paused, and the calendar tells of each pause
 pub record IsScenario (s : Inside) : Type 0 where
   pub names : map string_bytes s.contents.names.items ≡ member_names (setup_of s)
   pub sound : IsSound (setup_of s)
   pub numbers : s.numbers.items ≡ map (group_at (setup_of s).groups) (range_with_len 0 (member_count (setup_of s)))
   pub naps : (m t : ℕ) → is_in_any (naps_at s.naps.items m) t ≡ is_paused (setup_of s) m t
+  pub calendar : AreNoted s.calendar s.naps.items

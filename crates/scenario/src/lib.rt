@@ -1,6 +1,7 @@
 //! A scenario as values, and the division of its members into parts.
 #![tactic(auto)]
 
+mod calendar;
 mod division;
 pub mod laws;
 mod naps;
@@ -9,6 +10,7 @@ mod scenario;
 mod settings;
 mod spells;
 
+pub use calendar::Calendar;
 pub use division::{Division, DivisionFault, Workers};
 pub use scenario::{Contents, Scenario};
 pub use schema::Version;

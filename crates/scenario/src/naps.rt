@@ -1,15 +1,17 @@
 //! When members are paused, member by member.
-ghost use Rattle.std.specs.Prelude.{◌≡◌, ℕ, ◌<◌, ◌≤◌, ◌≢◌, ◌&&◌, ◌||◌, length, nat_eq, nat_le, nat_lt, slice_index_or, vec_len, IfOk, OnOk};
+ghost use Rattle.std.specs.Prelude.{◌≡◌, ℕ, ◌<◌, ◌≤◌, ◌≢◌, ◌&&◌, ◌||◌, true, length, nat_eq, nat_le, nat_lt, slice_index_or, vec_len, IfOk, OnOk};
 ghost use Rattle.std.specs.List.{list_any};
 ghost use Rattle.std.specs.List.Sorted.{IsPermutation};
 ghost use Rattle.scenario.specs.Setup.{is_in_pause};
 ghost use Rattle.scenario.specs.Spells.{is_in_any, HaveBegun};
 ghost use Rattle.scenario.specs.Naps.{naps_at};
+ghost use Rattle.scenario.specs.Calendar.{may_be_in};
 ghost use Rattle.scenario.specs.declared.settings.Pause.{Pause as APause};
 
+use crate::calendar::Calendar;
 use crate::settings::Pause;
 use crate::spells::Spells;
-use base::Memory;
+use base::{Memory, Moment};
 use std::alloc::Global;
 
 /// The times in which each member is paused, by its number. Members past the last one that is paused have none.
@@ -73,4 +75,19 @@ fn make_room(alloc: Global, naps: &mut Vec<Spells>, member: usize) -> Result<(),
         naps.push(Spells::new(alloc))?;
     }
     Ok(())
+}
+
+/// The pauses in a calendar, by their members' numbers. The run goes on up to `end`.
+pub(crate) fn calendar_of(alloc: Global, end: Moment, pauses: &[Pause]) -> Result<Calendar, Memory>
+    ensures { IfOk result (λ calendar. (m t : ℕ) → list_any (is_in_pause m t) pauses.now ≡ true → may_be_in calendar m t ≡ true) }
+{
+    let mut calendar = Calendar::new(alloc, end, pauses.len())?;
+    for pause in pauses {
+        calendar.note(
+            pause.member.index(),
+            pause.from.ticks(),
+            pause.until.ticks(),
+        );
+    }
+    Ok(calendar)
 }

@@ -5,10 +5,11 @@ ghost use Rattle.std.specs.List.{list_any, range_with_len};
 ghost use Rattle.std.specs.Option.{option_map_or};
 ghost use Rattle.scenario.specs.SetupOf.{group_of, setup_in};
 ghost use Rattle.scenario.specs.Spells.{is_in_any, IsEndFrom};
-ghost use Rattle.scenario.specs.Naps.{naps_at};
+ghost use Rattle.scenario.specs.Naps.{naps_at, AreNoted};
 ghost use Rattle.scenario.specs.Setup.{member_count, member_names, name_of, group_at, leads, last_link, link_between, start_of, contact_of, crash_of, leave_of, is_slow, extra_of, cuts_off, is_cut, awake, IsSound, IsSoundLink};
 
-use crate::naps::naps_of;
+use crate::calendar::Calendar;
+use crate::naps::{calendar_of, naps_of};
 use crate::settings::{
     Crash, Cut, Gossip, Group, Leave, Lifeguard, Link, Path, Pause, Slow, StreamTimes, Suspicion,
     Swim,
@@ -57,6 +58,8 @@ pub struct Scenario {
     numbers: Vec<usize>,
     /// When each member is paused. Members past the last one that is have no place.
     naps: Vec<Spells>,
+    /// At which moments a member may be paused.
+    calendar: Calendar,
 }
 
 impl Model for Scenario {
@@ -82,10 +85,12 @@ impl Scenario {
         let members = contents.names.len();
         let numbers = numbers_of(alloc, contents.groups.as_slice(), members)?;
         let naps = naps_of(alloc, contents.pauses.as_slice())?;
+        let calendar = calendar_of(alloc, contents.end, contents.pauses.as_slice())?;
         Ok(Scenario {
             contents,
             numbers,
             naps,
+            calendar,
         })
     }
 
@@ -324,7 +329,12 @@ impl Scenario {
         ensures put_off { moment < result → result ≤ 2 ^ 40 }
         ensures sound { IsSound self.now }
     {
-        Moment(awake_at(self.naps.as_slice(), member.index(), moment.ticks()))
+        Moment(awake_at(
+            &self.calendar,
+            self.naps.as_slice(),
+            member.index(),
+            moment.ticks(),
+        ))
     }
 
     /// The link of every pair of members whose groups no path names.
@@ -440,22 +450,27 @@ fn cuts_off(cut: &Cut, from: usize, to: usize, at: u64) -> bool
 }
 
 /// The first moment, from the given one on, at which the member isn't paused.
-fn awake_at(naps: &[Spells], member: usize, moment: u64) -> u64
+fn awake_at(calendar: &Calendar, naps: &[Spells], member: usize, moment: u64) -> u64
+    requires { AreNoted calendar.now naps.now }
     ensures later { moment ≤ result }
     ensures before { (t : ℕ) → moment ≤ t → t < result → is_in_any (naps_at naps.now member) t ≡ true }
     ensures there { is_in_any (naps_at naps.now member) result ≡ false }
 {
-    match end_of_nap(naps, member, moment) {
+    match end_of_nap(calendar, naps, member, moment) {
         Some(end) => end,
         None => moment,
     }
 }
 
 /// The end of the time at the moment in which the member is paused.
-fn end_of_nap(naps: &[Spells], member: usize, moment: u64) -> Option<u64>
+fn end_of_nap(calendar: &Calendar, naps: &[Spells], member: usize, moment: u64) -> Option<u64>
+    requires { AreNoted calendar.now naps.now }
     ensures end { IfSome result (IsEndFrom (naps_at naps.now member) moment) }
     ensures none { IfNone result (is_in_any (naps_at naps.now member) moment ≡ false) }
 {
+    if !calendar.may_be_in(member, moment) {
+        return None;
+    }
     let naps = naps.get(member)?;
     naps.end_from(moment)
 }

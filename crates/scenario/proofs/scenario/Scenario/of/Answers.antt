@@ -18,4 +18,7 @@ invariant_of-result c =
           c.in_ok-numbers.ensures ∙ ap (λ (gs : List Stored). map (group_at (map group_of gs)) (range_with_len 0 c.len-members.result)) c.as_slice.ensures.value
           ∙ ap (λ n. map (group_at s.groups) (range_with_len 0 n)) counted;
       naps = λ m t. c.in_ok-naps.ensures m t ∙ ap (list_any (is_in_pause m t)) c.as_slice-2.ensures.value;
+      calendar = λ m t is. c.in_ok-calendar.ensures m t (
+          ap (list_any (is_in_pause m t)) (c.as_slice-3.ensures.value ∙ sym c.as_slice-2.ensures.value) ∙ sym (c.in_ok-naps.ensures m t) ∙ is
+          );
     }
