@@ -1,5 +1,5 @@
 -- The number of a member's group, found group by group, and the last path of two groups, path by path.
-use Rattle.std.proofs.Common.{◌≡◌, zero-add, sym, arith, ℕ, ◌+◌, ◌-◌, ◌<◌, List, [], ◌∷◌, ◌++◌, cond, length, take, refl, Bool, true, false, map, drop, get_or, nat_lt, if◌then◌else◌, ap, ◌∙◌}
+use Rattle.std.proofs.Common.{◌≡◌, zero-add, sym, ℕ, ◌+◌, ◌-◌, ◌<◌, List, [], ◌∷◌, ◌++◌, cond, length, take, refl, Bool, true, false, map, drop, get_or, nat_lt, if◌then◌else◌, ap, ◌∙◌}
 use Rattle.std.specs.List.{filter, range_with_len}
 use Rattle.std.proofs.lemmas.List.{drop_more, take_more, map-append}
 use Rattle.std.proofs.lemmas.List.Elements.{filter-append}

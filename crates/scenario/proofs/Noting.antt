@@ -1,10 +1,10 @@
 -- Calendars: stretch by stretch and time by time.
-use Rattle.std.proofs.Common.{◌≡◌, ◌≢◌, ◌<◌, ◌≤◌, ◌+◌, ◌-◌, ◌*◌, ◌/◌, ◌%◌, ◌^◌, ◌⊎◌, inl, inr, ℕ, List, Bool, true, false, ◌&&◌, ◌||◌, nat_lt, nat_le, nat_eq, length, get_or, set, take, Option, Some, None, refl, ap, sym, ◌∙◌, subst, arith}
-use Rattle.std.specs.List.{list_any, slice_get}
+use Rattle.std.proofs.Common.{◌≡◌, ◌<◌, ◌≤◌, ◌+◌, ◌-◌, ◌/◌, ◌%◌, ◌^◌, inl, inr, ℕ, List, Bool, true, false, ◌&&◌, ◌||◌, nat_lt, nat_le, nat_eq, length, get_or, set, take, min, refl, ap, sym, ◌∙◌, subst, arith}
+use Rattle.std.specs.List.{list_any}
 use Rattle.std.specs.Option.{option_map_or}
 use Rattle.std.specs.Prelude.{bit_and, bit_or}
 use Rattle.std.proofs.Math.Nat.{div-mul-le_self}
-use Rattle.std.proofs.lemmas.Bool.{cases_lt, cases_eq, eq-eqb, ne_eqb, eqb-true, and_parts, leb-true, ltb-true, false≢true}
+use Rattle.std.proofs.lemmas.Bool.{cases_lt, cases_eq, eq-eqb, ne_eqb, eqb-true, and_parts, leb-true, ltb-true}
 use Rattle.std.proofs.lemmas.Nat.{pow_pos, le-div, and_le_l, and_or_self, and_or_apart, pow_apart}
 use Rattle.std.proofs.lemmas.Option.{slice_get-get_or, slice_get_past}
 use Rattle.std.proofs.lemmas.List.{get_or-set_same, get_or-set_other, get_or_default, length-set}
@@ -67,31 +67,72 @@ module _ (start old : List ℕ) (first k owner x bit : ℕ) (within : k < length
 
 -- ---- moments
 
+abbrev tells : ℕ → ℕ → ℕ → Bool
+tells unknown o owners = nat_eq (bit_and owners (bit_of o)) (bit_of o) || nat_eq (bit_and unknown (bit_of o)) (bit_of o)
+
 pub past : (c : Stretches) (o t : ℕ) → length c.owners ≤ t / 2 ^ c.shift → may_be_in c o t ≡ true
 unfolding may_be_in
-past c o t over = ap (λ x. option_map_or (λ owners. nat_eq (bit_and owners (bit_of o)) (bit_of o)) x true) (slice_get_past c.owners (t / 2 ^ c.shift) over)
+past c o t over = ap (λ x. option_map_or (tells c.unknown o) x true) (slice_get_past c.owners (t / 2 ^ c.shift) over)
 
-pub in_stretch : (c : Stretches) (o t : ℕ) → t / 2 ^ c.shift < length c.owners → may_be_in c o t ≡ nat_eq (bit_and (get_or c.owners (t / 2 ^ c.shift) 0) (bit_of o)) (bit_of o)
+in_stretch : (c : Stretches) (o t : ℕ) → t / 2 ^ c.shift < length c.owners → may_be_in c o t ≡ tells c.unknown o (get_or c.owners (t / 2 ^ c.shift) 0)
 unfolding may_be_in
-in_stretch c o t within = ap (λ x. option_map_or (λ owners. nat_eq (bit_and owners (bit_of o)) (bit_of o)) x true) (slice_get-get_or c.owners (t / 2 ^ c.shift) 0 within)
+in_stretch c o t within = ap (λ x. option_map_or (tells c.unknown o) x true) (slice_get-get_or c.owners (t / 2 ^ c.shift) 0 within)
 
-pub noted_in : (c : Stretches) (o t : ℕ) → t / 2 ^ c.shift < length c.owners → HasNoted c.owners (t / 2 ^ c.shift) o → may_be_in c o t ≡ true
-noted_in c o t within is = in_stretch c o t within ∙ eq-eqb _ _ is
+or_true : (b : Bool) → (b || true) ≡ true
+or_true true = refl
+or_true false = refl
 
-pub was_noted : (c : Stretches) (o t : ℕ) → t / 2 ^ c.shift < length c.owners → may_be_in c o t ≡ true → HasNoted c.owners (t / 2 ^ c.shift) o
-was_noted c o t within is = eqb-true _ _ (sym (in_stretch c o t within) ∙ is)
+either : (a b : Bool) (P : Type 0) → (a || b) ≡ true → (a ≡ true → P) → (b ≡ true → P) → P
+either true b P is one other = one refl
+either false b P is one other = other is
+
+noted_in : (c : Stretches) (o t : ℕ) → t / 2 ^ c.shift < length c.owners → HasNoted c.owners (t / 2 ^ c.shift) o → may_be_in c o t ≡ true
+noted_in c o t within is = in_stretch c o t within ∙ ap (λ b. b || nat_eq (bit_and c.unknown (bit_of o)) (bit_of o)) (eq-eqb _ _ is)
+
+-- of an owner of whom nothing is known
+unknown_in : (c : Stretches) (o t : ℕ) → bit_and c.unknown (bit_of o) ≡ bit_of o → may_be_in c o t ≡ true
+unknown_in c o t is = elim (cases_lt (t / 2 ^ c.shift) (length c.owners)) as (λ _. may_be_in c o t ≡ true) [
+  | inl a ↦
+      in_stretch c o t a ∙ ap (λ b. nat_eq (bit_and (get_or c.owners (t / 2 ^ c.shift) 0) (bit_of o)) (bit_of o) || b) (eq-eqb _ _ is)
+      ∙ or_true (nat_eq (bit_and (get_or c.owners (t / 2 ^ c.shift) 0) (bit_of o)) (bit_of o))
+  | inr b ↦ past c o t b
+]
 
 -- nobody is noted where no bit is set
 no_bits : (o : ℕ) → nat_eq (bit_and 0 (bit_of o)) (bit_of o) ≡ false
 no_bits o = ne_eqb (bit_and 0 (bit_of o)) (bit_of o) (λ same. let few = and_le_l 0 (bit_of o) in let some = pow_pos (o % 64) in omega (arith, few, some, same))
 
-pub none_noted : (c : Stretches) (o t end : ℕ) → t ≤ end → end / 2 ^ c.shift < length c.owners → ((k : ℕ) → get_or c.owners k 0 ≡ 0) → may_be_in c o t ≡ false
-none_noted c o t end early all empty =
+pub none_noted : (c : Stretches) (o t end : ℕ) → t ≤ end → end / 2 ^ c.shift < length c.owners → ((k : ℕ) → get_or c.owners k 0 ≡ 0) → c.unknown ≡ 0 → may_be_in c o t ≡ false
+none_noted c o t end early all empty known =
     in_stretch c o t (let low = in_order t end c.shift early in omega (arith, low, all))
-    ∙ ap (λ n. nat_eq (bit_and n (bit_of o)) (bit_of o)) (empty (t / 2 ^ c.shift)) ∙ no_bits o
+    ∙ ap (tells c.unknown o) (empty (t / 2 ^ c.shift))
+    ∙ ap (λ u. tells u o 0) known
+    ∙ ap (λ b. b || nat_eq (bit_and 0 (bit_of o)) (bit_of o)) (no_bits o) ∙ no_bits o
+
+-- a time that is past the last stretch
+pub past_all : (c : Stretches) (o from until first last end : ℕ) → first ≡ from / 2 ^ c.shift → last ≡ (until - 1) / 2 ^ c.shift → end ≡ min (length c.owners) (last + 1) → end ≤ first
+    → (t : ℕ) → from ≤ t → t < until → may_be_in c o t ≡ true
+past_all c o from until first last end begins ends all late t low high =
+    past c o t (let e = in_order from t c.shift low in let f = in_order t (until - 1) c.shift (omega (arith, high)) in omega (arith, e, f, begins, ends, all, late))
+
+-- nothing is known of one owner more
+module _ (old : Stretches) (owner bit : ℕ) (of : bit ≡ bit_of owner) where
+  abbrev less : Stretches
+  less = record { shift = old.shift; owners = old.owners; unknown = bit_or old.unknown bit }
+
+  pub now_unknown : (t : ℕ) → may_be_in less owner t ≡ true
+  now_unknown t = unknown_in less owner t (ap (λ b. bit_and (bit_or old.unknown b) (bit_of owner)) of ∙ and_or_self (bit_of owner) old.unknown)
+
+  pub others_kept : (o t : ℕ) → may_be_in old o t ≡ true → may_be_in less o t ≡ true
+  others_kept o t is = elim (cases_lt (t / 2 ^ old.shift) (length old.owners)) as (λ _. may_be_in less o t ≡ true) [
+    | inl a ↦ either _ _ (may_be_in less o t ≡ true) (sym (in_stretch old o t a) ∙ is)
+        (λ noted. noted_in less o t a (eqb-true _ _ noted))
+        (λ unknown. unknown_in less o t (ap (λ b. bit_and (bit_or old.unknown b) (bit_of o)) of ∙ bit_kept old.unknown (owner % 64) (o % 64) (eqb-true _ _ unknown)))
+    | inr b ↦ past less o t b
+  ]
 
 -- a time is noted in its stretches
-module _ (old new : Stretches) (owner from until first last : ℕ) (shift : new.shift ≡ old.shift) (same : length new.owners ≡ length old.owners)
+module _ (old new : Stretches) (owner from until first last : ℕ) (shift : new.shift ≡ old.shift) (unknown : new.unknown ≡ old.unknown) (same : length new.owners ≡ length old.owners)
     (begins : first ≡ from / 2 ^ old.shift) (ends : last ≡ (until - 1) / 2 ^ old.shift)
     (noted : (k : ℕ) → first ≤ k → k < last + 1 → k < length old.owners → HasNoted new.owners k owner)
     (kept : (k o : ℕ) → HasNoted old.owners k o → HasNoted new.owners k o) where
@@ -112,15 +153,14 @@ module _ (old new : Stretches) (owner from until first last : ℕ) (shift : new.
 
   pub times_kept : (o t : ℕ) → may_be_in old o t ≡ true → may_be_in new o t ≡ true
   times_kept o t is = elim (cases_lt (at t) (length new.owners)) as (λ _. may_be_in new o t ≡ true) [
-    | inl a ↦ noted_in new o t a (subst (λ k. HasNoted new.owners k o) (sym (place t)) (kept (t / 2 ^ old.shift) o (was_noted old o t (let e = place t in omega (arith, a, same, e)) is)))
+    | inl a ↦ (let there : t / 2 ^ old.shift < length old.owners = (let e = place t in omega (arith, a, same, e)) in
+        either _ _ (may_be_in new o t ≡ true) (sym (in_stretch old o t there) ∙ is)
+        (λ noted. noted_in new o t a (subst (λ k. HasNoted new.owners k o) (sym (place t)) (kept (t / 2 ^ old.shift) o (eqb-true _ _ noted))))
+        (λ isnt. unknown_in new o t (ap (λ u. bit_and u (bit_of o)) unknown ∙ eqb-true _ _ isnt)))
     | inr b ↦ past new o t b
   ]
 
 -- ---- entries
-
-either : (a b : Bool) (P : Type 0) → (a || b) ≡ true → (a ≡ true → P) → (b ≡ true → P) → P
-either true b P is one other = one refl
-either false b P is one other = other is
 
 -- an entry more
 pub entry_more : {E : Type 0} (p : E → Bool) (es : List E) (i : ℕ) (e : E) (old new : Stretches) (o t : ℕ) → i < length es → e ≡ get_or es i e

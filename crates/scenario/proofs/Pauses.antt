@@ -1,8 +1,8 @@
 -- When a member is awake: at the first moment, from one on, that lies in no pause of it.
-use Rattle.std.proofs.Common.{◌≡◌, ◌≢◌, ◌<◌, ◌≤◌, ◌+◌, ◌-◌, ◌^◌, ℕ, zero, suc, List, [], ◌∷◌, Bool, true, false, not, ◌&&◌, ◌||◌, cond, nat_lt, nat_le, nat_eq, Option, Some, None, refl, ap, sym, ◌∙◌, subst, arith}
-use Rattle.std.specs.List.{find, list_any, range_with_len, sum_by, AllByRecursion}
+use Rattle.std.proofs.Common.{◌≡◌, ◌<◌, ◌≤◌, ◌+◌, ◌-◌, ◌^◌, ℕ, zero, suc, List, [], ◌∷◌, Bool, true, false, not, ◌&&◌, ◌||◌, cond, nat_lt, nat_le, nat_eq, Some, refl, ap, sym, ◌∙◌, subst, arith}
+use Rattle.std.specs.List.{find, list_any, range_with_len, AllByRecursion}
 use Rattle.std.specs.Option.{unwrap_or}
-use Rattle.std.proofs.lemmas.Bool.{false≢true, not-true, not_from_true, not_from_false, and_parts, and_from, or_left, or_right, leb-true, ltb-true, ltb-false, le-leb, lt-ltb}
+use Rattle.std.proofs.lemmas.Bool.{false≢true, not-true, not_from_true, not_from_false, and_parts, leb-true, ltb-true, ltb-false}
 use Rattle.std.proofs.lemmas.List.Sums.{sum_by-cons}
 use Rattle.scenario.specs.Setup.{Setup, is_in_pause, is_paused, ends_of, awake, IsBeforeThird, IsSound}
 use Rattle.scenario.specs.declared.settings.Pause.{Pause}

@@ -1,8 +1,7 @@
 -- Numbers in turn below a limit.
-use Rattle.std.proofs.Common.{◌≡◌, ◌%◌, ◌<◌, ◌≤◌, ℕ, false, List, [], ◌∷◌, map, length, nat_le, refl, ap, ◌∙◌, subst, sym, arith}
+use Rattle.std.proofs.Common.{◌≡◌, ◌%◌, ◌<◌, ◌≤◌, ℕ, false, List, [], ◌∷◌, map, nat_le, refl, arith}
 use Rattle.std.specs.List.{range_with_len}
 use Rattle.std.proofs.lemmas.Bool.Decides.{nat_tests}
-use Rattle.std.proofs.lemmas.List.FromFn.{length-map-range_with_len}
 use Rattle.scenario.specs.Division.{has_part_past}
 
 remainders : (limit : ℕ) (xs : List ℕ) → 1 ≤ limit → has_part_past limit (map (λ n. n % limit) xs) ≡ false

@@ -1,5 +1,5 @@
 //! A coarse calendar of many owners' times, from which most look-ups see without a search that there is none.
-ghost use Rattle.std.specs.Prelude.{◌≡◌, ℕ, ◌<◌, ◌≤◌, true, false, length, get_or, IfOk};
+ghost use Rattle.std.specs.Prelude.{◌≡◌, ℕ, ◌<◌, ◌≤◌, ◌||◌, true, false, length, get_or, IfOk};
 ghost use Rattle.scenario.specs.Calendar.{may_be_in, is_noted, bit_of, HasNoted};
 
 use base::{Memory, Moment};
@@ -12,6 +12,9 @@ const MOST_STRETCHES: u64 = 65536;
 /// How many stretches there are for each time.
 const STRETCHES_A_TIME: u64 = 64;
 
+/// In how many stretches owners are noted at most, all times together.
+const MOST_NOTES: usize = 4194304;
+
 /// Which owners may have a time at a moment, where owners are members or pairs of groups by a number.
 /// It never denies a time that was noted, but may report one where there is none.
 #[derive(Drop)]
@@ -21,6 +24,10 @@ pub struct Calendar {
     /// For each stretch from moment 0 on, the owners with a time in it, as bits: 64 numbers apart, owners share a bit.
     /// Of what is past the last stretch nothing is known.
     owners: Vec<u64>,
+    /// The bits of owners of whom nothing is known in any stretch.
+    unknown: u64,
+    /// In how many stretches an owner may still be noted. So noting takes a bounded time, however long the times are.
+    left: usize,
 }
 
 impl Model for Calendar {
@@ -44,7 +51,12 @@ impl Calendar {
         let shift = shift_for(end, times as u64);
         let last = (end >> shift) as usize;
         let owners = no_owners(alloc, last)?;
-        Ok(Calendar { shift, owners })
+        Ok(Calendar {
+            shift,
+            owners,
+            unknown: 0,
+            left: MOST_NOTES,
+        })
     }
 
     /// Notes a time of an owner's.
@@ -57,6 +69,15 @@ impl Calendar {
         }
         let first = (from >> self.shift) as usize;
         let last = ((until - 1) >> self.shift) as usize;
+        let end = self.owners.len().min(last + 1);
+        if end <= first {
+            return;
+        }
+        if self.left < end - first {
+            self.unknown = self.unknown | bit_of(owner);
+            return;
+        }
+        self.left -= end - first;
         note_in(&mut self.owners, first, last + 1, owner);
     }
 
@@ -66,7 +87,7 @@ impl Calendar {
         ensures { result ≡ may_be_in self.now owner at }
     {
         match self.owners.get((at >> self.shift) as usize) {
-            Some(owners) => is_noted(*owners, bit_of(owner)),
+            Some(owners) => is_noted(*owners, self.unknown, bit_of(owner)),
             None => true,
         }
     }
@@ -79,11 +100,11 @@ fn bit_of(owner: usize) -> u64
     1 << (owner % 64)
 }
 
-/// Whether the bit is set.
-fn is_noted(owners: u64, bit: u64) -> bool
-    ensures { result ≡ is_noted owners bit }
+/// Whether the bit is set in one of the two.
+fn is_noted(owners: u64, unknown: u64, bit: u64) -> bool
+    ensures { result ≡ (is_noted owners bit || is_noted unknown bit) }
 {
-    owners & bit == bit
+    owners & bit == bit || unknown & bit == bit
 }
 
 /// The exponent of the stretches' length, such that a run of so many times has few of them.

@@ -1,4 +1,4 @@
-use Rattle.std.proofs.Common.{◌-◌, ℕ, ◌≤◌}
+use Rattle.std.proofs.Common.{◌-◌, ◌≤◌}
 use Rattle.scenario.proofs.calendar.shift_for.Given as goal
 
 abbrev pub invariant-loop-shift : goal.invariant-loop-shift

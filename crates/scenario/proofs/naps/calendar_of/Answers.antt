@@ -1,6 +1,4 @@
-use Rattle.std.proofs.Common.{◌∙◌, ap}
 use Rattle.scenario.specs.Setup.{is_in_pause}
-use Rattle.scenario.specs.declared.settings.Pause.{Pause}
 use Rattle.scenario.proofs.Noting.{entry_more, its_time}
 use Rattle.scenario.proofs.naps.calendar_of.Goals as goal
 

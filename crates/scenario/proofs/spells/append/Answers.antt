@@ -1,7 +1,6 @@
-use Rattle.std.proofs.Common.{◌≡◌, List, sym, ap, ◌∙◌, subst, ℕ}
-use Rattle.scenario.specs.Spells.{is_in_any, HaveBegun, AreApart}
-use Rattle.scenario.specs.declared.spells.Spell.{Spell}
-use Rattle.scenario.proofs.Apart.{appended_apart, appended_in, appended_begun}
+use Rattle.std.proofs.Common.{sym, subst}
+use Rattle.scenario.specs.Spells.{AreApart}
+use Rattle.scenario.proofs.Apart.{appended_apart}
 use Rattle.scenario.proofs.spells.append.Goals as goal
 
 pub returns-in-Ok-clause-apart : goal.returns-in-Ok-clause-apart

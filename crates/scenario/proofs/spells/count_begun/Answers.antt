@@ -1,4 +1,4 @@
-use Rattle.std.proofs.Common.{◌≤◌, leb, arith, rules}
+use Rattle.std.proofs.Common.{leb, arith, rules}
 use Rattle.std.proofs.lemmas.Bool.{leb-true, leb-false}
 use Rattle.std.proofs.lemmas.List.Sorted.{IsPartitionPoint-from_clause, IsPartitionedBy-leb}
 use Rattle.scenario.specs.declared.spells.Spell.{Spell}

@@ -1,9 +1,8 @@
-use Rattle.std.proofs.Common.{◌≡◌, ◌<◌, ◌≤◌, ◌^◌, Bool, true, false, nat_lt, subst, sym, ap, ◌∙◌, arith}
-use Rattle.std.proofs.lemmas.Bool.Decides.{nat_tests}
-use Rattle.scenario.specs.Setup.{Setup, awake, is_paused, IsSound}
+use Rattle.std.proofs.Common.{subst, sym, ap, ◌∙◌, arith}
+use Rattle.scenario.specs.Setup.{Setup, is_paused, IsSound}
 use Rattle.scenario.specs.Spells.{is_in_any}
 use Rattle.scenario.specs.Naps.{naps_at}
-use Rattle.scenario.proofs.Pauses.{IsAwakeAt, as_found, awake_is, awake_small, small_by}
+use Rattle.scenario.proofs.Pauses.{as_found, awake_is, awake_small, small_by}
 use Rattle.scenario.proofs.scenario.Scenario.awake.Goals as goal
 
 pub returns-clause-value : goal.returns-clause-value

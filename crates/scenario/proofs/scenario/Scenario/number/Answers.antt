@@ -1,4 +1,4 @@
-use Rattle.std.proofs.Common.{◌≡◌, vec_len, length, sym, ap, ◌∙◌, subst, arith}
+use Rattle.std.proofs.Common.{◌≡◌, vec_len, ap, ◌∙◌, arith}
 use Rattle.scenario.specs.Setup.{Setup, group_at, member_count}
 use Rattle.scenario.specs.SetupOf.{setup_of}
 use Rattle.scenario.proofs.Between.{length-numbers, number_at}

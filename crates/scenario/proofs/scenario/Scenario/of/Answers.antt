@@ -1,4 +1,4 @@
-use Rattle.std.proofs.Common.{◌≡◌, ℕ, map, length, sym, ap, ◌∙◌, List}
+use Rattle.std.proofs.Common.{◌≡◌, map, sym, ap, ◌∙◌, List}
 use Rattle.std.specs.List.{range_with_len, list_any}
 use Rattle.scenario.specs.Setup.{group_at, member_count, is_in_pause}
 use Rattle.scenario.specs.SetupOf.{group_of, setup_in}

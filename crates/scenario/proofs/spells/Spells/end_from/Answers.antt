@@ -1,4 +1,4 @@
-use Rattle.std.proofs.Common.{◌≡◌, ◌<◌, ◌≤◌, false, List, ◌-◌, get_or, sym, ap, ◌∙◌, subst, arith}
+use Rattle.std.proofs.Common.{List, ◌-◌, get_or, sym, ap, ◌∙◌, subst}
 use Rattle.scenario.specs.Spells.{is_in_any, AreApart, IsEndFrom}
 use Rattle.scenario.specs.declared.spells.Spell.{Spell}
 use Rattle.scenario.proofs.Apart.{none_begun, last_over, last_lasts, ends_there}
