@@ -1,17 +1,17 @@
 //! When a message arrives, or that it is lost: the link's delay, loss and jitter, cuts, and slow senders and
 //! receivers.
-ghost use Rattle.std.specs.Prelude.{◌≡◌, ℕ, ◌+◌, ◌^◌, ◌<◌, ◌≤◌, ◌↔◌, [], length, map, None, IfOk, IfSome, unwrap_or};
+ghost use Rattle.std.specs.Prelude.{◌≡◌, ℕ, false, ◌+◌, ◌^◌, ◌<◌, ◌≤◌, ◌↔◌, [], length, map, None, IfOk, IfSome, unwrap_or};
 ghost use Rattle.std.specs.Option.{option_copied};
 ghost use Rattle.std.specs.List.{range_with_len};
 ghost use Rattle.streams.specs.Draw.{words_of};
 ghost use Rattle.scenario.specs.Setup.{Setup, member_count, group_at, link_between, IsSoundLink};
 ghost use Rattle.links.specs.Arrival.{arrival_of, AreLinksOf};
-ghost use Rattle.links.specs.Entries.{link_of_pair, route, outages_of_pair};
+ghost use Rattle.links.specs.Entries.{link_of_pair, route, pair_of, outages_of_pair};
 ghost use Rattle.links.specs.Table.{link_at, extra_at, is_cut_at};
 ghost use Rattle.links.specs.Least.{IsDelayOfAPair, IsNoGreater};
 
 use crate::least::least_delay;
-use crate::outages::{calendar_of_cuts, outages_of};
+use crate::outages::{calendar_of_cuts, number_of_pair, outages_of};
 use crate::routes::routes_of;
 use crate::spans::{calendar_of_slows, spans_of};
 use crate::table::Links;
@@ -106,13 +106,32 @@ impl Links {
     pub(crate) fn is_cut(&self, from: usize, to: usize, at: u64) -> bool
         ensures { result ≡ is_cut_at self.now from to at }
     {
-        if !self.cut_calendar.may_be_in(0, at) {
+        if !self.may_be_cut(from, to, at) {
             return false;
         }
         match self.outages(from, to) {
             Some(outages) => outages.covers(at),
             None => false,
         }
+    }
+
+    /// Whether the calendar has a cut that may be of the link from one member to another at a moment.
+    fn may_be_cut(&self, from: usize, to: usize, at: u64) -> bool
+        ensures { result ≡ false → is_cut_at self.now from to at ≡ false }
+    {
+        match self.pair(from, to) {
+            Some(pair) => self.cut_calendar.may_be_in(pair, at),
+            None => false,
+        }
+    }
+
+    /// The number of two members' groups in the calendar of cuts.
+    fn pair(&self, from: usize, to: usize) -> Option<usize>
+        ensures { result ≡ pair_of self.now.groups.items from to }
+    {
+        let from = self.groups.get(from)?;
+        let to = self.groups.get(to)?;
+        Some(number_of_pair(*from, *to))
     }
 
     /// The times in which the link from one member's group to the other's is cut.

@@ -6,7 +6,7 @@ ghost use Rattle.scenario.specs.Setup.{cuts_off};
 ghost use Rattle.scenario.specs.Spells.{is_in_any, HaveBegun};
 ghost use Rattle.scenario.specs.Calendar.{may_be_in};
 ghost use Rattle.scenario.specs.declared.settings.Cut.{Cut as ACut};
-ghost use Rattle.links.specs.Entries.{outages_in};
+ghost use Rattle.links.specs.Entries.{outages_in, pair_number};
 
 use base::{Memory, Moment};
 use scenario::{Calendar, Cut, Spells};
@@ -76,13 +76,21 @@ fn add(
     }
 }
 
-/// The cuts in a calendar, all under number 0. The run goes on up to `end`.
+/// The cuts in a calendar, by the numbers of their pairs of groups. The run goes on up to `end`.
 pub(crate) fn calendar_of_cuts(alloc: Global, end: Moment, cuts: &[Cut]) -> Result<Calendar, Memory>
-    ensures { IfOk result (λ calendar. (from to t : ℕ) → list_any (cuts_off from to t) cuts.now ≡ true → may_be_in calendar 0 t ≡ true) }
+    ensures { IfOk result (λ calendar. (from to t : ℕ) → list_any (cuts_off from to t) cuts.now ≡ true → may_be_in calendar (pair_number from to) t ≡ true) }
 {
     let mut calendar = Calendar::new(alloc, end, cuts.len())?;
     for cut in cuts {
-        calendar.note(0, cut.at.ticks(), cut.until.ticks());
+        let pair = number_of_pair(cut.from, cut.to);
+        calendar.note(pair, cut.at.ticks(), cut.until.ticks());
     }
     Ok(calendar)
+}
+
+/// The number of a pair of groups in the calendar, which tells 64 numbers apart.
+pub(crate) fn number_of_pair(from: usize, to: usize) -> usize
+    ensures { result ≡ pair_number from to }
+{
+    from % 8 * 8 + to % 8
 }

@@ -3,7 +3,7 @@ ghost use Rattle.std.specs.Prelude.{◌≡◌, ℕ, ◌≤◌, ◌^◌, false};
 ghost use Rattle.scenario.specs.Setup.{IsSoundLink};
 ghost use Rattle.scenario.specs.Calendar.{may_be_in};
 ghost use Rattle.scenario.specs.Spells.{is_in_any};
-ghost use Rattle.links.specs.Entries.{link_of_pair, route, spans_in, extra_in, outages_in};
+ghost use Rattle.links.specs.Entries.{link_of_pair, route, spans_in, extra_in, outages_in, pair_number};
 
 use crate::routes::Routes;
 use crate::spans::SlowTimes;
@@ -26,7 +26,7 @@ pub struct Links {
     pub(crate) outages: BTreeMap<(usize, usize), Spells>,
     /// At which moments each member may be slow.
     pub(crate) slow_calendar: Calendar,
-    /// At which moments a link may be cut: the cuts of all groups are noted under number 0.
+    /// At which moments the link from one group to another may be cut, by the number of their pair.
     pub(crate) cut_calendar: Calendar,
     /// After how many ticks a call is begun again that was lost.
     pub(crate) connect: u64,
@@ -36,5 +36,5 @@ pub struct Links {
     ghost links_sound: { (i j : ℕ) → IsSoundLink (link_of_pair groups.items link (route routes) i j) },
     ghost extras_sound: { (m t : ℕ) → extra_in (spans_in spans.items m) t ≤ 2 ^ 24 },
     ghost slows_noted: { (m t : ℕ) → may_be_in slow_calendar m t ≡ false → extra_in (spans_in spans.items m) t ≡ 0 },
-    ghost cuts_noted: { (from to t : ℕ) → may_be_in cut_calendar 0 t ≡ false → is_in_any (outages_in outages.entries from to) t ≡ false },
+    ghost cuts_noted: { (from to t : ℕ) → may_be_in cut_calendar (pair_number from to) t ≡ false → is_in_any (outages_in outages.entries from to) t ≡ false },
 }
