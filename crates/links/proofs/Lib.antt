@@ -6,3 +6,4 @@ pub mod Search
 pub mod Cuts
 pub mod Tries
 pub mod SlowOnes
+pub mod Calendars

@@ -1,5 +1,5 @@
 -- What the maps of the table of links give.
-use Rattle.std.specs.Prelude.{◌≡◌, ◌≤◌, length, ℕ, Bool, ◌&&◌, nat_le, nat_lt, nat_eq, List, [], map, filter, Option, unwrap_or, slice_get, get_or, zero, suc, None, Vec}
+use Rattle.std.specs.Prelude.{◌≡◌, ◌≤◌, ◌+◌, ◌*◌, ◌%◌, length, ℕ, Bool, ◌&&◌, nat_le, nat_lt, nat_eq, List, [], map, filter, Option, unwrap_or, slice_get, get_or, zero, suc, Some, None, Vec}
 use Rattle.std.specs.Option.{option_map_or, option_and_then}
 use Rattle.std.specs.List.{find, slice_index_or}
 use Rattle.std.specs.Map.{lookup}
@@ -66,3 +66,11 @@ outages_in table from to = unwrap_or (lookup (is_at (pair_cmp (from, to))) table
 abbrev pub outages_of_pair : List ℕ → List ((ℕ × ℕ) × List Spell) → ℕ → ℕ → List Spell
 outages_of_pair groups table i j =
     unwrap_or (option_and_then (λ from. option_and_then (λ to. lookup (is_at (pair_cmp (from, to))) table) (slice_get groups j)) (slice_get groups i)) []
+
+-- the number of a pair of groups in the calendar of cuts
+abbrev pub pair_number : ℕ → ℕ → ℕ
+pair_number from to = from % 8 * 8 + to % 8
+
+-- the number of two members' groups, where they have one
+abbrev pub pair_of : List ℕ → ℕ → ℕ → Option ℕ
+pair_of groups i j = option_and_then (λ from. option_and_then (λ to. Some (pair_number from to)) (slice_get groups j)) (slice_get groups i)

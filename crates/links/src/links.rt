@@ -1,19 +1,19 @@
 //! When a message arrives, or that it is lost: the link's delay, loss and jitter, cuts, and slow senders and
 //! receivers.
-ghost use Rattle.std.specs.Prelude.{◌≡◌, ℕ, ◌+◌, ◌^◌, ◌<◌, ◌≤◌, ◌↔◌, [], length, map, None, IfOk, IfSome, unwrap_or};
+ghost use Rattle.std.specs.Prelude.{◌≡◌, ℕ, false, ◌+◌, ◌^◌, ◌<◌, ◌≤◌, ◌↔◌, [], length, map, None, IfOk, IfSome, unwrap_or};
 ghost use Rattle.std.specs.Option.{option_copied};
 ghost use Rattle.std.specs.List.{range_with_len};
 ghost use Rattle.streams.specs.Draw.{words_of};
 ghost use Rattle.scenario.specs.Setup.{Setup, member_count, group_at, link_between, IsSoundLink};
 ghost use Rattle.links.specs.Arrival.{arrival_of, AreLinksOf};
-ghost use Rattle.links.specs.Entries.{link_of_pair, route, outages_of_pair};
+ghost use Rattle.links.specs.Entries.{link_of_pair, route, pair_of, outages_of_pair};
 ghost use Rattle.links.specs.Table.{link_at, extra_at, is_cut_at};
 ghost use Rattle.links.specs.Least.{IsDelayOfAPair, IsNoGreater};
 
 use crate::least::least_delay;
-use crate::outages::outages_of;
+use crate::outages::{calendar_of_cuts, number_of_pair, outages_of};
 use crate::routes::routes_of;
-use crate::spans::spans_of;
+use crate::spans::{calendar_of_slows, spans_of};
 use crate::table::Links;
 use base::{MemberId, Memory, Moment};
 use scenario::{Link, Scenario, Spells};
@@ -26,12 +26,15 @@ impl Links {
         ensures { IfOk result (λ links. AreLinksOf links scenario.now) }
     {
         let stream = scenario.stream();
+        let end = scenario.end();
         Ok(Links {
             groups: groups_of(alloc, scenario)?,
             link: scenario.link(),
             routes: routes_of(alloc, scenario.paths())?,
             spans: spans_of(alloc, scenario.slows())?,
             outages: outages_of(alloc, scenario.cuts())?,
+            slow_calendar: calendar_of_slows(alloc, end, scenario.slows())?,
+            cut_calendar: calendar_of_cuts(alloc, end, scenario.cuts())?,
             connect: stream.connect,
             again: stream.again,
         })
@@ -103,13 +106,32 @@ impl Links {
     pub(crate) fn is_cut(&self, from: usize, to: usize, at: u64) -> bool
         ensures { result ≡ is_cut_at self.now from to at }
     {
-        if self.outages.is_empty() {
+        if !self.may_be_cut(from, to, at) {
             return false;
         }
         match self.outages(from, to) {
             Some(outages) => outages.covers(at),
             None => false,
         }
+    }
+
+    /// Whether the calendar has a cut that may be of the link from one member to another at a moment.
+    fn may_be_cut(&self, from: usize, to: usize, at: u64) -> bool
+        ensures { result ≡ false → is_cut_at self.now from to at ≡ false }
+    {
+        match self.pair(from, to) {
+            Some(pair) => self.cut_calendar.may_be_in(pair, at),
+            None => false,
+        }
+    }
+
+    /// The number of two members' groups in the calendar of cuts.
+    fn pair(&self, from: usize, to: usize) -> Option<usize>
+        ensures { result ≡ pair_of self.now.groups.items from to }
+    {
+        let from = self.groups.get(from)?;
+        let to = self.groups.get(to)?;
+        Some(number_of_pair(*from, *to))
     }
 
     /// The times in which the link from one member's group to the other's is cut.
@@ -126,6 +148,9 @@ impl Links {
         ensures value { result ≡ extra_at self.now member at }
         ensures extra_fits { result ≤ 2 ^ 24 }
     {
+        if !self.slow_calendar.may_be_in(member.index(), at) {
+            return 0;
+        }
         match self.spans.get(member.index()) {
             Some(times) => times.extra(at),
             None => 0,

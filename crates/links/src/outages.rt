@@ -1,14 +1,15 @@
 //! When the link between two groups is cut: the scenario's cuts, sorted by time and gathered by pair of groups.
-ghost use Rattle.std.specs.Prelude.{◌≡◌, ℕ, ◌<◌, ◌≤◌, ◌||◌, ◌&&◌, length, nat_le, nat_lt, slice_index_or, IfOk, OnOk};
+ghost use Rattle.std.specs.Prelude.{◌≡◌, ℕ, ◌<◌, ◌≤◌, ◌||◌, ◌&&◌, true, length, nat_le, nat_lt, slice_index_or, IfOk, OnOk};
 ghost use Rattle.std.specs.List.{list_any};
 ghost use Rattle.std.specs.List.Sorted.{IsPermutation};
 ghost use Rattle.scenario.specs.Setup.{cuts_off};
 ghost use Rattle.scenario.specs.Spells.{is_in_any, HaveBegun};
+ghost use Rattle.scenario.specs.Calendar.{may_be_in};
 ghost use Rattle.scenario.specs.declared.settings.Cut.{Cut as ACut};
-ghost use Rattle.links.specs.Entries.{outages_in};
+ghost use Rattle.links.specs.Entries.{outages_in, pair_number};
 
-use base::Memory;
-use scenario::{Cut, Spells};
+use base::{Memory, Moment};
+use scenario::{Calendar, Cut, Spells};
 use std::alloc::Global;
 use std::collections::BTreeMap;
 
@@ -73,4 +74,23 @@ fn add(
         Ok(_) => Ok(()),
         Err(_) => Err(Memory),
     }
+}
+
+/// The cuts in a calendar, by the numbers of their pairs of groups. The run goes on up to `end`.
+pub(crate) fn calendar_of_cuts(alloc: Global, end: Moment, cuts: &[Cut]) -> Result<Calendar, Memory>
+    ensures { IfOk result (λ calendar. (from to t : ℕ) → list_any (cuts_off from to t) cuts.now ≡ true → may_be_in calendar (pair_number from to) t ≡ true) }
+{
+    let mut calendar = Calendar::new(alloc, end, cuts.len())?;
+    for cut in cuts {
+        let pair = number_of_pair(cut.from, cut.to);
+        calendar.note(pair, cut.at.ticks(), cut.until.ticks());
+    }
+    Ok(calendar)
+}
+
+/// The number of a pair of groups in the calendar, which tells 64 numbers apart.
+pub(crate) fn number_of_pair(from: usize, to: usize) -> usize
+    ensures { result ≡ pair_number from to }
+{
+    from % 8 * 8 + to % 8
 }

@@ -1,11 +1,14 @@
 //! When each member is slow and by how many ticks: the scenario's `[[slow]]` entries, gathered by member.
-ghost use Rattle.std.specs.Prelude.{◌≡◌, ℕ, ◌<◌, ◌++◌, cond, nat_eq, [], ◌∷◌, IfOk, OnOk, vec_len};
+ghost use Rattle.std.specs.Prelude.{◌≡◌, ℕ, ◌<◌, ◌++◌, true, cond, nat_eq, [], ◌∷◌, IfOk, OnOk, vec_len};
+ghost use Rattle.std.specs.List.{list_any};
+ghost use Rattle.scenario.specs.Setup.{is_slow};
+ghost use Rattle.scenario.specs.Calendar.{may_be_in};
 ghost use Rattle.links.specs.Entries.{spans_in, span_of, slow_spans};
 
 mod times;
 
-use base::Memory;
-use scenario::Slow;
+use base::{Memory, Moment};
+use scenario::{Calendar, Slow};
 use std::alloc::Global;
 pub(crate) use times::{SlowSpan, SlowTimes};
 
@@ -55,4 +58,19 @@ fn make_room(alloc: Global, spans: &mut Vec<SlowTimes>, member: usize) -> Result
         spans.push(SlowTimes::new(alloc))?;
     }
     Ok(())
+}
+
+/// The times in which members are slow, in a calendar by their numbers. The run goes on up to `end`.
+pub(crate) fn calendar_of_slows(
+    alloc: Global,
+    end: Moment,
+    slows: &[Slow],
+) -> Result<Calendar, Memory>
+    ensures { IfOk result (λ calendar. (m t : ℕ) → list_any (is_slow m t) slows.now ≡ true → may_be_in calendar m t ≡ true) }
+{
+    let mut calendar = Calendar::new(alloc, end, slows.len())?;
+    for slow in slows {
+        calendar.note(slow.member.index(), slow.from.ticks(), slow.until.ticks());
+    }
+    Ok(calendar)
 }
