@@ -268,6 +268,7 @@ impl Member {
     /// Refusals: `Memory`; `CounterOverflow` where a counter stands at 2^63 and would have to rise. Then the member
     /// and `out` are spent, and the run ends.
     #[tactic(auto, unfolding(crate::specs::Step::step))]
+    #[inline(always)]
     pub fn step(
         &mut self,
         alloc: Global,
