@@ -62,6 +62,15 @@ outages_of_all s cs outages same kept from to t = kept from to t ∙ ap (list_an
 abbrev outages_by_groups : List ((ℕ × ℕ) × List Spell) → Option ℕ → Option ℕ → List Spell
 outages_by_groups table from to = unwrap_or (option_and_then (λ f. option_and_then (λ t. lookup (is_at (pair_cmp (f, t))) table) to) from) []
 
+none_by_groups : (t : ℕ) (from to : Option ℕ) → is_in_any (outages_by_groups [] from to) t ≡ false
+none_by_groups t None to = refl
+none_by_groups t (Some f) None = refl
+none_by_groups t (Some f) (Some g) = refl
+
+-- an empty table cuts no link
+pub never_cut : (groups : List ℕ) (outages : List ((ℕ × ℕ) × List Spell)) (i j t : ℕ) → length outages ≡ 0 → is_in_any (outages_of_pair groups outages i j) t ≡ false
+never_cut groups outages i j t empty = ap (λ table. is_in_any (outages_of_pair groups table i j) t) (nil_from_length outages empty) ∙ none_by_groups t (slice_get groups i) (slice_get groups j)
+
 module _ (s : Setup) (groups : List ℕ) (outages : List ((ℕ × ℕ) × List Spell)) (grouped : groups ≡ groups_below s.groups (member_count s))
     (kept : (from to t : ℕ) → is_in_any (outages_in outages from to) t ≡ list_any (cuts_off from to t) s.cuts) where
   pub cuts_are : (i j t : ℕ) → i < member_count s → j < member_count s → is_in_any (outages_of_pair groups outages i j) t ≡ is_cut s i j t

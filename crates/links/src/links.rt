@@ -106,6 +106,9 @@ impl Links {
     pub(crate) fn is_cut(&self, from: usize, to: usize, at: u64) -> bool
         ensures { result ≡ is_cut_at self.now from to at }
     {
+        if self.outages.is_empty() {
+            return false;
+        }
         if !self.may_be_cut(from, to, at) {
             return false;
         }
@@ -148,6 +151,9 @@ impl Links {
         ensures value { result ≡ extra_at self.now member at }
         ensures extra_fits { result ≤ 2 ^ 24 }
     {
+        if self.spans.is_empty() {
+            return 0;
+        }
         if !self.slow_calendar.may_be_in(member.index(), at) {
             return 0;
         }

@@ -468,10 +468,10 @@ fn end_of_nap(calendar: &Calendar, naps: &[Spells], member: usize, moment: u64) 
     ensures end { IfSome result (IsEndFrom (naps_at naps.now member) moment) }
     ensures none { IfNone result (is_in_any (naps_at naps.now member) moment ≡ false) }
 {
+    let naps = naps.get(member)?;
     if !calendar.may_be_in(member, moment) {
         return None;
     }
-    let naps = naps.get(member)?;
     naps.end_from(moment)
 }
 
