@@ -204,6 +204,7 @@ impl Member {
     }
 
     /// A member that runs, by the rules of its profile.
+    #[inline(always)]
     fn handle_by_profile(
         &mut self,
         effects: &mut Effects,
@@ -223,6 +224,7 @@ impl Member {
 
     /// By the phase of the member.
     #[tactic(auto, unfolding(crate::specs::Step::handled, crate::specs::Step::plain_handled))]
+    #[inline(always)]
     fn handle(
         &mut self,
         effects: &mut Effects,
@@ -243,6 +245,7 @@ impl Member {
 
     /// Handles an event, and appends to `out` what it makes.
     #[tactic(auto, unfolding(crate::specs::Step::step))]
+    #[inline(always)]
     fn append_made(
         &mut self,
         out: &mut Effects,
