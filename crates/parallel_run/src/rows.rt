@@ -10,8 +10,9 @@ use std::alloc::Global;
 use std::mem;
 use trace::Row;
 
-/// Once all parts have written so many rows since their last lots, each sends one.
-const ROWS_OF_LOTS: u64 = 2_048;
+/// Once all parts have written so many rows since their last lots, each sends one: a round less than 512, so
+/// that with those of the round that ends there are not more than their memory has room for.
+const ROWS_OF_LOTS: u64 = 480;
 
 /// Rows of a part that were in no lot yet.
 #[derive(Drop)]
