@@ -10,8 +10,8 @@ use std::alloc::Global;
 use std::mem;
 use trace::Row;
 
-/// Once all parts have written so many rows since their last lots, each sends one: a round less than 512, so
-/// that with those of the round that ends there are not more than their memory has room for.
+/// Once all parts have written so many rows since their last lots, each sends one. With the rest of the round's
+/// rows they are mostly fewer than 512, where the memory of a merged lot would double.
 const ROWS_OF_LOTS: u64 = 480;
 
 /// Rows of a part that were in no lot yet.
