@@ -1,5 +1,5 @@
 -- Members in turn: the part at each place, and one member more.
-use Rattle.std.proofs.Common.{◌≡◌, ◌↔◌, ◌%◌, ◌+◌, ◌<◌, ℕ, List, [], ◌∷◌, ◌++◌, map, take, length, slice_get, unwrap_or, Some, IsTrue, false, ap, ◌∙◌, sym, arith}
+use Rattle.std.proofs.Common.{◌≡◌, ◌↔◌, ◌%◌, ◌+◌, ◌<◌, ℕ, List, [], ◌∷◌, ◌++◌, map, take, slice_get, unwrap_or, Some, IsTrue, false, ap, ◌∙◌, sym, arith}
 use Rattle.std.specs.List.{range_with_len}
 use Rattle.std.proofs.lemmas.Bool.{false≢true}
 use Rattle.std.proofs.lemmas.List.{take_more}

@@ -1,5 +1,5 @@
 //! Runs so small that one worker makes them in less time than several.
-ghost use Rattle.std.specs.Prelude.{◌≡◌, ◌<◌, ◌≤◌, ◌↔◌, IsTrue, length};
+ghost use Rattle.std.specs.Prelude.{◌≡◌, ◌≤◌, ◌↔◌, IsTrue, length};
 ghost use Rattle.scenario.specs.Setup.{member_count};
 ghost use Rattle.partitioning.specs.Small.{IsSmall, IsUnasked, worth_ticks};
 
