@@ -4,7 +4,7 @@ ghost use Rattle.std.specs.Thread.{IsSync};
 
 use crate::processors::fewer;
 use base::Fault;
-use partitioning::{RunAccount, run_shared};
+use partitioning::{RunAccount, paying_workers, run_shared};
 use reports::Tallies;
 use run_command::Simulator;
 use run_output::{RowObserver, TraceAndGathered};
@@ -40,6 +40,7 @@ impl<H: Threads + Wait + Sync> Simulator for ByThreads<'_, H> {
         report: &mut B,
     ) -> Result<Tallies, Fault> {
         let workers = fewer(workers, self.most);
+        let workers = paying_workers(scenario, division, workers);
         let mut account = RunAccount::none(alloc);
         run_shared(
             self.rt,

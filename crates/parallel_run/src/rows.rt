@@ -10,8 +10,9 @@ use std::alloc::Global;
 use std::mem;
 use trace::Row;
 
-/// Once all parts have written so many rows since their last lots, each sends one.
-const ROWS_OF_LOTS: u64 = 2_048;
+/// Once all parts have written so many rows since their last lots, each sends one. With the rest of the round's
+/// rows they are mostly fewer than 512, where the memory of a merged lot would double.
+const ROWS_OF_LOTS: u64 = 480;
 
 /// Rows of a part that were in no lot yet.
 #[derive(Drop)]

@@ -8,3 +8,4 @@ mod Marks
 mod Neighbours
 mod Paying
 mod Together
+mod Turning

@@ -4,3 +4,4 @@ pub mod Paying
 pub mod Rounds
 pub mod Sites
 pub mod Closed
+pub mod Small

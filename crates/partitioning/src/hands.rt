@@ -28,7 +28,7 @@ fn hands_of(threads: usize) -> Workers
 }
 
 /// So many workers.
-fn workers_of(count: usize) -> Workers
+pub(crate) fn workers_of(count: usize) -> Workers
     requires { (1 ≤ count) × (count ≤ 64) }
     ensures { result ≡ count }
 {

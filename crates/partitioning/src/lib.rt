@@ -8,6 +8,8 @@ mod hands;
 mod round_length;
 mod shared;
 mod sites;
+mod small_runs;
 
 pub use parallel_run::RunAccount;
 pub use shared::run_shared;
+pub use small_runs::paying_workers;
