@@ -1,5 +1,5 @@
 //! Files of the system that were made, and how they are written.
-ghost use Rattle.std.specs.Prelude.{◌≤◌, length, IfOk};
+ghost use Rattle.std.specs.Prelude.{◌<◌, ◌≤◌, length, IfOk, IfSome};
 
 use crate::stages::Stage;
 use std::fs::OpenFile;
@@ -7,6 +7,9 @@ use std::io;
 use std::io::{ErrorKind, Seek, SeekFrom, Write};
 use std::path::PathBuf;
 use std::rt::Files;
+
+/// So many bytes are gathered at most before they are written: a call of the system costs as much as dozens of a trace's lines.
+const MOST_GATHERED: usize = 32_768;
 
 /// A file that was made. It is written in place, or beside its name: then it is in place once it is flushed, and whole.
 #[derive(Drop)]
@@ -20,7 +23,9 @@ pub struct SystemFile<'r, R, F> {
     // where it stands, if it is to be written beside that
     place: Option<PathBuf>,
     stage: Option<Stage<F>>,
-    // whether a write failed beside its name
+    // lines that are written before anything else
+    gathered: Vec<u8>,
+    // whether a write failed beside its name, or one of what was gathered
     has_failed: bool,
 }
 
@@ -39,6 +44,7 @@ impl<'r, R: Files + AllocGlobal> SystemFile<'r, R, R::File> {
             is_cut,
             place: None,
             stage: None,
+            gathered: Vec::new(runtime.alloc()),
             has_failed: false,
         }
     }
@@ -56,6 +62,7 @@ impl<'r, R: Files + AllocGlobal> SystemFile<'r, R, R::File> {
             is_cut: false,
             place: Some(path),
             stage: None,
+            gathered: Vec::new(runtime.alloc()),
             has_failed: false,
         }
     }
@@ -90,8 +97,41 @@ impl<'r, R: Files + AllocGlobal> SystemFile<'r, R, R::File> {
     {
         match &mut self.stage {
             Some(stage) => stage.write(bytes),
-            None => self.file.write(bytes),
+            None => self.put_in_file(bytes),
         }
+    }
+
+    /// Writes bytes in place: now, or with those that follow.
+    fn put_in_file(&mut self, bytes: &[u8]) -> io::Result<usize>
+        ensures { IfOk result (λ taken. taken ≤ length bytes.now) }
+    {
+        if self.gather(bytes)? {
+            return Ok(bytes.len());
+        }
+        self.write_gathered()?;
+        self.file.write(bytes)
+    }
+
+    /// Gathers lines that aren't too long, and says whether it did: not where memory is refused.
+    fn gather(&mut self, bytes: &[u8]) -> io::Result<bool> {
+        if bytes.len() > MOST_GATHERED || !are_lines(bytes) {
+            return Ok(false);
+        }
+        if self.gathered.len() > MOST_GATHERED - bytes.len() {
+            self.write_gathered()?;
+        }
+        Ok(self.gathered.extend_from_slice(bytes).is_ok())
+    }
+
+    /// Writes what was gathered. If that fails, nothing is written behind it.
+    fn write_gathered(&mut self) -> io::Result<()> {
+        if self.gathered.is_empty() {
+            return Ok(());
+        }
+        let outcome = self.file.write_all(&self.gathered);
+        self.gathered.clear();
+        self.has_failed = outcome.is_err();
+        outcome
     }
 
     /// Ends the writing: what is not whole beside the file's name is removed.
@@ -100,8 +140,25 @@ impl<'r, R: Files + AllocGlobal> SystemFile<'r, R, R::File> {
             stage.remove(self.runtime);
         } else if self.place.is_none() {
             let _ = self.begin();
+            let _ = self.write_gathered();
         }
     }
+}
+
+/// Whether these are several lines, as a run's are. A line by itself is written at once, as one of a sweep's table is: so a
+/// sweep that is killed has lost no run.
+fn are_lines(bytes: &[u8]) -> bool {
+    match end_of_line(bytes) {
+        Some(end) => end + 1 < bytes.len(),
+        None => false,
+    }
+}
+
+/// The place at which a line ends.
+fn end_of_line(bytes: &[u8]) -> Option<usize>
+    ensures { IfSome result (λ end. end < length bytes.now) }
+{
+    bytes.iter().position(|byte| *byte == b'\n')
 }
 
 impl<R: Files + AllocGlobal> Write for SystemFile<'_, R, R::File> {
@@ -122,7 +179,10 @@ impl<R: Files + AllocGlobal> Write for SystemFile<'_, R, R::File> {
                 self.file = stage.publish(self.runtime)?;
                 Ok(())
             }
-            None => self.file.flush(),
+            None => {
+                self.write_gathered()?;
+                self.file.flush()
+            }
         }
     }
 }
