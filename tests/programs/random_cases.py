@@ -71,10 +71,10 @@ def division_of(rng, members):
 
 
 def site_division_of(rng, members):
-    """Words for two to four workers, and for no parts or for those of the groups."""
+    """Words for two to four workers, and for eight parts or for those of the groups: else one worker makes so small a run."""
     words = ['--workers', str(rng.randint(2, 4))]
     parts = ','.join(str(ord(member['name'][0]) - ord('a')) for member in members)
-    return [*words, '--division', parts] if rng.randrange(2) else words
+    return [*words, *(['--division', parts] if rng.randrange(2) else ['--parts', '8'])]
 
 
 def try_run(program, folder, seed, number, newest):

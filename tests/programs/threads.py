@@ -8,7 +8,7 @@ whatever else this one does (stand_in.py), so that a run by several workers star
 
 - one worker starts no thread, neither for a run nor for a sweep;
 - a run of four sites by four workers starts more than two threads, of which each simulates, and a sweep too;
-- a run of members that are near each other starts one thread beside the one that writes;
+- a run of members that are near each other starts one thread beside the one that writes, a small run none;
 - each of four long runs of a sweep is made by a thread of its own;
 - no more threads start than there are processors, or of two both and the one that writes; none where at most half are free;
 - all rows of a long run never wait in memory at once, by one worker and by several;
@@ -91,8 +91,17 @@ def several_workers(bench):
 
 def near_members(bench):
     """Members so near each other that no rounds are worth it are simulated by one thread, while another one writes."""
-    threads = bench.threads(bench.run(NEAR, 4), 4)
+    threads = bench.threads([*bench.run(NEAR, 4), '--parts', '8'], 4)
     assert threads == 1, threads
+
+
+def small_run(bench):
+    """A small run starts no thread, unless another division is asked for; the bytes are the same."""
+    small = far(4, 3, 5000)
+    assert bench.threads([*bench.run(small, 4), '--parts', '8'], 4) > 2
+    whole = bench.trace.read_bytes()
+    assert bench.threads(bench.run(small, 4), 4) == 0
+    assert bench.trace.read_bytes() == whole
 
 
 def sweep_by_several(bench):
@@ -179,7 +188,7 @@ def width(bench):
     assert 3 * made < of_all, (made, of_all)
 
 
-CASES = (one_worker, several_workers, near_members, sweep_by_several, sweep_of_long_runs, few_processors, busy_processors,
+CASES = (one_worker, several_workers, near_members, small_run, sweep_by_several, sweep_of_long_runs, few_processors, busy_processors,
          memory, cut_off, width)
 
 

@@ -17,8 +17,8 @@ PAGE = ['page', 'p1', 'p2', '--out', 'p.html']
 WAYS = ([], ['--workers', '1', '--parts', '2'], ['--workers', '2', '--parts', '2'],
         ['--workers', '3', '--parts', '64'])
 
-# by several parts, where there are several sites
-WAYS_OF_SITES = (['--workers', '2'], ['--workers', '3'], ['--workers', '5'])
+# by several parts, where there are several sites: another division than the usual one is asked for, else one worker makes so small a run
+WAYS_OF_SITES = tuple(['--workers', workers, '--parts', '8'] for workers in '235')
 
 # so many sizes of a file are one case
 STEP = 32
