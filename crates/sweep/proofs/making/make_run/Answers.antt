@@ -33,3 +33,11 @@ returns g c =
 pub returns-in_err-line : goal.returns-in_err-line
 returns-in_err-line g c =
     no_room (view c.args.document.now) c.args.plan.now c.args.key.now c.args.number c.from_residual-in_err-line.result c.from_residual-in_err-line.ensures.1
+
+pub returns-in_err-figures : goal.returns-in_err-figures
+returns-in_err-figures g c =
+    no_room (view c.args.document.now) c.args.plan.now c.args.key.now c.args.number c.from_residual-in_err-figures.result c.from_residual-in_err-figures.ensures.1
+
+pub returns-in_err-note : goal.returns-in_err-note
+returns-in_err-note g c =
+    no_room (view c.args.document.now) c.args.plan.now c.args.key.now c.args.number c.from_residual-in_err-note.result c.from_residual-in_err-note.ensures.1
