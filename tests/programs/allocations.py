@@ -219,7 +219,7 @@ def main():
         run = [program, 'run', scenario, '--trace', folder / 't.csv', '--report', folder / 'r.txt', '--workers']
         page = ['--page', folder / 'p.html']
         sweep = [program, 'sweep', scenario, '--table', folder / 't.csv', *page, '--seeds', '1..2', '--workers', '1']
-        counts = [refuse_each(words, stand_in) for words in ([program, 'check', scenario], [*run, '1'], [*run, '3'])]
+        counts = [refuse_each(words, stand_in) for words in ([program, 'check', scenario], [*run, '1'], [*run, '3', '--parts', '4'])]
         for words in ([*run, '1'], [*run, '1', *page], sweep):
             counts.append(refuse_each(words, stand_in, ' over older files', older=OLDER))
         counts.append(refuse_each([*run, '1', *page], stand_in, ' with a page'))

@@ -199,7 +199,7 @@ def ends(uses, room, whole):
     uses.judge('a run that is killed', started.returncode in (-9, 0) and (out == b'') == (started.returncode == -9), started)
     for kilobytes in (4_000, 8_000, 16_000, 32_000, 64_000, 256_000):
         (folder / 'm').unlink(missing_ok=True)
-        line = f'ulimit -v {kilobytes}; exec "$0" run s.toml --trace m --workers 2 --parts 2'
+        line = f'ulimit -v {kilobytes}; exec "$0" run s.toml --trace m --workers 2 --parts 3'
         ran = call(['sh', '-c', line, uses.program], cwd=folder)
         left = (folder / 'm').read_bytes() if (folder / 'm').exists() else b''
         # below some size the system itself can't start a program

@@ -10,7 +10,7 @@ EXAMPLES, PAGES = TOP / 'examples', DATA / 'pages'
 # a crash, false claims with Lifeguard and without, a cut, joins, leaves, stops, three sites, and a cluster in which nothing happens
 SHOWN = ('crash', 'slow-member', 'slow-member-without-lifeguard', 'cut-between-sites', 'rolling-join', 'rolling-restart', 'pauses',
          'three-sites-wan', 'quiet')
-WAYS = ([], ['--workers', '2'], ['--workers', '3', '--parts', '3'])
+WAYS = ([], ['--workers', '2'], ['--workers', '3', '--parts', '4'])
 # words that say how long a tick lasts, and how many microseconds that is
 TICKS = (('1ms', 1000), ('1us', 1), ('250us', 250), ('7ms', 7000), ('1s', 10**6))
 # how the comment of a text begins that is a sentence of its page

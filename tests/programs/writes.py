@@ -14,7 +14,7 @@ SWEEP = ['sweep', 's.toml', '--table', 't.csv', '--seeds', '1..2', '--set', 'swi
 UNTIL = ['sweep', 's.toml', '--until', '50', '--seeds', '1..9', '--set', 'swim.period=1000,1200']
 JOIN = ['join', 'p1', 'p2', '--table', 't.csv']
 PAGE = ['page', 'p1', 'p2', '--out', 'p.html']
-WAYS = ([], ['--workers', '1', '--parts', '2'], ['--workers', '2', '--parts', '2'],
+WAYS = ([], ['--workers', '1', '--parts', '2'], ['--workers', '2', '--parts', '3'],
         ['--workers', '3', '--parts', '64'])
 
 # by several parts, where there are several sites: another division than the usual one is asked for, else one worker makes so small a run

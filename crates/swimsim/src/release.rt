@@ -3,6 +3,6 @@
 /// The number of the version.
 pub const VERSION: &str = "1.19.0";
 /// The digest of the sources.
-pub const SOURCES: &str = "0922dfca997fb80f03c0a420bb7d360e254e5d00c48068ef97836699c3b2e046";
+pub const SOURCES: &str = "8df5965924486a184ac9a41bc6eef75b273315f2828e1c1048abd21eeae29f8d";
 /// The kit.
-pub const KIT: &str = "rattle-kit-13b logic dac8208d650f15bf";
+pub const KIT: &str = "rattle-kit-13f logic dac8208d650f15bf";
