@@ -228,7 +228,10 @@ fn horizons_of(
     let division = Division::new(scenario, parts, part_of)
         .ok()
         .expect(rt, "divided");
-    let links = &Links::of(alloc, scenario).ok().expect(rt, "memory");
+    let links = &match Links::of(alloc, scenario) {
+        Ok(links) => links,
+        Err(_) => panic!(rt; "want of memory"),
+    };
     assert!(rt; division.members() == scenario.members());
     horizons(alloc, Cluster { scenario, links }, &division)
         .ok()
