@@ -23,11 +23,11 @@ use Rattle.shards.specs.Shards.{IsShard}
 use Rattle.goals.specs.Wants.{IsBounded}
 use Rattle.goals.specs.Words.{AreWants}
 use Rattle.goals.specs.declared.want.Want.{Want}
-use Rattle.scenario.specs.Setup.{Setup}
-use Rattle.scenario_files.specs.Loading.{LoadFails}
+use Rattle.scenario.specs.Setup.{Setup, member_count}
+use Rattle.scenario_files.specs.Loading.{HasVerdict, LoadFails}
 use Rattle.drive_command.specs.Outcomes.{DriveEnds, DriveFails, DrivesAll}
 use Rattle.command_line.specs.declared.driving.DriveWords.{DriveWords}
-use Rattle.cli.specs.Outcomes.{AsksForProgress, CheckFails, EndsRunBy, HasDone, Fails}
+use Rattle.cli.specs.Outcomes.{AsksForProgress, CheckFails, EndsRunBy, HasDone, Fails, HoldsScenario}
 use Rattle.files.specs.Files.{Making}
 use Rattle.command_line.specs.Printed.{rows_line, PresetFails, PrintsPreset}
 use Rattle.command_line.specs.Words.{Answers, AsksForRun, AsksForCheck, AsksForDrive, AsksForExpand, AsksForExplain, AsksForInit, AsksForJoin, AsksForPage, AsksForShard, AsksForSweep, AsksToDrive, IsCommand}
@@ -458,3 +458,12 @@ pub asked_expand_unprinted : (Refused : Type 0) (words : List Text) (before afte
 asked_expand_unprinted Refused words before after making old new gave heard answer file text printed is h same stands told =
     let asks : Answers words (asked.Expand file) = subst (Answers words) is h in
     IfErr-weaker printed _ _ (λ failure output. subst (Fails Refused words before after making old new gave heard) (sym output) (inr (inr (inr (inr (inr (inr (inr (inr (text, (file.now, asks, stands, same))))))))))) told
+
+-- the number of members that the words ask for was not printed
+pub asked_check_unprinted : (Refused : Type 0) (words : List Text) (before after : Shelf) (making : Making) (old new : Option (List ℕ)) (gave : List (List ℕ)) (heard : List ℕ) (answer : Asked) (file : Bor Text) (s : Setup)
+    (printed : Result (Unit {0}) Failure) → answer ≡ asked.Check file → Answers words answer → (after ≡ before) → HasVerdict (before file.now) (Ok s)
+    → IfErr printed (λ failure. failure ≡ Output) → IfErr printed (Fails Refused words before after making old new gave heard)
+asked_check_unprinted Refused words before after making old new gave heard answer file s printed is h same accepted told =
+    let asks : Answers words (asked.Check file) = subst (Answers words) is h in
+    let holds : HoldsScenario (before file.now) (member_count s) = record { scenario = s; accepted = accepted; counted = refl } in
+    IfErr-weaker printed _ _ (λ failure output. subst (Fails Refused words before after making old new gave heard) (sym output) (inr (inl (member_count s, (file.now, asks, holds, same))))) told
