@@ -166,7 +166,7 @@ def refuse_among_several(program, stand_in):
     None where it isn't several that run."""
     text, trace = stand_in.folder / 'sites.toml', stand_in.folder / 't.csv'
     text.write_text(far(4, 3, 5000))
-    words = [program, 'run', text, '--trace', trace, '--report', stand_in.folder / 'r.txt', '--workers', '5', '--parts', '8']
+    words = [program, 'run', text, '--trace', trace, '--report', stand_in.folder / 'r.txt', '--workers', '5', '--division', '0,0,0,1,1,1,2,2,2,3,3,3']
     _, threads = stand_in.counted(words, **stand_in.processors(5))
     if threads < 2:
         print(f'run of four sites: skipped, {threads} threads were started')
@@ -230,7 +230,7 @@ def main():
         apart = folder / 'apart.toml'
         apart.write_text(FAR)
         words = [apart if word is scenario else word for word in run]
-        counts.append(refuse_starts([*words, '3', '--parts', '8'], stand_in, 2))
+        counts.append(refuse_starts([*words, '3', '--division', ','.join(['0'] * 32 + ['1'] * 32)], stand_in, 2))
         if Path('/dev/full').exists():
             long = folder / 'long.toml'
             long.write_text(LONG)

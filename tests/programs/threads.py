@@ -98,7 +98,7 @@ def near_members(bench):
 def small_run(bench):
     """A small run starts no thread, unless another division is asked for; the bytes are the same."""
     small = far(4, 3, 5000)
-    assert bench.threads([*bench.run(small, 4), '--parts', '8'], 4) > 2
+    assert bench.threads([*bench.run(small, 4), '--division', '0,0,0,1,1,1,2,2,2,3,3,3'], 4) > 2
     whole = bench.trace.read_bytes()
     assert bench.threads(bench.run(small, 4), 4) == 0
     assert bench.trace.read_bytes() == whole

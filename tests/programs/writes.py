@@ -17,8 +17,10 @@ PAGE = ['page', 'p1', 'p2', '--out', 'p.html']
 WAYS = ([], ['--workers', '1', '--parts', '2'], ['--workers', '2', '--parts', '3'],
         ['--workers', '3', '--parts', '64'])
 
-# by several parts, where there are several sites: another division than the usual one is asked for, else one worker makes so small a run
-WAYS_OF_SITES = tuple(['--workers', workers, '--parts', '8'] for workers in '235')
+# by several parts, where there are several sites
+WAYS_OF_SITES = (['--workers', '2'], ['--workers', '3'], ['--workers', '5'])
+# four sites of three members: one worker makes so small a run, unless another division is asked for
+FOUR_SITES = ['--division', '0,0,0,1,1,1,2,2,2,3,3,3']
 
 # so many sizes of a file are one case
 STEP = 32
@@ -219,7 +221,7 @@ def room_cases():
             for sizes in rooms(longest):
                 yield Case(f'writes: {name} {way}, {sizes} bytes', check_room, (name, way, sizes))
     for way in WAYS_OF_SITES:
-        yield Case(f'writes: four sites {way}', check_room, ('four-sites', way, range(0, 60_000, 1511)))
+        yield Case(f'writes: four sites {way}', check_room, ('four-sites', [*way, *FOUR_SITES], range(0, 60_000, 1511)))
     for way in WAYS:
         for sizes in (range(0, 1200, 97), range(1200, 9000, 611)):
             yield Case(f'writes: page {way}, {sizes} bytes', check_page_room, (way, sizes))
