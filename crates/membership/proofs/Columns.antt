@@ -188,6 +188,36 @@ pub weight_few : (claims : List (Option Claim)) → sum_by claim_weight claims �
 weight_few [] = omega arith
 weight_few (c ∷ claims) = let more = sum_by-cons claim_weight c claims in let small = weight_small c in let rest = weight_few claims in omega arith
 
+known_most : (c : Option Claim) → claim_weight c ≤ known_weight c
+known_most None = omega arith
+known_most (Some c) = weight_small (Some c)
+
+known_sum : (claims : List (Option Claim)) → sum_by claim_weight claims ≤ sum_by known_weight claims
+known_sum [] = omega arith
+known_sum (c ∷ claims) =
+    let live = sum_by-cons claim_weight c claims in
+    let all = sum_by-cons known_weight c claims in
+    let most = known_most c in
+    let rest = known_sum claims in
+    omega arith
+
+-- where as many are live as are known, each that is known is live
+pub all_live : (claims : List (Option Claim)) (k : ℕ) → sum_by claim_weight claims ≡ sum_by known_weight claims → claim_weight (claim_at claims k) ≡ known_weight (claim_at claims k)
+all_live [] k even = refl
+all_live (c ∷ claims) zero even =
+    let live = sum_by-cons claim_weight c claims in
+    let all = sum_by-cons known_weight c claims in
+    let most = known_most c in
+    let rest = known_sum claims in
+    omega arith
+all_live (c ∷ claims) (suc k) even =
+    let live = sum_by-cons claim_weight c claims in
+    let all = sum_by-cons known_weight c claims in
+    let most = known_most c in
+    let rest = known_sum claims in
+    let even_rest : sum_by claim_weight claims ≡ sum_by known_weight claims = omega arith in
+    all_live claims k even_rest
+
 -- ---- the entries in order
 
 module _ (incs : List ℕ) where

@@ -4,6 +4,7 @@ ghost use Rattle.std.specs.Option.{option_map_or};
 ghost use Rattle.std.specs.FinMap.{empty, get, insert, remove};
 ghost use Rattle.membership.specs.Table.{all_alive, is_alive, known_of, live_count, known_count, alive_but, update_by, updates_by};
 ghost use Rattle.membership.specs.Columns.{entries_from, claim_at, claim_weight, known_weight};
+ghost use Rattle.incarnation.specs.declared.Claim.TheVariants.{Alive};
 ghost use Rattle.membership.specs.Deaths.{since_of};
 ghost use Rattle.membership.specs.Candidates.{candidates_of, does_fit};
 
@@ -77,11 +78,14 @@ impl Table {
         ensures { IfOk result (λ table. table ≡ all_alive members.now) }
     {
         let mut claims = nobody(alloc, past_all(members))?;
-        let counts = hold_alive(&mut claims, members);
+        let count = hold_alive(&mut claims, members);
         Ok(Table {
             claims,
             incs: Vec::new(alloc),
-            counts,
+            counts: Counts {
+                live: count,
+                known: count,
+            },
         })
     }
 
@@ -269,22 +273,39 @@ fn put_claim(claims: &mut Vec<Option<Claim>>, place: usize, claim: Claim, counts
     }
 }
 
+// Holds the member at a place to be up, where nobody is held to be down. Given how many members there are, oneself
+// included, it returns how many there are then.
+#[inline(always)]
+fn put_alive(claims: &mut Vec<Option<Claim>>, place: usize, count: usize) -> usize
+    requires place { place < length claims.old.items }
+    requires few { length claims.old.items ≤ 2 ^ 16 }
+    requires counted { count ≡ sum_by claim_weight claims.old.items + 1 }
+    requires all { count ≡ sum_by known_weight claims.old.items + 1 }
+    ensures put { claims.new.items ≡ set claims.old.items place (Some Alive) }
+    ensures counted { result ≡ sum_by claim_weight claims.new.items + 1 }
+    ensures all { result ≡ sum_by known_weight claims.new.items + 1 }
+{
+    let was_known = known_weight(claims[place]);
+    claims[place] = Some(Claim::Alive);
+    count + 1 - was_known
+}
+
 // Holds each of these members to be up, where nothing is held of anybody. Returns how many members there are
 // then, oneself included.
-fn hold_alive(claims: &mut Vec<Option<Claim>>, members: &[MemberId]) -> Counts
+fn hold_alive(claims: &mut Vec<Option<Claim>>, members: &[MemberId]) -> usize
     requires nobody { (k : ℕ) → claim_at claims.old.items k ≡ None }
     requires places { EachIndex members.now (λ k. slice_index members.now k < length claims.old.items) }
     requires few { length claims.old.items ≤ 2 ^ 16 }
     ensures held { known_of (entries_from 0 claims.new.items []) ≡ all_alive members.now }
     ensures few { length claims.new.items ≤ 2 ^ 16 }
-    ensures counted { result.live ≡ sum_by claim_weight claims.new.items + 1 }
-    ensures all { result.known ≡ sum_by known_weight claims.new.items + 1 }
+    ensures counted { result ≡ sum_by claim_weight claims.new.items + 1 }
+    ensures all { result ≡ sum_by known_weight claims.new.items + 1 }
 {
-    let mut counts = ALONE;
+    let mut count = 1;
     for member in members {
-        counts = put_claim(claims, member.index(), Claim::Alive, counts);
+        count = put_alive(claims, member.index(), count);
     }
-    counts
+    count
 }
 
 // What a claim adds to the count of those who are known.

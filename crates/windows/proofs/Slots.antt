@@ -1,16 +1,13 @@
 -- The members of a part at their places as the map of their states.
-use Rattle.std.proofs.Common.{◌≡◌, ℕ, zero, suc, ◌+◌, ◌<◌, ◌≤◌, Bool, true, false, cond, eqb, nat_lt, List, [], ◌∷◌, ◌++◌, length, Option, Some, None, Ok, Err, Result, slice_set, ap, ◌∙◌, sym, subst, refl, arith}
+use Rattle.std.proofs.Common.{◌≡◌, ℕ, zero, suc, ◌+◌, ◌<◌, ◌≤◌, Bool, true, false, cond, eqb, nat_lt, List, [], ◌∷◌, ◌++◌, map, length, Option, Some, None, slice_get, slice_set, length-set, ap, ◌∙◌, sym, subst, refl, arith}
 use Rattle.std.specs.Option.{is_some, option_map}
-use Rattle.std.specs.Result.{is_ok}
-use Rattle.std.specs.Bool.{if◌then◌else◌}
-use Rattle.std.specs.List.{slice_get, slice_index_or, list_all}
+use Rattle.std.specs.List.{slice_index_or}
 use Rattle.std.specs.Ordering.{nat_cmp, eq_by_cmp}
 use Rattle.std.specs.Cmp.{nat_cmp_total, unsigned_tied}
 use Rattle.std.specs.FinMap.{FinMap, nat_cmp-IsAntisymmetric, from_entries, get, contains_key, insert, empty, find, get-from_entries, get-insert, get-empty, same_map}
-use Rattle.std.proofs.lemmas.Bool.{false≢true, eqb-true, eqb-false, eq-eqb, ltb-true, and_parts, and_from}
-use Rattle.std.proofs.lemmas.List.{get_or-set_same, get_or-set_other, set-get_or, length_push}
-use Rattle.std.proofs.lemmas.List.Folds.{list_all-append}
-use Rattle.std.proofs.lemmas.Option.{same_Some, get_or_from_slice_get}
+use Rattle.std.proofs.lemmas.Bool.{false≢true, eqb-true, eqb-false, eq-eqb, ltb-true, ltb-false}
+use Rattle.std.proofs.lemmas.List.{get_or-set_same, get_or-set_other, get_or_past, length_push}
+use Rattle.std.proofs.lemmas.Option.{same_Some, slice_get_past}
 use Rattle.member.specs.declared.member.Member.{Member}
 use Rattle.member.specs.State.{State}
 use Rattle.member.specs.StateOf.{state_of}
@@ -19,7 +16,7 @@ use Rattle.member.specs.declared.event.Event.{Event}
 use Rattle.member.specs.CounterOverflow.{IsOverflowed}
 use Rattle.member.proofs.CounterOverflow.{not_overflow}
 use Rattle.windows.specs.declared.part.Part.{Part}
-use Rattle.windows.specs.WorldOf.{states_from, world_of}
+use Rattle.windows.specs.WorldOf.{states_from, place_at, standing, by_number, states_of, world_of}
 
 -- who stands at a place
 abbrev pub slot_at : List (Option Member) → ℕ → Option Member
@@ -64,9 +61,6 @@ still_there : (o : Option Member) → is_some (option_map state_of o) ≡ is_som
 still_there None = refl
 still_there (Some x) = refl
 
-pub is_there : (slots : List (Option Member)) (q : ℕ) → contains_key (by_place slots) q ≡ is_some (slot_at slots q)
-is_there slots q = ap is_some (state_at slots q) ∙ still_there (slot_at slots q)
-
 pub nobody : by_place [] ≡ empty
 nobody = same_map nat_cmp_total nat_cmp-IsAntisymmetric _ _ (λ q. state_at [] q ∙ none_of q ∙ sym (get-empty nat_cmp q))
   where
@@ -106,61 +100,172 @@ put_last slots i x is =
     let longer = length_push slots None in
     ap by_place (sym (one_at_end slots i x is)) ∙ put_at (slots ++ None ∷ []) i x (omega arith) ∙ ap (λ m. insert m i (state_of x)) (ap from_entries (one_more_place slots 0))
 
-past : (slots : List (Option Member)) (q : ℕ) → length slots ≤ q → slot_at slots q ≡ None
-past [] zero over = refl
-past [] (suc q) over = refl
-past (x ∷ slots) zero over = absurd (omega arith)
-past (x ∷ slots) (suc q) over = past slots q (omega arith)
+-- ---- members side by side, and where they stand
 
--- past the last place there is nobody
-pub nobody_past : (slots : List (Option Member)) (q : ℕ) → length slots ≤ q → get (by_place slots) q ≡ None
-nobody_past slots q over = state_at slots q ∙ ap (option_map state_of) (past slots q over)
+none_at : (q : ℕ) → place_at [] q ≡ None
+none_at zero = refl
+none_at (suc q) = refl
 
--- the state of whoever was read at a place
-pub receiver_at : (slots : List (Option Member)) (i q : ℕ) (now : Option Member) → i ≡ q → slice_get slots i ≡ Some now → get (by_place slots) q ≡ option_map state_of now
-receiver_at slots i q now same here = ap (get (by_place slots)) (sym same) ∙ state_at slots i ∙ ap (option_map state_of) (get_or_from_slice_get slots i now None here)
+in_a_row : (members : List Member) (q : ℕ) → slot_at (map (λ member. Some member) members) q ≡ slice_get members q
+in_a_row [] zero = refl
+in_a_row [] (suc q) = refl
+in_a_row (x ∷ members) zero = refl
+in_a_row (x ∷ members) (suc q) = in_a_row members q
 
--- what was read is written back
-pub put_back : (slots : List (Option Member)) (i : ℕ) (now : Option Member) → slice_get slots i ≡ Some now → slice_set slots i now ≡ slots
-put_back slots i now here = ap (slice_set slots i) (sym (get_or_from_slice_get slots i now None here)) ∙ set-get_or slots i None
+by_table : (members : List Member) (places : List (Option ℕ)) (q : ℕ) → slot_at (map (standing members) places) q ≡ standing members (place_at places q)
+by_table members [] zero = refl
+by_table members [] (suc q) = refl
+by_table members (o ∷ places) zero = refl
+by_table members (o ∷ places) (suc q) = by_table members places q
 
-pub has_read : (slots : List (Option Member)) (i q : ℕ) (now : Option Member) → i ≡ q → slice_get slots i ≡ Some now → is_some now ≡ contains_key (by_place slots) q
-has_read slots i q now same here = sym (still_there now) ∙ ap is_some (sym (receiver_at slots i q now same here))
+-- the state of a number, without a table and with one
+pub state_in_a_row : (members : List Member) (q : ℕ) → get (states_of [] members) q ≡ option_map state_of (slice_get members q)
+state_in_a_row members q = state_at (by_number [] members) q ∙ ap (option_map state_of) (in_a_row members q)
 
-pub has_past : (slots : List (Option Member)) (q : ℕ) → length slots ≤ q → false ≡ contains_key (by_place slots) q
-has_past slots q over = ap is_some (sym (nobody_past slots q over))
+pub state_by_table : (places : List (Option ℕ)) (members : List Member) (q : ℕ) → 0 < length places → get (states_of places members) q ≡ option_map state_of (standing members (place_at places q))
+state_by_table [] members q some = absurd (omega arith)
+state_by_table (o ∷ places) members q some = state_at (by_number (o ∷ places) members) q ∙ ap (option_map state_of) (by_table members (o ∷ places) q)
 
-pub not_less : (i n : ℕ) → n ≤ i → nat_lt i n ≡ false
-not_less i n over = by_test (nat_lt i n) refl
+get_past : (members : List Member) (q : ℕ) → length members ≤ q → slice_get members q ≡ None
+get_past members q over = slice_get_past members q over
+
+get_set_same : (members : List Member) (p : ℕ) (x : Member) → p < length members → slice_get (slice_set members p x) p ≡ Some x
+get_set_same [] p x within = absurd (omega arith)
+get_set_same (m ∷ members) zero x within = refl
+get_set_same (m ∷ members) (suc p) x within = get_set_same members p x (omega arith)
+
+get_set_other : (members : List Member) (p r : ℕ) (x : Member) → ¬ (r ≡ p) → slice_get (slice_set members p x) r ≡ slice_get members r
+get_set_other [] p r x other = refl
+get_set_other (m ∷ members) zero zero x other = absurd (other refl)
+get_set_other (m ∷ members) zero (suc r) x other = refl
+get_set_other (m ∷ members) (suc p) zero x other = refl
+get_set_other (m ∷ members) (suc p) (suc r) x other = get_set_other members p r x (λ same. other (ap suc same))
+
+get_front : (members : List Member) (x : Member) (p : ℕ) → p < length members → slice_get (members ++ x ∷ []) p ≡ slice_get members p
+get_front [] x p within = absurd (omega arith)
+get_front (m ∷ members) x zero within = refl
+get_front (m ∷ members) x (suc p) within = get_front members x p (omega arith)
+
+get_last : (members : List Member) (x : Member) → slice_get (members ++ x ∷ []) (length members) ≡ Some x
+get_last [] x = refl
+get_last (m ∷ members) x = get_last members x
+
+row_set : (members : List Member) (i : ℕ) (x : Member) → map (λ member. Some member) (slice_set members i x) ≡ slice_set (map (λ member. Some member) members) i (Some x)
+row_set [] i x = refl
+row_set (m ∷ members) zero x = refl
+row_set (m ∷ members) (suc i) x = ap (λ l. Some m ∷ l) (row_set members i x)
+
+row_length : (members : List Member) → length (map (λ (member : Member). Some member) members) ≡ length members
+row_length [] = refl
+row_length (m ∷ members) = ap suc (row_length members)
+
+row_push : (members : List Member) (x : Member) → map (λ member. Some member) (members ++ x ∷ []) ≡ map (λ member. Some member) members ++ Some x ∷ []
+row_push [] x = refl
+row_push (m ∷ members) x = ap (λ l. Some m ∷ l) (row_push members x)
+
+-- who is known by the state of another number is another
+module _ (old new : FinMap nat_cmp State) (q : ℕ) (t : State) where
+  pub one_more_state : get new q ≡ Some t → ((r : ℕ) → ¬ (r ≡ q) → get new r ≡ get old r) → new ≡ insert old q t
+  one_more_state here others =
+      same_map nat_cmp_total nat_cmp-IsAntisymmetric _ _ (λ r. at r (eqb r q) refl ∙ ap (λ b. cond b (Some t) (get old r)) (sym (unsigned_tied r q)) ∙ sym (get-insert nat_cmp_total old q t r))
+    where
+      at : (r : ℕ) (b : Bool) → eqb r q ≡ b → get new r ≡ cond (eqb r q) (Some t) (get old r)
+      at r true e = ap (get new) (eqb-true r q e) ∙ here ∙ ap (λ b. cond b (Some t) (get old r)) (sym e)
+      at r false e = others r (eqb-false r q e) ∙ ap (λ b. cond b (Some t) (get old r)) (sym e)
+
+some_within : (members : List Member) (p : ℕ) → p < length members → is_some (option_map state_of (slice_get members p)) ≡ true
+some_within [] p within = absurd (omega arith)
+some_within (m ∷ members) zero within = refl
+some_within (m ∷ members) (suc p) within = some_within members p (omega arith)
+
+-- whoever stands at a place is there
+pub is_there : (places : List (Option ℕ)) (members : List Member) (q p : ℕ) → p < length members → get (states_of places members) q ≡ option_map state_of (slice_get members p) → true ≡ contains_key (states_of places members) q
+is_there places members q p within there = sym (ap is_some there ∙ some_within members p within)
+
+-- ---- a member is written where it stands
+
+pub put_in_a_row : (members : List Member) (i : ℕ) (x : Member) → i < length members → states_of [] (slice_set members i x) ≡ insert (states_of [] members) i (state_of x)
+put_in_a_row members i x within =
+    let long = row_length members in
+    ap by_place (row_set members i x) ∙ put_at (map (λ member. Some member) members) i x (omega arith)
+
+pub push_in_a_row : (members : List Member) (i : ℕ) (x : Member) → i ≡ length members → states_of [] (members ++ x ∷ []) ≡ insert (states_of [] members) i (state_of x)
+push_in_a_row members i x next =
+    let long = row_length members in
+    ap by_place (row_push members x) ∙ put_last (map (λ member. Some member) members) i x (omega arith)
+
+module _ (places : List (Option ℕ)) (members : List Member) where
+  -- each place has a member, and each member one number
+  abbrev pub AreWithin : Type 0
+  AreWithin = (q p : ℕ) → place_at places q ≡ Some p → p < length members
+
+  abbrev pub AreApart : Type 0
+  AreApart = (a b p : ℕ) → place_at places a ≡ Some p → place_at places b ≡ Some p → a ≡ b
+
+  pub put_by_table : (q p : ℕ) (x : Member) → 0 < length places → place_at places q ≡ Some p → AreWithin → AreApart
+      → states_of places (slice_set members p x) ≡ insert (states_of places members) q (state_of x)
+  put_by_table q p x some stands within apart =
+      one_more_state (states_of places members) (states_of places (slice_set members p x)) q (state_of x)
+      (state_by_table places (slice_set members p x) q some ∙ ap (λ o. option_map state_of (standing (slice_set members p x) o)) stands ∙ ap (option_map state_of) (get_set_same members p x (within q p stands)))
+      (λ r other.
+      state_by_table places (slice_set members p x) r some ∙ ap (option_map state_of) (elsewhere r other (place_at places r) refl) ∙ sym (state_by_table places members r some))
+    where
+      elsewhere : (r : ℕ) → ¬ (r ≡ q) → (o : Option ℕ) → place_at places r ≡ o → standing (slice_set members p x) (place_at places r) ≡ standing members (place_at places r)
+      elsewhere r other None is = ap (standing (slice_set members p x)) is ∙ ap (standing members) (sym is)
+      elsewhere r other (Some p') is =
+          ap (standing (slice_set members p x)) is
+          ∙ get_set_other members p p' x (λ same. other (apart r q p (is ∙ ap (λ n. Some n) same) stands))
+          ∙ ap (standing members) (sym is)
+
+  -- one that comes behind all others stands at the last place
+  pub push_by_table : (q n : ℕ) (x : Member) → q < length places → n ≡ length members → place_at places q ≡ None → AreWithin
+      → states_of (slice_set places q (Some n)) (members ++ x ∷ []) ≡ insert (states_of places members) q (state_of x)
+  push_by_table q n x reached last free within =
+      let longer : length (slice_set places q (Some n)) ≡ length places = length-set places q (Some n) in
+      let some : 0 < length places = omega (arith, reached) in
+      let some_after : 0 < length (slice_set places q (Some n)) = omega (arith, longer, reached) in
+      one_more_state (states_of places members) (states_of (slice_set places q (Some n)) (members ++ x ∷ [])) q (state_of x)
+      (state_by_table (slice_set places q (Some n)) (members ++ x ∷ []) q some_after
+      ∙ ap (λ o. option_map state_of (standing (members ++ x ∷ []) o)) (get_or-set_same places q (Some n) None reached)
+      ∙ ap (λ k. option_map state_of (slice_get (members ++ x ∷ []) k)) last
+      ∙ ap (option_map state_of) (get_last members x))
+      (λ r other.
+      state_by_table (slice_set places q (Some n)) (members ++ x ∷ []) r some_after
+      ∙ ap (λ o. option_map state_of (standing (members ++ x ∷ []) o)) (get_or-set_other places q r (Some n) None other)
+      ∙ ap (option_map state_of) (before r (place_at places r) refl)
+      ∙ sym (state_by_table places members r some))
+    where
+      before : (r : ℕ) (o : Option ℕ) → place_at places r ≡ o → standing (members ++ x ∷ []) (place_at places r) ≡ standing members (place_at places r)
+      before r None is = ap (standing (members ++ x ∷ [])) is ∙ ap (standing members) (sym is)
+      before r (Some p') is = ap (standing (members ++ x ∷ [])) is ∙ get_front members x p' (within r p' is) ∙ ap (standing members) (sym is)
+
+-- ---- the table
+
+-- a table that says the same holds the same
+pub same_table : (places' places : List (Option ℕ)) (members : List Member) → 0 < length places' → 0 < length places → ((q : ℕ) → place_at places' q ≡ place_at places q) → states_of places' members ≡ states_of places members
+same_table places' places members some' some same =
+    same_map nat_cmp_total nat_cmp-IsAntisymmetric _ _ (λ q.
+    state_by_table places' members q some' ∙ ap (λ o. option_map state_of (standing members o)) (same q) ∙ sym (state_by_table places members q some))
+
+-- a place in a row
+pub row_place : (places : List (Option ℕ)) (count q : ℕ) → ((k : ℕ) → k < count → place_at places k ≡ Some k) → length places ≡ count → (p : ℕ) → place_at places q ≡ Some p → p ≡ q × q < count
+row_place places count q each long p stands = by_test (nat_lt q count) refl
   where
-    by_test : (b : Bool) → nat_lt i n ≡ b → b ≡ false
-    by_test true h = let low = ltb-true i n h in absurd (omega arith)
-    by_test false h = refl
+    by_test : (b : Bool) → nat_lt q count ≡ b → p ≡ q × q < count
+    by_test true h = let low = ltb-true q count h in (same_Some p q (sym stands ∙ each q low), low)
+    by_test false h =
+        let over = ltb-false q count h in
+        absurd (false≢true (ap is_some (sym (get_or_past places q None (omega (arith, over, long))) ∙ stands)))
 
--- ---- where each place has a member
-
-all_there : (slots : List (Option Member)) (i : ℕ) → list_all is_some slots ≡ true → i < length slots → is_some (slot_at slots i) ≡ true
-all_there [] i all within = absurd (omega arith)
-all_there (o ∷ slots) zero all within = (and_parts (is_some o) (list_all is_some slots) all).0
-all_there (o ∷ slots) (suc i) all within = all_there slots i (and_parts (is_some o) (list_all is_some slots) all).1 (omega arith)
-
-pub has_each : (slots : List (Option Member)) (i : ℕ) → list_all is_some slots ≡ true → i < length slots → true ≡ contains_key (by_place slots) i
-has_each slots i all within = sym (is_there slots i ∙ all_there slots i all within)
-
--- each place still has one when a member is written at one of them
-pub all_with : (slots : List (Option Member)) (i : ℕ) (x : Member) → list_all is_some slots ≡ true → list_all is_some (slice_set slots i (Some x)) ≡ true
-all_with [] i x all = refl
-all_with (o ∷ slots) zero x all = (and_parts (is_some o) (list_all is_some slots) all).1
-all_with (o ∷ slots) (suc i) x all =
-    let both = and_parts (is_some o) (list_all is_some slots) all in and_from (is_some o) (list_all is_some (slice_set slots i (Some x))) both.0 (all_with slots i x both.1)
-
-all_with_last : (slots : List (Option Member)) (x : Member) → list_all is_some slots ≡ true → list_all is_some (slots ++ Some x ∷ []) ≡ true
-all_with_last slots x all = list_all-append is_some slots (Some x ∷ []) ∙ and_from (list_all is_some slots) true all refl
-
--- and when one comes behind all of them, or is refused
-pub all_pushed : {A F : Type 0} (slots after : List (Option Member)) (x : Member) (result : Result A F) → after ≡ (if is_ok result then slots ++ Some x ∷ [] else slots) → list_all is_some slots ≡ true → list_all is_some after ≡ true
-all_pushed slots after x (Ok _) is all = ap (list_all is_some) is ∙ all_with_last slots x all
-all_pushed slots after x (Err _) is all = ap (list_all is_some) is ∙ all
+-- a table of members in a row holds what they hold without it
+pub row_table : (places : List (Option ℕ)) (members : List Member) → 0 < length places → ((k : ℕ) → k < length members → place_at places k ≡ Some k) → ((k : ℕ) → length members ≤ k → place_at places k ≡ None)
+    → states_of places members ≡ states_of [] members
+row_table places members some each past =
+    same_map nat_cmp_total nat_cmp-IsAntisymmetric _ _ (λ q. state_by_table places members q some ∙ ap (option_map state_of) (at q (nat_lt q (length members)) refl) ∙ sym (state_in_a_row members q))
+  where
+    at : (q : ℕ) (b : Bool) → nat_lt q (length members) ≡ b → standing members (place_at places q) ≡ slice_get members q
+    at q true h = ap (standing members) (each q (ltb-true q (length members) h))
+    at q false h = let over = ltb-false q (length members) h in ap (standing members) (past q over) ∙ sym (get_past members q over)
 
 no_overflow_slot : (slot : Option Member) (t : State) → option_map state_of slot ≡ Some t → ¬ (IsOverflowed t)
 no_overflow_slot None t is = absurd (false≢true (ap is_some is))
@@ -168,4 +273,5 @@ no_overflow_slot (Some x) t is = subst (λ u. ¬ (IsOverflowed u)) (same_Some (s
 
 -- no member in memory has a counter past its limit
 pub part_no_overflow : {Q : Type 0} (set : Q → FinMap key_cmp Event) (part : Part Q) (m : ℕ) (t : State) → get (world_of set part).members m ≡ Some t → ¬ (IsOverflowed t)
-part_no_overflow set part m t is = no_overflow_slot (slot_at part.members.slots.items m) t (sym (state_at part.members.slots.items m) ∙ is)
+part_no_overflow set part m t is =
+    let slots = by_number part.members.places.items part.members.members.items in no_overflow_slot (slot_at slots m) t (sym (state_at slots m) ∙ is)

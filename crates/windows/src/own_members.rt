@@ -1,8 +1,9 @@
-//! A part's own members, stored by member number, so that an event finds its receiver without a search.
-ghost use Rattle.std.specs.Prelude.{◌≡◌, ◌<◌, true, Some, OnOk, IsErrOf, vec_len};
-ghost use Rattle.std.specs.Option.{is_some};
-ghost use Rattle.std.specs.List.{list_all};
+//! A part's own members, side by side, so that an event finds its receiver without a search.
+ghost use Rattle.std.specs.Prelude.{◌≡◌, ◌<◌, ◌≤◌, ◌×◌, ℕ, true, [], length, Some, None, OnOk, IfOk, IfSome, IfNone, IsErrOf, vec_len, slice_get, slice_set};
+ghost use Rattle.std.specs.Option.{is_some, option_map};
 ghost use Rattle.std.specs.FinMap.{get, contains_key, insert, empty};
+ghost use Rattle.member.specs.declared.member.Member.{Member};
+ghost use Rattle.windows.specs.WorldOf.{place_at};
 ghost use Rattle.scenario.specs.Setup.{member_count};
 ghost use Rattle.member.specs.Here.{IsSoundSetting, HoldsMembers, MentionsMembers};
 ghost use Rattle.member.specs.State.{State};
@@ -14,17 +15,44 @@ use base::{MemberId, Memory};
 use member::{Effects, Event, Member, StepError};
 use std::alloc::Global;
 
-/// The members of a part, each at the place of its number, so that an event's receiver is found at once.
+/// The members of a part, side by side, and where each number's member stands among them, so that an event's
+/// receiver is found at once.
 #[derive(Drop)]
 pub struct OwnMembers {
-    slots: Vec<Option<Member>>,
-    /// Whether each slot has a member: then no receiver is looked at before its event comes.
-    is_full: bool,
-    ghost filled: { is_full ≡ true → list_all is_some slots.items ≡ true },
+    /// The members, in the order in which they came.
+    members: Vec<Member>,
+    /// At each number the place of its member. Empty where these are the first numbers in order: then no table is
+    /// looked at.
+    places: Vec<Option<usize>>,
+    ghost within: { (number place : ℕ) → place_at places.items number ≡ Some place → place < length members.items },
+    ghost apart: { (a b place : ℕ) → place_at places.items a ≡ Some place → place_at places.items b ≡ Some place → a ≡ b },
+}
+
+/// The places of so many members that stand in the order of their numbers.
+fn in_order(alloc: Global, count: usize) -> Result<Vec<Option<usize>>, Memory>
+    ensures len { IfOk result (λ places. length places.items ≡ count) }
+    ensures each { IfOk result (λ places. (number : ℕ) → number < count → place_at places.items number ≡ Some number) }
+{
+    let mut places = Vec::new(alloc);
+    for place in 0..count {
+        places.push(Some(place))?;
+    }
+    Ok(places)
+}
+
+/// Has an entry for that number, with no place where there was none.
+fn reach(places: &mut Vec<Option<usize>>, number: usize) -> Result<(), Memory>
+    ensures reached { OnOk result (number < vec_len places.new) }
+    ensures same { (k : ℕ) → place_at places.new.items k ≡ place_at places.old.items k }
+{
+    while places.len() <= number {
+        places.push(None)?;
+    }
+    Ok(())
 }
 
 impl OwnMembers {
-    ghost use Rattle.windows.specs.WorldOf.{states_in};
+    ghost use Rattle.windows.specs.WorldOf.{states_of, states_in};
     ghost use Rattle.windows.specs.Handling.{Handles, OverflowsReceiver};
 
     /// Nobody. It takes no memory.
@@ -32,53 +60,86 @@ impl OwnMembers {
         ensures { states_in result ≡ empty }
     {
         OwnMembers {
-            slots: Vec::new(alloc),
-            is_full: true,
+            members: Vec::new(alloc),
+            places: Vec::new(alloc),
         }
     }
 
     /// Whether the part has a member of that number.
+    #[inline(always)]
     pub(crate) fn has(&self, number: &MemberId) -> bool
         ensures { result ≡ contains_key (states_in self.now) number.now }
     {
-        let place = number.index();
-        place < self.slots.len() && self.has_at(place)
+        self.place_of(number.index()).is_some()
     }
 
-    /// Whether a member stands at this place.
-    fn has_at(&self, place: usize) -> bool
-        requires { place < vec_len self.now.slots }
-        ensures { result ≡ contains_key (states_in self.now) place }
+    /// Where the member of that number stands: `None` where it is none of these.
+    #[inline(always)]
+    fn place_of(&self, number: usize) -> Option<usize>
+        ensures found { is_some result ≡ contains_key (states_in self.now) number }
+        ensures none { IfNone result (get (states_in self.now) number ≡ None) }
+        ensures within { IfSome result (λ place. place < vec_len self.now.members) }
+        ensures there { IfSome result (λ place. get (states_in self.now) number ≡ option_map state_of (slice_get self.now.members.items place)) }
+        ensures put { IfSome result (λ place. (member : Member) → states_of self.now.places.items (slice_set self.now.members.items place member) ≡ insert (states_in self.now) number (state_of member)) }
     {
-        if self.is_full {
-            return true;
+        if self.places.is_empty() {
+            return place_within(number, self.members.len());
         }
-        self.slots[place].is_some()
+        if self.places.len() <= number {
+            return None;
+        }
+        self.places[number]
     }
 
     /// Takes in a member under its number.
-    pub(crate) fn insert(&mut self, number: MemberId, member: Member) -> Result<(), Memory>
+    pub(crate) fn insert(
+        &mut self,
+        alloc: Global,
+        number: MemberId,
+        member: Member,
+    ) -> Result<(), Memory>
         ensures { OnOk result (states_in self.new ≡ insert (states_in self.old) number (state_of member)) }
     {
-        let place = number.index();
-        if self.slots.len() == place {
-            self.slots.push(Some(member))?;
+        let number = number.index();
+        if self.is_next(number) {
+            self.members.push(member)?;
             return Ok(());
         }
-        self.grow_to_member(number)?;
-        self.slots[place] = Some(member);
-        Ok(())
+        self.reach_number(alloc, number)?;
+        self.put(number, member)
     }
 
-    /// Has a place for that number.
-    fn grow_to_member(&mut self, number: MemberId) -> Result<(), Memory>
-        ensures same { OnOk result (states_in self.new ≡ states_in self.old) }
-        ensures place { OnOk result (number < vec_len self.new.slots) }
+    /// Whether the member of that number is the next one of members in the order of their numbers.
+    fn is_next(&self, number: usize) -> bool
+        ensures order { result ≡ true → self.now.places.items ≡ [] }
+        ensures next { result ≡ true → number ≡ length self.now.members.items }
     {
-        while self.slots.len() <= number.index() {
-            self.is_full = false;
-            self.slots.push(None)?;
+        self.places.is_empty() && self.members.len() == number
+    }
+
+    /// Has an entry for that number in the table of places.
+    fn reach_number(&mut self, alloc: Global, number: usize) -> Result<(), Memory>
+        ensures same { OnOk result (states_in self.new ≡ states_in self.old) }
+        ensures reached { OnOk result (number < vec_len self.new.places) }
+    {
+        if self.places.is_empty() {
+            self.places = in_order(alloc, self.members.len())?;
         }
+        reach(&mut self.places, number)
+    }
+
+    /// Takes in a member under a number that has an entry in the table of places.
+    fn put(&mut self, number: usize, member: Member) -> Result<(), Memory>
+        requires { number < vec_len self.old.places }
+        ensures { OnOk result (states_in self.new ≡ insert (states_in self.old) number (state_of member)) }
+    {
+        if let Some(place) = self.places[number] {
+            self.members[place] = member;
+            return Ok(());
+        }
+        let place = self.members.len();
+        self.members.push(member)?;
+        self.places[number] = Some(place);
         Ok(())
     }
 
@@ -97,18 +158,24 @@ impl OwnMembers {
         ensures ok { OnOk result (Handles cluster.entry.scenario.now event (states_in self.old) (states_in self.new) out.old out.new) }
         ensures overflow { IsErrOf result StepError.CounterOverflow → OverflowsReceiver cluster.entry.scenario.now event (states_in self.old) }
     {
-        let receiver = receiver_of(&event);
-        if self.slots.len() <= receiver {
-            return Ok(());
-        }
-        let Some(member) = &mut self.slots[receiver] else {
+        let Some(place) = self.place_of(receiver_of(&event)) else {
             return Ok(());
         };
+        let member = &mut self.members[place];
         member.step(alloc, in_parts(event), cluster.scenario, cluster.links, out)
     }
 }
 
-/// The place of the member that the event is for.
+/// The number, if there are so many.
+#[inline(always)]
+fn place_within(number: usize, count: usize) -> Option<usize>
+    ensures some { IfSome result (λ place. (place ≡ number) × (number < count)) }
+    ensures none { IfNone result (count ≤ number) }
+{
+    if number < count { Some(number) } else { None }
+}
+
+/// The number of the member that the event is for.
 fn receiver_of(event: &Event) -> usize
     ensures { result ≡ event.now.key.to }
 {

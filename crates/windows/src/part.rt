@@ -86,7 +86,7 @@ impl<Q: EventQueue<Event> + Drop> Part<Q> {
         ensures number { OnOk result (self.new.number ≡ self.old.number) }
     {
         let waiting = Member::of(alloc, scenario, member)?;
-        self.members.insert(member, waiting)?;
+        self.members.insert(alloc, member, waiting)?;
         let start = script_event(member, scenario.start(member), 0, EventKind::Start);
         push(&mut self.queue, start)?;
         match ending_of(scenario, member) {

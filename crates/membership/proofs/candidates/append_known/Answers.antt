@@ -1,5 +1,4 @@
-use Rattle.std.proofs.Common.{ℕ, List, ◌++◌, ap, ◌∙◌, sym}
-use Rattle.incarnation.specs.declared.Claim.{Claim}
+use Rattle.std.proofs.Common.{List, ◌++◌, ap, ◌∙◌, sym}
 use Rattle.membership.specs.declared.candidates.Candidate.{Candidate}
 use Rattle.membership.specs.Deaths.{since_of}
 use Rattle.membership.specs.Candidates.{does_fit}

@@ -21,10 +21,10 @@ loop-member-preserved c =
     let within : c.index.result < length c.loop-member.claims.items = omega (arith, below, here, c.index.ensures, c.loop-member.invariant.long) in
     record {
       held = alive_next c.args.members.now c.loop-member.member-index c.member-item.result _ _ c.loop-member-test.true c.member-item.is c.loop-member.invariant.held
-          (ap (λ l. known_of (entries_from 0 l [])) c.put_claim-counts.ensures.put
+          (ap (λ l. known_of (entries_from 0 l [])) c.put_alive-count.ensures.put
           ∙ table_set c.loop-member.claims.items [] c.index.result [] Alive 0 within refl (λ k other. refl)
           ∙ ap (λ n. insert (known_of (entries_from 0 c.loop-member.claims.items [])) n (Alive, 0)) c.index.ensures);
-      long = ap length c.put_claim-counts.ensures.put ∙ length-set c.loop-member.claims.items c.index.result _ ∙ c.loop-member.invariant.long;
-      counted = c.put_claim-counts.ensures.counted;
-      all = c.put_claim-counts.ensures.all;
+      long = ap length c.put_alive-count.ensures.put ∙ length-set c.loop-member.claims.items c.index.result _ ∙ c.loop-member.invariant.long;
+      counted = c.put_alive-count.ensures.counted;
+      all = c.put_alive-count.ensures.all;
     }

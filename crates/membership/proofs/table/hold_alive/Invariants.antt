@@ -7,6 +7,6 @@ abbrev pub invariant-loop-member : goal.invariant-loop-member
 invariant-loop-member l = record {
   held : known_of (entries_from 0 l.claims.items []) ≡ all_alive (take l.member-index l.members);
   long : length l.claims.items ≡ length l.fn.claims.items;
-  counted : l.counts.live ≡ sum_by claim_weight l.claims.items + 1;
-  all : l.counts.known ≡ sum_by known_weight l.claims.items + 1;
+  counted : l.count ≡ sum_by claim_weight l.claims.items + 1;
+  all : l.count ≡ sum_by known_weight l.claims.items + 1;
 }

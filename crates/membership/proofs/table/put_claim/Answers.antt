@@ -1,5 +1,5 @@
 use Rattle.std.proofs.Common.{Some, arith}
-use Rattle.membership.proofs.Columns.{weight_few, little_weight, known_few, known_small}
+use Rattle.membership.proofs.Columns.{weight_few, little_weight, known_few}
 use Rattle.membership.proofs.table.put_claim.Goals as goal
 
 pub overflow_add-result : goal.overflow_add-result
