@@ -1,5 +1,5 @@
 -- The members of a part at their places as the map of their states.
-use Rattle.std.proofs.Common.{◌≡◌, ℕ, zero, suc, ◌+◌, ◌<◌, ◌≤◌, Bool, true, false, cond, eqb, nat_lt, List, [], ◌∷◌, ◌++◌, map, length, Option, Some, None, slice_get, slice_set, length-set, ap, ◌∙◌, sym, subst, refl, arith}
+use Rattle.std.proofs.Common.{◌≡◌, ℕ, zero, suc, ◌+◌, ◌<◌, ◌≤◌, Bool, true, false, cond, eqb, nat_lt, List, [], ◌∷◌, ◌++◌, map, length, Option, Some, None, IfSome, IfNone, slice_get, slice_set, length-set, ap, ◌∙◌, sym, subst, refl, arith}
 use Rattle.std.specs.Option.{is_some, option_map}
 use Rattle.std.specs.List.{slice_index_or}
 use Rattle.std.specs.Ordering.{nat_cmp, eq_by_cmp}
@@ -16,7 +16,8 @@ use Rattle.member.specs.declared.event.Event.{Event}
 use Rattle.member.specs.CounterOverflow.{IsOverflowed}
 use Rattle.member.proofs.CounterOverflow.{not_overflow}
 use Rattle.windows.specs.declared.part.Part.{Part}
-use Rattle.windows.specs.WorldOf.{states_from, place_at, standing, by_number, states_of, world_of}
+use Rattle.windows.specs.ByNumber.{states_from, place_at, standing, by_number, states_of, StandsAt, IsPlaceOf}
+use Rattle.windows.specs.WorldOf.{world_of}
 
 -- who stands at a place
 abbrev pub slot_at : List (Option Member) → ℕ → Option Member
@@ -238,6 +239,30 @@ module _ (places : List (Option ℕ)) (members : List Member) where
       before : (r : ℕ) (o : Option ℕ) → place_at places r ≡ o → standing (members ++ x ∷ []) (place_at places r) ≡ standing members (place_at places r)
       before r None is = ap (standing (members ++ x ∷ [])) is ∙ ap (standing members) (sym is)
       before r (Some p') is = ap (standing (members ++ x ∷ [])) is ∙ get_front members x p' (within r p' is) ∙ ap (standing members) (sym is)
+
+-- where a member stands, without a table and with one
+pub place_in_a_row : (members : List Member) (q count : ℕ) (place : Option ℕ) → IfSome place (λ p. p ≡ q × q < count) → IfNone place (count ≤ q) → count ≡ length members → IsPlaceOf [] members q place
+place_in_a_row members q count None some none all = state_in_a_row members q ∙ ap (option_map state_of) (get_past members q (omega (arith, none, all)))
+place_in_a_row members q count (Some p) some none all =
+    let within : p < length members = omega (arith, some.0, some.1, all) in
+    record {
+      within = within;
+      there = ap (get (states_of [] members)) (sym some.0) ∙ state_in_a_row members p;
+      put = λ x. put_in_a_row members p x within ∙ ap (λ n. insert (states_of [] members) n (state_of x)) some.0;
+    }
+
+pub place_by_table : (places : List (Option ℕ)) (members : List Member) (q : ℕ) (place : Option ℕ) → 0 < length places → place_at places q ≡ place → AreWithin places members → AreApart places members → IsPlaceOf places members q place
+place_by_table places members q None some here within apart = state_by_table places members q some ∙ ap (λ o. option_map state_of (standing members o)) here
+place_by_table places members q (Some p) some here within apart =
+    record {
+      within = within q p here;
+      there = state_by_table places members q some ∙ ap (λ o. option_map state_of (standing members o)) here;
+      put = λ x. put_by_table places members q p x some here within apart;
+    }
+
+pub has_place : (places : List (Option ℕ)) (members : List Member) (q : ℕ) (place : Option ℕ) → IsPlaceOf places members q place → is_some place ≡ contains_key (states_of places members) q
+has_place places members q None none = ap is_some (sym none)
+has_place places members q (Some p) at = is_there places members q p at.within at.there
 
 -- ---- the table
 

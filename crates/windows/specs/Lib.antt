@@ -6,6 +6,7 @@ pub mod Play
 pub mod Choosing
 pub mod Cluster
 pub mod Horizon
+pub mod ByNumber
 pub mod WorldOf
 pub mod Wears
 pub mod Several

@@ -1,9 +1,8 @@
 //! A part's own members, side by side, so that an event finds its receiver without a search.
-ghost use Rattle.std.specs.Prelude.{◌≡◌, ◌<◌, ◌≤◌, ◌×◌, ℕ, true, [], length, Some, None, OnOk, IfOk, IfSome, IfNone, IsErrOf, vec_len, slice_get, slice_set};
-ghost use Rattle.std.specs.Option.{is_some, option_map};
+ghost use Rattle.std.specs.Prelude.{◌≡◌, ◌<◌, ◌≤◌, ℕ, true, [], length, Some, None, OnOk, IfOk, IfSome, IfNone, IsErrOf, vec_len};
 ghost use Rattle.std.specs.FinMap.{get, contains_key, insert, empty};
 ghost use Rattle.member.specs.declared.member.Member.{Member};
-ghost use Rattle.windows.specs.WorldOf.{place_at};
+ghost use Rattle.windows.specs.ByNumber.{place_at};
 ghost use Rattle.scenario.specs.Setup.{member_count};
 ghost use Rattle.member.specs.Here.{IsSoundSetting, HoldsMembers, MentionsMembers};
 ghost use Rattle.member.specs.State.{State};
@@ -52,7 +51,8 @@ fn reach(places: &mut Vec<Option<usize>>, number: usize) -> Result<(), Memory>
 }
 
 impl OwnMembers {
-    ghost use Rattle.windows.specs.WorldOf.{states_of, states_in};
+    ghost use Rattle.windows.specs.ByNumber.{IsPlaceOf};
+    ghost use Rattle.windows.specs.WorldOf.{states_in};
     ghost use Rattle.windows.specs.Handling.{Handles, OverflowsReceiver};
 
     /// Nobody. It takes no memory.
@@ -76,11 +76,7 @@ impl OwnMembers {
     /// Where the member of that number stands: `None` where it is none of these.
     #[inline(always)]
     fn place_of(&self, number: usize) -> Option<usize>
-        ensures found { is_some result ≡ contains_key (states_in self.now) number }
-        ensures none { IfNone result (get (states_in self.now) number ≡ None) }
-        ensures within { IfSome result (λ place. place < vec_len self.now.members) }
-        ensures there { IfSome result (λ place. get (states_in self.now) number ≡ option_map state_of (slice_get self.now.members.items place)) }
-        ensures put { IfSome result (λ place. (member : Member) → states_of self.now.places.items (slice_set self.now.members.items place member) ≡ insert (states_in self.now) number (state_of member)) }
+        ensures { IsPlaceOf self.now.places.items self.now.members.items number result }
     {
         if self.places.is_empty() {
             return place_within(number, self.members.len());
@@ -123,9 +119,21 @@ impl OwnMembers {
         ensures reached { OnOk result (number < vec_len self.new.places) }
     {
         if self.places.is_empty() {
-            self.places = in_order(alloc, self.members.len())?;
+            return self.set_places(alloc, number);
         }
         reach(&mut self.places, number)
+    }
+
+    /// Sets up the table of places, with an entry for that number.
+    fn set_places(&mut self, alloc: Global, number: usize) -> Result<(), Memory>
+        requires { self.old.places.items ≡ [] }
+        ensures same { OnOk result (states_in self.new ≡ states_in self.old) }
+        ensures reached { OnOk result (number < vec_len self.new.places) }
+    {
+        let mut places = in_order(alloc, self.members.len())?;
+        reach(&mut places, number)?;
+        self.places = places;
+        Ok(())
     }
 
     /// Takes in a member under a number that has an entry in the table of places.

@@ -1,28 +1,18 @@
-use Rattle.std.proofs.Common.{◌<◌, length, ap, ◌∙◌, arith}
+use Rattle.std.proofs.Common.{◌≡◌, [], ◌∷◌, ◌++◌, ap, ◌∙◌, sym, subst}
 use Rattle.std.specs.FinMap.{insert}
 use Rattle.member.specs.StateOf.{state_of}
-use Rattle.windows.proofs.Slots.{by_place, put_at, put_last, all_with, all_pushed}
+use Rattle.windows.specs.ByNumber.{states_of}
+use Rattle.windows.proofs.Slots.{push_in_a_row}
 use Rattle.windows.proofs.own_members.OwnMembers.insert.Goals as goal
 
-pub returns : goal.returns
-returns c =
-    let slots = c.grow_to_member.new.self.slots.items in
-    let state = state_of c.args.member in
-    let place = c.index-place.ensures in
-    let low = c.in_ok-grow_to_member.ensures.place in
-    let within : c.index-place.result < length slots = omega (arith, place, low) in
-    put_at slots c.index-place.result c.args.member within ∙ ap (λ q. insert (by_place slots) q state) place ∙ ap (λ m. insert m c.args.number state) c.in_ok-grow_to_member.ensures.same
-
-pub returns-then-len-place : goal.returns-then-len-place
-returns-then-len-place c =
-    let same = c.if-len-place.true in
-    let count = c.len.ensures in
-    let slots = c.args.self.now.slots.items in
-    let state = state_of c.args.member in
-    ap by_place c.in_ok-push.ensures.items ∙ put_last slots c.index-place.result c.args.member (omega (arith, same, count)) ∙ ap (λ q. insert (by_place slots) q state) c.index-place.ensures
-
-pub invariant_of-self : goal.invariant_of-self
-invariant_of-self c = record { filled = λ full. all_pushed c.args.self.now.slots.items c.push.new.self.items c.args.member c.push.result c.push.ensures.items (c.args.self.now.filled full) }
-
-pub invariant_of-self-2 : goal.invariant_of-self-2
-invariant_of-self-2 c = record { filled = λ full. all_with c.grow_to_member.new.self.slots.items c.index-place.result c.args.member (c.grow_to_member.new.self.filled full) }
+pub returns-then-is_next : goal.returns-then-is_next
+returns-then-is_next c =
+    let own = c.args.self.now in
+    let members = own.members.items in
+    let number = c.index-number.result in
+    let x = c.args.member in
+    let empty = c.is_next.ensures.order c.if-is_next.true in
+    let next = c.is_next.ensures.next c.if-is_next.true in
+    ap (states_of own.places.items) c.in_ok-push.ensures.items
+    ∙ subst (λ places. states_of places (members ++ x ∷ []) ≡ insert (states_of places members) number (state_of x)) (sym empty) (push_in_a_row members number x next)
+    ∙ ap (λ q. insert (states_of own.places.items members) q (state_of x)) c.index-number.ensures
