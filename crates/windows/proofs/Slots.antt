@@ -16,7 +16,7 @@ use Rattle.member.specs.declared.event.Event.{Event}
 use Rattle.member.specs.CounterOverflow.{IsOverflowed}
 use Rattle.member.proofs.CounterOverflow.{not_overflow}
 use Rattle.windows.specs.declared.part.Part.{Part}
-use Rattle.windows.specs.ByNumber.{states_from, place_at, standing, by_number, states_of, StandsAt, IsPlaceOf}
+use Rattle.windows.specs.ByNumber.{states_from, place_at, standing, by_number, states_of, IsPlaceOf}
 use Rattle.windows.specs.WorldOf.{world_of}
 
 -- who stands at a place

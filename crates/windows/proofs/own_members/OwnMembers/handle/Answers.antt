@@ -1,4 +1,4 @@
-use Rattle.std.proofs.Common.{◌≡◌, ◌<◌, Some, None, length, slice_get, ap, ◌∙◌, sym, subst, refl}
+use Rattle.std.proofs.Common.{length, ap, ◌∙◌, sym, subst, refl}
 use Rattle.std.specs.Result.{OnOk}
 use Rattle.std.specs.Option.{option_map}
 use Rattle.std.specs.FinMap.{get, insert}
@@ -24,9 +24,9 @@ pub step-requires-clause-known : goal.step-requires-clause-known
 step-requires-clause-known c =
     let own = c.args.self.now in
     let at : StandsAt own.places.items own.members.items c.receiver_of.result c.in-Some.place = subst (IsPlaceOf own.places.items own.members.items c.receiver_of.result) c.in-Some.is c.place_of.ensures in
-    let here = slice_get_read own.members.items (length own.members.items) c.in-Some.place c.index_mut.result.now refl at.within c.index_mut.ensures.value in
-    subst (λ (event : Event). HoldsMembers c.args.cluster.scenario.now event.key.to (state_of c.index_mut.result.now)) (sym c.in_parts.ensures)
-    (c.requires.known (state_of c.index_mut.result.now) (ap (get (states_in own)) (sym c.receiver_of.ensures) ∙ at.there ∙ ap (option_map state_of) here))
+    let here = slice_get_read own.members.items (length own.members.items) c.in-Some.place c.index_mut-member.result.now refl at.within c.index_mut-member.ensures.value in
+    subst (λ (event : Event). HoldsMembers c.args.cluster.scenario.now event.key.to (state_of c.index_mut-member.result.now)) (sym c.in_parts.ensures)
+    (c.requires.known (state_of c.index_mut-member.result.now) (ap (get (states_in own)) (sym c.receiver_of.ensures) ∙ at.there ∙ ap (option_map state_of) here))
 
 pub returns-clause-ok : goal.returns-clause-ok
 returns-clause-ok c =
@@ -34,9 +34,9 @@ returns-clause-ok c =
     let event = c.args.event in
     let own = c.args.self.now in
     let at : StandsAt own.places.items own.members.items c.receiver_of.result c.in-Some.place = subst (IsPlaceOf own.places.items own.members.items c.receiver_of.result) c.in-Some.is c.place_of.ensures in
-    let here = slice_get_read own.members.items (length own.members.items) c.in-Some.place c.index_mut.result.now refl at.within c.index_mut.ensures.value in
-    let t = state_of c.index_mut.result.now in
-    let made = subst (λ (e : Event). OnOk c.step.result (Steps s e c.index_mut.result.now c.step.new.self c.args.out.now c.step.new.out)) c.in_parts.ensures c.step.ensures.ok in
+    let here = slice_get_read own.members.items (length own.members.items) c.in-Some.place c.index_mut-member.result.now refl at.within c.index_mut-member.ensures.value in
+    let t = state_of c.index_mut-member.result.now in
+    let made = subst (λ (e : Event). OnOk c.step.result (Steps s e c.index_mut-member.result.now c.step.new.self c.args.out.now c.step.new.out)) c.in_parts.ensures c.step.ensures.ok in
     if_ok c.step.result made (λ steps.
     handled_by s event _ _ c.args.out.now c.step.new.out t (ap (get (states_in own)) (sym c.receiver_of.ensures) ∙ at.there ∙ ap (option_map state_of) here)
     (at.put c.step.new.self ∙ ap (λ q. insert (states_in own) q (state_of c.step.new.self)) c.receiver_of.ensures ∙ ap (insert (states_in own) event.key.to) steps.state)
@@ -46,10 +46,10 @@ pub returns-clause-overflow : goal.returns-clause-overflow
 returns-clause-overflow c = λ overflow.
     let own = c.args.self.now in
     let at : StandsAt own.places.items own.members.items c.receiver_of.result c.in-Some.place = subst (IsPlaceOf own.places.items own.members.items c.receiver_of.result) c.in-Some.is c.place_of.ensures in
-    let here = slice_get_read own.members.items (length own.members.items) c.in-Some.place c.index_mut.result.now refl at.within c.index_mut.ensures.value in
+    let here = slice_get_read own.members.items (length own.members.items) c.in-Some.place c.index_mut-member.result.now refl at.within c.index_mut-member.ensures.value in
     record {
-      member = state_of c.index_mut.result.now;
+      member = state_of c.index_mut-member.result.now;
       there = ap (get (states_in own)) (sym c.receiver_of.ensures) ∙ at.there ∙ ap (option_map state_of) here;
       overflow =
-          subst (λ (e : Event). IsOverflowed (step c.args.cluster.scenario.now e.key e.content (state_of c.index_mut.result.now)).state) c.in_parts.ensures (c.step.ensures.overflow overflow);
+          subst (λ (e : Event). IsOverflowed (step c.args.cluster.scenario.now e.key e.content (state_of c.index_mut-member.result.now)).state) c.in_parts.ensures (c.step.ensures.overflow overflow);
     }
