@@ -240,6 +240,45 @@ module _ (places : List (Option ℕ)) (members : List Member) where
       before r None is = ap (standing (members ++ x ∷ [])) is ∙ ap (standing members) (sym is)
       before r (Some p') is = ap (standing (members ++ x ∷ [])) is ∙ get_front members x p' (within r p' is) ∙ ap (standing members) (sym is)
 
+-- who comes behind all others keeps places within and numbers apart
+module _ (places : List (Option ℕ)) (number n : ℕ) where
+  kept_place : (q p : ℕ) → eqb q number ≡ false → place_at (slice_set places number (Some n)) q ≡ Some p → place_at places q ≡ Some p
+  kept_place q p other stands = sym (get_or-set_other places number q (Some n) None (eqb-false q number other)) ∙ stands
+
+  new_place : (q p : ℕ) → number < length places → eqb q number ≡ true → place_at (slice_set places number (Some n)) q ≡ Some p → p ≡ n
+  new_place q p reached same stands =
+      same_Some p n (sym stands ∙ ap (place_at (slice_set places number (Some n))) (eqb-true q number same) ∙ get_or-set_same places number (Some n) None reached)
+
+pub pushed_within : (places : List (Option ℕ)) (members : List Member) (number n : ℕ) (x : Member) → number < length places → n ≡ length members → AreWithin places members
+    → AreWithin (slice_set places number (Some n)) (members ++ x ∷ [])
+pushed_within places members number n x reached last within q p stands = by_test (eqb q number) refl
+  where
+    by_test : (b : Bool) → eqb q number ≡ b → p < length (members ++ x ∷ [])
+    by_test true e =
+        let same = new_place places number n q p reached e stands in
+        let longer = length_push members x in
+        omega (arith, same, last, longer)
+    by_test false e =
+        let low = within q p (kept_place places number n q p e stands) in
+        let longer = length_push members x in
+        omega (arith, low, longer)
+
+pub pushed_apart : (places : List (Option ℕ)) (members : List Member) (number n : ℕ) → number < length places → n ≡ length members → AreWithin places members → AreApart places members
+    → (a b p : ℕ) → place_at (slice_set places number (Some n)) a ≡ Some p → place_at (slice_set places number (Some n)) b ≡ Some p → a ≡ b
+pushed_apart places members number n reached last within apart a b p first second = by_tests (eqb a number) (eqb b number) refl refl
+  where
+    by_tests : (t u : Bool) → eqb a number ≡ t → eqb b number ≡ u → a ≡ b
+    by_tests true true e f = eqb-true a number e ∙ sym (eqb-true b number f)
+    by_tests true false e f =
+        let same = new_place places number n a p reached e first in
+        let low = within b p (kept_place places number n b p f second) in
+        absurd (omega (arith, same, last, low))
+    by_tests false true e f =
+        let same = new_place places number n b p reached f second in
+        let low = within a p (kept_place places number n a p e first) in
+        absurd (omega (arith, same, last, low))
+    by_tests false false e f = apart a b p (kept_place places number n a p e first) (kept_place places number n b p f second)
+
 -- where a member stands, without a table and with one
 pub place_in_a_row : (members : List Member) (q count : ℕ) (place : Option ℕ) → IfSome place (λ p. p ≡ q × q < count) → IfNone place (count ≤ q) → count ≡ length members → IsPlaceOf [] members q place
 place_in_a_row members q count None some none all = state_in_a_row members q ∙ ap (option_map state_of) (get_past members q (omega (arith, none, all)))
