@@ -72,3 +72,10 @@ loop-part-preserved g c =
           all_with_one (IsReady g.Q.EventQueue.set basis) c.loop-part.processes.items c.push.new.self.items process c.in_ok-push.ensures.items (so_far.processes basis is)
           (record { begins = begun.0; gathered = gathers_none basis given.0 number c.new-gathered.result c.new-gathered.ensures.since c.new-gathered.ensures.none; lines = begun.1 });
     }
+
+-- there is an end of a relay for each part
+pub unreachable-requires : goal.unreachable-requires
+unreachable-requires g c =
+    let left = c.loop-part.invariant.ends ∙ ap length c.in-Some.ensures.steps.0 in
+    let none = c.in_default.ensures.cases.0 in
+    omega (arith, left, none)
