@@ -8,7 +8,7 @@ The program is the one that ./swimsim has built, or FILE; nothing is built here.
 With --entries each line is a quiet cluster of 300 members with N entries of one kind: pauses, slow times, or cuts. They lie past
 the end, or each is met. A pause of 24,000 entries that touch follows; then 100 groups of three members with a path for each of
 9,900 pairs, 4,096 members that crash or leave past the end, and 4,096 groups of one member up to moment 0. Each is compared
-with the same cluster without the entries, by the least processor time of three runs.
+with the same cluster without the entries, by the least processor time of nine runs, by turns.
 
 A new process begins as a copy of this script, so peak memory below the script's own isn't seen, and is printed as <14 or so.
 
@@ -201,14 +201,21 @@ def print_counts(name, program, words, sizes, end, folder):
 
 
 def processor_time(program, words, text, folder):
-    """The rows of a run of the scenario, and the least processor seconds of three."""
-    rows, least = 0, math.inf
-    for _ in range(3):
-        before = resource.getrusage(resource.RUSAGE_CHILDREN)
-        rows, _, _ = measure_run(program, words, text, folder)
-        after = resource.getrusage(resource.RUSAGE_CHILDREN)
-        least = min(least, after.ru_utime + after.ru_stime - before.ru_utime - before.ru_stime)
-    return rows, least
+    """The rows of a run of the scenario, and its processor seconds."""
+    before = resource.getrusage(resource.RUSAGE_CHILDREN)
+    rows, _, _ = measure_run(program, words, text, folder)
+    after = resource.getrusage(resource.RUSAGE_CHILDREN)
+    return rows, after.ru_utime + after.ru_stime - before.ru_utime - before.ru_stime
+
+
+def least_times(program, words, texts, folder):
+    """The rows of each text's run, and the least of its processor seconds in nine rounds in which each text runs once."""
+    found = [(0, math.inf) for _ in texts]
+    for _ in range(9):
+        for number, text in enumerate(texts):
+            rows, seconds = processor_time(program, words, text, folder)
+            found[number] = (rows, min(seconds, found[number][1]))
+    return found
 
 
 def entries_of(entries, end):
@@ -227,12 +234,13 @@ def entries_of(entries, end):
 def print_entries(program, words, entries, end, folder):
     print(f'quiet clusters, {end // 1000} s simulated (a tenth of it with 4096 members)')
     print(f'{"entries":>16}{"number":>8}{"rows":>11}{"seconds":>10}   of those with none')
-    for name, plain, texts in entries_of(entries, end):
-        rows, none = processor_time(program, words, plain, folder)
-        print(f'{name:>16}{0:>8}{rows:>11}{none:>10.2f}', flush=True)
-        for name, number, text in texts:
-            rows, seconds = processor_time(program, words, text, folder)
-            print(f'{name:>16}{number:>8}{rows:>11}{seconds:>10.2f}   x{seconds / none:.2f}', flush=True)
+    for plain_name, plain, entered in entries_of(entries, end):
+        lines = [(plain_name, 0, plain), *entered]
+        found = least_times(program, words, [text for _, _, text in lines], folder)
+        none = found[0][1]
+        for (name, number, _), (rows, seconds) in zip(lines, found):
+            ratio = f'   x{seconds / none:.2f}' if number else ''
+            print(f'{name:>16}{number:>8}{rows:>11}{seconds:>10.2f}{ratio}', flush=True)
 
 
 def main():
