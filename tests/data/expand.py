@@ -1,7 +1,8 @@
 """What `expand` prints: of texts of version 4 (tests/data/expand/NAME.toml) their plain text (NAME.plain), or by which rule
 they are refused (judged.json); of texts of versions 1 to 3 the same as `check`, and their entries as they are.
 
-The second simulator is asked the same. Until the program runs texts of version 4 its other commands refuse them.
+The second simulator is asked the same. What `check` answers of a text of version 4 agrees with it, and the run of a text is that of
+its plain text.
 """
 
 import json
@@ -31,15 +32,14 @@ def expand(program, text):
 
 
 def check_text(program, name):
-    """Compares the plain text, which stands for itself, with the one worked out. `check` refuses both until the program
-    takes version 4."""
+    """Compares the plain text, which stands for itself, with the one worked out, and the run of the one with that of the other."""
     text, plain = (FOLDER / f'{name}.toml').read_bytes(), (FOLDER / f'{name}.plain').read_bytes()
     for held in (text, plain):
         expect('rule', rule_of(document_of(held)), 0)
         expect('plain text', plain_text(tomllib.loads(held.decode())).encode(), plain)
         expect_ran(expand(program, held), 0, plain, b'')
-        if NEWEST_TAKEN < 4 and program.call(['check', 's.toml']).status != 3:
-            raise Wrong('the program takes the text')
+    for what, seen, wanted in zip(('trace', 'report'), *(texts.run_of(program, held.decode()) for held in (text, plain))):
+        expect(what, seen, wanted)
 
 
 def said_by(row):
@@ -72,18 +72,20 @@ def check_words(program):
 
 
 def check_answer(program, text):
-    """Compares the answer to a text of version 4 with the second simulator's; of one of another version with that of
-    `check`."""
+    """Compares the answer to a text of version 4, and that of `check`, with the second simulator's; of one of another version
+    with that of `check`."""
     document = document_of(text.encode())
     if document is not None and document.get('version') != 4:
         check_earlier(program, text.encode())
         return
     rule = rule_of(document)
-    ran = expand(program, text)
+    ran, checked = expand(program, text), program.call(['check', 's.toml'])
     if rule:
-        expect_ran(ran, 3, b'', f'swimsim: scenario rule {rule}\n'.encode())
+        for seen in (ran, checked):
+            expect_ran(seen, 3, b'', f'swimsim: scenario rule {rule}\n'.encode())
     else:
         expect_ran(ran, 0, plain_text(document).encode(), b'')
+        expect_ran(checked, 0, f'members {sum(group["count"] for group in document["group"])}\n'.encode(), b'')
 
 
 def check_rule(program, base, old, new, rule):

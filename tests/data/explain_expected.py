@@ -4,13 +4,18 @@
     tests/data/explain_expected.py
 
 It writes tests/data/explain/accepted/NAME.txt and NAME.json for each scenario of examples/ and of tests/data/explain/accepted/. It knows nothing
-of the program: pairs of members are gone through one by one, lists are searched from their ends. It needs Python 3.11,
+of the program: pairs of members are gone through one by one, lists are searched from their ends; what a text of version 4 stands for
+is what the second simulator makes of it. It needs Python 3.11,
 for the reading of TOML; tests/programs/explain_accepted.py, which compares the program with these files, doesn't.
 """
 
 import json
+import sys
 import tomllib
 from pathlib import Path
+
+sys.path.append(str(Path(__file__).resolve().parents[1] / 'model'))
+from model_expand import expand, origins  # noqa: E402
 
 ROOM = Path(__file__).resolve().parent / 'explain' / 'accepted'
 TOP = Path(__file__).resolve().parents[2]
@@ -21,8 +26,9 @@ DEFAULTS = {
     'suspicion': {'alpha': 5, 'beta': 6},
     'lifeguard': {'probe': True, 'suspicion': True, 'buddy': True, 'ceiling': 8, 'confirmations': 3, 'nack_percent': 80},
     'link': {'jitter': 0, 'loss': 0},
-    'gossip': {'nodes': 3, 'dead': 0, 'push': 0},
-    'stream': {'connect': 1000, 'again': 200},
+    'gossip': {'nodes': 3, 'dead': 0, 'push': 0, 'queue': False, 'packet': 0, 'meta': 0},
+    'stream': {'connect': 1000, 'again': 200, 'limit': 10000, 'retry': 30000},
+    'serf': {'reconnect': 30000, 'reap': 86400000, 'linger': 1000},
 }
 SAID = {
     'late-answer': ('an answer can come after the timeout though nobody is slow',
@@ -75,6 +81,15 @@ def fine_logarithm(number):
     return 1000 * (len(str(number)) - 1) + fraction
 
 
+def finest_logarithm(number):
+    """Version 4's L: from three digits on the third one goes between the logarithms of the first two and of the next."""
+    digits = str(number)
+    if len(digits) < 3:
+        return fine_logarithm(number)
+    low, high = fine_logarithm(int(digits[:2])), fine_logarithm(int(digits[:2]) + 1)
+    return 1000 * (len(digits) - 2) + low + (high - low) * int(digits[2]) // 10
+
+
 def coarse_logarithm(number):
     """L of versions 1 and 2: by the leading digit."""
     digits = str(number)
@@ -85,20 +100,22 @@ class Cluster:
     """A scenario as its text says it, with the defaults."""
 
     def __init__(self, text):
-        said = tomllib.loads(text)
+        document = tomllib.loads(text)
+        self.is_fourth = document['version'] == 4
+        said = expand(document) if self.is_fourth else document
+        self.origins = origins(document) if self.is_fourth else {}
         self.text = text.splitlines()
         self.end = said['end']
-        self.is_third = said['version'] == 3
-        self.logarithm = fine_logarithm if self.is_third else coarse_logarithm
-        self.gossip = {**DEFAULTS['gossip'], **said['gossip']} if 'gossip' in said else None
+        self.is_third = said['version'] >= 3
+        self.logarithm = finest_logarithm if self.is_fourth else fine_logarithm if self.is_third else coarse_logarithm
+        self.gossip, self.serf = ({**DEFAULTS[table], **said[table]} if table in said else None for table in ('gossip', 'serf'))
         self.swim, self.suspicion, self.lifeguard, self.link, self.stream = (
             {**DEFAULTS[table], **said.get(table, {})} for table in ('swim', 'suspicion', 'lifeguard', 'link', 'stream'))
         self.groups = said['group']
         self.paths = [{**self.link, **path} for path in said.get('path', [])]
-        self.slows, self.crashes, self.leaves, self.cuts, self.pauses = (
-            said.get(table, []) for table in ('slow', 'crash', 'leave', 'cut', 'pause'))
+        self.slows, self.crashes, self.leaves, self.restarts, self.cuts, self.pauses, self.blocks = (
+            said.get(table, []) for table in ('slow', 'crash', 'leave', 'restart', 'cut', 'pause', 'block'))
         self.members = [(f'{group["name"]}-{index}', group) for group in self.groups for index in range(group['count'])]
-        self.gone = {it['member']: it['at'] for it in self.crashes + self.leaves}
 
     def header(self, name, number=None):
         """The number of the line of a table's header, from 0, of a list of tables that of an item; None where it isn't there."""
@@ -124,7 +141,15 @@ class Cluster:
                     return len(self.text) + 1, 1, 0
                 return self.key(key, begins)
             case (table, number, key):
-                return self.key(key, self.header(table, number))
+                item = self.origins[table][number] if table in self.origins else number
+                return self.key(key, self.header(table, item))
+
+    def is_down(self, member, moment):
+        """Whether a member has gone by a moment and not started again."""
+        turns = ((self.crashes, True), (self.leaves, True), (self.restarts, False))
+        events = sorted((it['at'], order, goes) for order, (items, goes) in enumerate(turns)
+                        for it in items if it['member'] == member and it['at'] <= moment)
+        return bool(events) and events[-1][2]
 
     def between(self, sender, receiver):
         """The link from the members of one group to those of another: the last path that names the two, else [link]."""
@@ -174,6 +199,15 @@ class Cluster:
     def limit(self):
         return self.swim['lambda'] * len(str(len(self.members)))
 
+    def queue(self):
+        """How packets are filled from a queue; None where they aren't."""
+        return {key: self.gossip[key] for key in ('packet', 'meta')} if self.gossip and self.gossip['queue'] else None
+
+    def room(self):
+        """What a packet holds: so many bytes, or so many updates."""
+        queue = self.queue()
+        return ('packet', queue['packet']) if queue and queue['packet'] else ('carry', self.swim['carry'])
+
     def push_wait(self):
         """From one push of a member to its next; 0 where nobody pushes."""
         doublings = 0
@@ -213,7 +247,7 @@ class Cluster:
 
     def is_quiet(self):
         """Whether nothing happens in the run."""
-        happens = self.slows + self.crashes + self.leaves + self.cuts + self.pauses
+        happens = self.slows + self.crashes + self.leaves + self.restarts + self.cuts + self.pauses + self.blocks
         late = any(group.get('start', 0) for group in self.groups)
         lost = any(link['loss'] for link in [self.link, *self.paths])
         return not (happens or late or lost) and self.trip() <= self.swim['timeout']
@@ -267,9 +301,10 @@ def told_of_items(c):
     for place, slow in enumerate(c.slows):
         about, late = ('slow', place, None), c.trip() + 2 * slow['extra']
         yield slow['from'] > c.end, 'slow-past-end', about, (slow['from'], c.end)
-        yield c.gone.get(slow['member'], slow['from'] + 1) <= slow['from'], 'slow-while-down', about, None
+        yield c.is_down(slow['member'], slow['from']), 'slow-while-down', about, None
         yield len(c.members) > 1 and late > c.swim['timeout'], 'slow-answer', ('slow', place, 'extra'), (late, c.swim['timeout'])
-    crashed = {it['member']: (it['at'], place) for place, it in enumerate(c.crashes)}
+    # of several crashes of a member the text's first one counts
+    crashed = {it['member']: (it['at'], place) for place, it in reversed(list(enumerate(c.crashes)))}
     for name, _ in c.members:
         if name in crashed:
             at, place = crashed[name]
@@ -282,7 +317,7 @@ def told_of_items(c):
     for place, pause in enumerate(c.pauses):
         about, begins = ('pause', place, None), pause['from']
         yield begins > c.end, 'pause-past-end', about, (begins, c.end)
-        yield c.gone.get(pause['member'], begins + 1) <= begins, 'pause-while-down', about, None
+        yield c.is_down(pause['member'], begins), 'pause-while-down', about, None
         lasts = pause['until'] - begins
         yield len(c.members) > 1 and lasts > c.least(), 'long-pause', about, (lasts, c.least())
 
@@ -306,9 +341,9 @@ def within(c, items, key):
 
 
 def crashes(c):
-    """The crashes up to the end, by the members' numbers."""
+    """The crashes up to the end, by the members' numbers, each member's in the order of moments."""
     order = {name: number for number, (name, _) in enumerate(c.members)}
-    return sorted(within(c, c.crashes, 'at'), key=lambda it: order[it['member']])
+    return sorted(within(c, c.crashes, 'at'), key=lambda it: (order[it['member']], it['at']))
 
 
 def script(c):
@@ -316,12 +351,17 @@ def script(c):
         yield f'crash {crash["member"]} {crash["at"]}'
     for leave in within(c, c.leaves, 'at'):
         yield f'leave {leave["member"]} {leave["at"]}'
+    for restart in within(c, c.restarts, 'at'):
+        contact = f' contact {restart["contact"]}' if 'contact' in restart else ''
+        yield f'restart {restart["member"]} {restart["at"]}{contact}'
     for slow in within(c, c.slows, 'from'):
         yield f'slow {slow["member"]} from {slow["from"]} until {slow["until"]} extra {slow["extra"]}'
     for cut in within(c, c.cuts, 'at'):
         yield f'cut {cut["from"]} {cut["to"]} from {cut["at"]} until {cut["until"]}'
     for pause in within(c, c.pauses, 'from'):
         yield f'pause {pause["member"]} from {pause["from"]} until {pause["until"]}'
+    for block in within(c, c.blocks, 'from'):
+        yield f'block {block["member"]} from {block["from"]} until {block["until"]}'
 
 
 def lines(c, file):
@@ -342,12 +382,17 @@ def lines(c, file):
         yield f'health {health} period {period} timeout {timeout}'
     yield f'nack {c.nack()}'
     limit = c.limit()
-    yield f'news messages {limit} all {limit * len(c.members)} carry {c.swim["carry"]}'
-    if c.gossip:
-        yield ' '.join(['gossip', *(f'{key} {c.gossip[key]}' for key in GOSSIP)])
+    yield f'news messages {limit} all {limit * len(c.members)} {" ".join(map(str, c.room()))}'
+    for table, item in (('gossip', c.gossip and {key: c.gossip[key] for key in GOSSIP}), ('queue', c.queue())):
+        if item:
+            yield ' '.join([table, *(f'{key} {value}' for key, value in item.items())])
     if c.is_third:
         yield f'fallback {"on" if c.swim["fallback"] else "off"}'
         yield f'stream connect {c.stream["connect"]} again {c.stream["again"]}'
+    if c.is_fourth:
+        yield f'dial limit {c.stream["limit"]} retry {c.stream["retry"]}'
+        if c.serf:
+            yield f'serf reconnect {c.serf["reconnect"]} reap {c.serf["reap"]} linger {c.serf["linger"]}'
     yield from script(c)
     period, second, messages, rows, size = c.quiet()
     yield f'quiet period {period} second {second}'
@@ -383,14 +428,18 @@ def figures(c):
             'health': [{'period': period, 'timeout': timeout} for period, timeout in c.paces()],
             'nack_delay': c.nack(),
             **({'fallback': c.swim['fallback'], 'stream': some(c.stream, 'connect', 'again')} if c.is_third else {}),
+            **({'dial': some(c.stream, 'limit', 'retry'), 'serf': c.serf} if c.is_fourth else {}),
         },
-        'news': {'limit': c.limit(), 'carry': c.swim['carry'], **({'gossip': some(c.gossip, *GOSSIP)} if c.gossip else {})},
+        'news': {'limit': c.limit(), **dict([c.room()]), **({'gossip': some(c.gossip, *GOSSIP)} if c.gossip else {}),
+                 **({'queue': c.queue()} if c.queue() else {})},
         'script': {
             'crashes': [some(it, 'member', 'at') for it in crashes(c)],
             'leaves': [some(it, 'member', 'at') for it in within(c, c.leaves, 'at')],
+            **({'restarts': [{**some(it, 'member', 'at'), 'contact': it.get('contact')} for it in within(c, c.restarts, 'at')]} if c.is_fourth else {}),
             'slows': [some(it, 'member', 'from', 'until', 'extra') for it in within(c, c.slows, 'from')],
             'cuts': [some(it, 'from', 'to', 'at', 'until') for it in within(c, c.cuts, 'at')],
             **({'pauses': [some(it, 'member', 'from', 'until') for it in within(c, c.pauses, 'from')]} if c.is_third else {}),
+            **({'blocks': [some(it, 'member', 'from', 'until') for it in within(c, c.blocks, 'from')]} if c.is_fourth else {}),
         },
         'quiet': {'messages_a_period': period, 'messages_a_second': second, 'messages': messages, 'rows': rows, 'bytes': size},
     }

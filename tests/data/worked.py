@@ -1,4 +1,4 @@
-"""Worked runs: scenarios of tests/data/worked whose whole trace or report was worked out by hand, or by the second simulator
+"""Worked runs: scenarios of tests/data/worked, and those of version 4 of tests/data/four, whose whole trace or report was worked out by hand, or by the second simulator
 where the text says so, run in every way."""
 
 import re
@@ -10,6 +10,7 @@ from program import Case, DATA, Wrong, expect, expect_ran
 from scenarios import NEWEST, document_of, judge
 
 FOLDER = DATA / 'worked'
+FOURTH = DATA / 'four'
 NUMBERS = (1, 2, 3, 64)
 
 # so many seeds are run in every way, and the others in the first two ways
@@ -60,42 +61,42 @@ def expect_counts(rows, counts):
             raise Wrong(f'{seen} in the place of {line}')
 
 
-def worked_file(name, ending):
-    """The bytes of a file of a worked run, None where it has none."""
-    path = FOLDER / f'{name}.{ending}'
-    return path.read_bytes() if path.exists() else None
+def worked_file(path, ending):
+    """The bytes of a file beside the text of a worked run, None where it has none."""
+    beside = path.with_suffix(f'.{ending}')
+    return beside.read_bytes() if beside.exists() else None
 
 
-def expect_left(name, text, left):
+def expect_left(path, text, left):
     """Compares the trace and the report of a text with what is known of the worked run."""
     trace, report = left
     scenario = scenario_of(text)
     rows = rows_in(scenario, trace.decode())
-    known = text_of(FOLDER / f'{name}.toml')
+    known = text_of(path)
     is_second = known.startswith('version = 1\n') and text.startswith('version = 2\n')
-    if worked_file(name, 'trace') is not None:
-        expect('trace', trace, worked_file(name, 'trace'))
-    if worked_file(name, 'counts') is not None:
-        expect_counts(rows, worked_file(name, 'counts').decode())
-    if worked_file(name, 'report') is not None:
-        expect('report', report, worked_file(name, 'report') + (b'sent bye 0 lost 0\n' if is_second else b''))
+    if worked_file(path, 'trace') is not None:
+        expect('trace', trace, worked_file(path, 'trace'))
+    if worked_file(path, 'counts') is not None:
+        expect_counts(rows, worked_file(path, 'counts').decode())
+    if worked_file(path, 'report') is not None:
+        expect('report', report, worked_file(path, 'report') + (b'sent bye 0 lost 0\n' if is_second else b''))
     expect('report on the trace', report, report_of(scenario, rows).encode())
 
 
-def check(program, name, text, is_by_all_ways):
+def check(program, path, text, is_by_all_ways):
     """Runs a text of a worked run, in every way or in two, and compares what it leaves."""
     ways = ways_of([member['name'] for member in scenario_of(text)['members']])
-    expect_left(name, text, run_in(program, text, ways if is_by_all_ways else ways[:2]))
+    expect_left(path, text, run_in(program, text, ways if is_by_all_ways else ways[:2]))
 
 
-def check_until_taken(program, name, text, rule):
+def check_until_taken(program, path, text, rule):
     """What can be seen of a worked run of a version that the program doesn't take yet: it is refused by this
     rule, and the model has the run."""
     texts.check(program, text, f'rule {rule}')
     _, scenario = judge(document_of(text.encode()), NEWEST)
     rows = rows_of(scenario)
-    expect('the model, trace', trace_of(scenario, rows).encode(), worked_file(name, 'trace'))
-    expect('the model, report', report_of(scenario, rows).encode(), worked_file(name, 'report'))
+    expect('the model, trace', trace_of(scenario, rows).encode(), worked_file(path, 'trace'))
+    expect('the model, report', report_of(scenario, rows).encode(), worked_file(path, 'report'))
 
 
 def text_of(path):
@@ -103,23 +104,23 @@ def text_of(path):
     return re.sub(r'\A(#.*\n)*', '', path.read_text())
 
 
-def seeds_of(name):
+def seeds_of(path):
     """The seeds for which a run was worked out, None where there is none but its own."""
-    match = re.search(r'^# seeds (\d+)\.\.(\d+)$', (FOLDER / f'{name}.toml').read_text(), re.M)
+    match = re.search(r'^# seeds (\d+)\.\.(\d+)$', path.read_text(), re.M)
     return range(int(match.group(1)), int(match.group(2)) + 1) if match else None
 
 
 def cases():
     """Each worked run with each of its seeds, and as a text of version 2."""
-    for path in sorted(FOLDER.glob('*.toml')):
-        name, text = path.stem, text_of(path)
+    for path in [*sorted(FOLDER.glob('*.toml')), *sorted(FOURTH.glob('*.toml'))]:
+        name, text = path.stem if path.parent == FOLDER else f'four/{path.stem}', text_of(path)
         rule = texts.rule_until_taken(text)
         if rule:
-            yield Case(f'worked run {name}, not taken yet', check_until_taken, (name, text, rule))
+            yield Case(f'worked run {name}, not taken yet', check_until_taken, (path, text, rule))
             continue
-        for place, seed in enumerate(seeds_of(name) or [7]):
+        for place, seed in enumerate(seeds_of(path) or [7]):
             seeded = text.replace('seed = 7\n', f'seed = {seed}\n')
-            yield Case(f'worked run {name}, seed {seed}', check, (name, seeded, place < SEEDS_BY_ALL_WAYS))
-        if text.startswith('version = 1\n') and seeds_of(name) is None:
+            yield Case(f'worked run {name}, seed {seed}', check, (path, seeded, place < SEEDS_BY_ALL_WAYS))
+        if text.startswith('version = 1\n') and seeds_of(path) is None:
             second = text.replace('version = 1\n', 'version = 2\n')
-            yield Case(f'worked run {name}, as a text of version 2', check, (name, second, True))
+            yield Case(f'worked run {name}, as a text of version 2', check, (path, second, True))

@@ -2,7 +2,8 @@
 """Random texts of version 4 as operators write them, for the second simulator: lengths with units, both directions,
 members by list, by group and by chance, times that come again.
 
-    tests/model/generate_written.py SEED NUMBER    prints the text of a case
+    tests/model/generate_written.py SEED NUMBER          prints the text of a case
+    tests/model/generate_written.py SEED NUMBER run      one whose run is short, with more of what members do
 
 Each text is accepted: what a text breaks is asked in tests/data/expand/judged.json.
 """
@@ -10,6 +11,8 @@ Each text is accepted: what a text breaks is asked in tests/data/expand/judged.j
 import random
 import sys
 
+# how many ticks the texts last, and those whose runs are short
+ENDS, SHORT = (60_000, 600_000, 3_600_000), (20_000, 60_000)
 UNITS = (('d', 86_400_000), ('h', 3_600_000), ('m', 60_000), ('s', 1_000), ('ms', 1))
 
 
@@ -38,7 +41,7 @@ def quoted(names):
 class Text:
     """A text while its lines are made."""
 
-    def __init__(self, chance):
+    def __init__(self, chance, ends):
         self.chance = chance
         self.lines = []
         self.groups = {f'{name}': chance.randint(1, 6) for name in chance.sample(['dc-1', 'Dc_2', 'b', 'rack-7-a'], chance.randint(1, 3))}
@@ -46,7 +49,7 @@ class Text:
             self.groups[next(iter(self.groups))] = 2
         self.late = {name: chance.choice((0, 0, 5000)) for name in list(self.groups)[1:]}
         self.members = [f'{name}-{place}' for name, count in self.groups.items() for place in range(count)]
-        self.end = chance.choice((60_000, 600_000, 3_600_000))
+        self.end = chance.choice(ends)
 
     def put(self, key, value):
         self.lines.append(f'{key} = {value}')
@@ -175,14 +178,47 @@ class Text:
                 self.length('extra', chance.randint(1, 2000))
 
 
+    def settings(self):
+        """Some tables that say what members do."""
+        chance = self.chance
+        if chance.random() < 0.7:
+            self.lines.append('[gossip]')
+            self.length('interval', chance.choice((100, 200, 700)))
+            self.length('dead', chance.choice((0, 3000, 30_000)))
+            self.length('push', chance.choice((0, 3000, 30_000)))
+            self.put('queue', chance.choice(('true', 'false')))
+            self.put('packet', chance.choice((0, 120, 1400)))
+            self.put('meta', chance.choice((0, 40)))
+        if chance.random() < 0.5:
+            self.lines.append('[serf]')
+            self.length('reconnect', chance.choice((1000, 30_000)))
+            self.length('reap', chance.choice((0, 20_000, 86_400_000)))
+            self.length('linger', chance.choice((1, 1000)))
+        self.lines.append('[stream]')
+        self.length('limit', chance.choice((1, 1000, 10_000)))
+        self.length('retry', chance.choice((2000, 30_000)))
+        self.lines.append('[suspicion]')
+        self.put('alpha', chance.choice((1, 4)))
+
+
 def written_text(seed, number):
     """The text of a case."""
-    text = Text(random.Random(f'written {seed} {number}'))
+    text = Text(random.Random(f'written {seed} {number}'), ENDS)
     text.head()
     text.links()
     text.script()
     return '\n'.join(text.lines) + '\n'
 
 
+def run_text(seed, number):
+    """The text of a case whose run has some thousand rows."""
+    text = Text(random.Random(f'written run {seed} {number}'), SHORT)
+    text.head()
+    text.links()
+    text.settings()
+    text.script()
+    return '\n'.join(text.lines) + '\n'
+
+
 if __name__ == '__main__':
-    sys.stdout.write(written_text(*map(int, sys.argv[1:3])))
+    sys.stdout.write((run_text if sys.argv[3:] else written_text)(*map(int, sys.argv[1:3])))

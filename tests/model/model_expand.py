@@ -3,7 +3,7 @@
 
     tests/model_expand.py FILE    prints the plain text of FILE
 
-Written from docs/designs/VERSION-4.md ("What a text stands for") alone. A plain text has whole numbers of ticks,
+Written from docs/VERSION-4.md ("The text") alone. A plain text has whole numbers of ticks,
 one member an entry, one direction a path or cut, and no chance. The text must be accepted: this file judges
 no rule but the tenth, which depends on draws. It needs Python 3.11, whose library reads TOML.
 """
@@ -133,6 +133,8 @@ class Expansion:
         self.numbers = {name: number for number, name in enumerate(self.starts)}
         self.made = 0
         self.restarts = []
+        # the place of the text's entry of each plain one, but for the restarts of `back`
+        self.origins = {section: [] for section in SCRIPT}
 
     def chosen(self, names, count):
         """So many of the names, in their order."""
@@ -217,9 +219,11 @@ class Expansion:
         plain = {}
         for section in SCRIPT:
             plain[section] = []
-            for entry in self.document.get(section, []):
+            for place, entry in enumerate(self.document.get(section, [])):
                 ticks = {key: plain_value(section, key, value, self.tick) for key, value in entry.items()}
-                plain[section] += kinds[section](ticks)
+                found = list(kinds[section](ticks))
+                plain[section] += found
+                self.origins[section] += [place] * len(found)
         plain['restart'] += self.restarts
         return plain
 
@@ -230,6 +234,15 @@ def both_ways(entry):
     if not entry.get('both', False) or one['from'] == one['to']:
         return [one]
     return [one, one | {'from': one['to'], 'to': one['from']}]
+
+
+def origins(document):
+    """By the name of a list the place of the item of each of its plain entries."""
+    expansion = Expansion(document, tick_of(document.get('tick', '1ms')))
+    expansion.lists()
+    ways = {section: [place for place, item in enumerate(document.get(section, [])) for _ in both_ways(item)]
+            for section in ('path', 'cut')}
+    return {**expansion.origins, **ways}
 
 
 def expand(document):

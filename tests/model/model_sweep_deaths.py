@@ -16,6 +16,8 @@ Z = Fraction(196, 100)
 
 RUN_COLUMNS = ['alarms', 'deaths', 'deaths_well', 'restarts', 'whole']
 CASE_COLUMNS = ['alarms', 'deaths', 'deaths_well', 'deaths_day', 'day_low', 'day_high']
+# the columns of a run of an earlier version
+NO_RUN_DEATHS = dict.fromkeys(RUN_COLUMNS, '')
 
 
 def run_deaths(scenario, rows):
@@ -24,6 +26,13 @@ def run_deaths(scenario, rows):
     return {'alarms': found.alarms, 'deaths': found.deaths, 'deaths_well': found.well,
             'restarts': sum(row.what == 'restart' for row in rows), 'whole': '' if since is None else since,
             'tick': scenario.get('tick', 1000)}
+
+
+def noted_deaths(figures):
+    """What a case keeps of these columns of a run: three of them, and how many microseconds the run lasts."""
+    if figures['deaths'] == '':
+        return []
+    return [figures['alarms'], figures['deaths'], figures['deaths_well'], figures['end'] * figures['tick']]
 
 
 def hundredths(middle, sign, square):

@@ -10,7 +10,7 @@ from fractions import Fraction
 
 from model_drawing import (FIGURE_END, axis_across, axis_up, cells, escaped, figure, grouped, heads, lasting, page_opening, place,
                            plot, time_alone)
-from model_sweeps import axes_of, cases_of, more_runs
+from model_sweeps import axes_of, cases_of, first_open, more_runs
 from model_sweep_times import times_figure
 
 # what the figures of keys show of a case, and how its 5th percentile, median and 95th percentile are called in its JSON object
@@ -31,6 +31,10 @@ WANTED = {
     'false_suspect': 'False suspicions per run: the average over all its runs is at most',
     'thrown_out': 'Members with a false death: the sum over all its runs is at most',
     'messages': 'Messages per member per 1,000 ticks: the average over all its runs is at most',
+    'alarms': 'Incidents per run: the average over all its runs is at most',
+    'deaths': 'Fatal incidents: the sum over all its runs is at most',
+    'deaths_well': 'Fatal incidents of members that were well: the sum over all its runs is at most',
+    'deaths_day': 'Fatal incidents of the whole cluster in a day: the whole 95&nbsp;% interval is at most',
 }
 # how far a safe setting's interval reaches at most, in thousandths
 SAFE = 50
@@ -53,7 +57,7 @@ class Shown:
         self.false, self.messages = hundredths(told['false_suspect']), hundredths(told['messages'])
         self.low, self.high = round(10 * told['share_low']), round(10 * told['share_high'])
         self.share = self.runs_with * 1000 // self.runs
-        self.deaths, self.few_deaths, self.many_deaths = told['deaths'], told['deaths_low'], told['deaths_high']
+        self.deaths, self.few_deaths, self.many_deaths = told['per_run'], told['per_run_low'], told['per_run_high']
         self.is_best = told['front']
         self.told = told
 
@@ -61,6 +65,11 @@ class Shown:
         """What its item shows, but for its name."""
         speed = (self.confirmed,) if crashed else (self.deaths, self.few_deaths, self.many_deaths)
         return (*speed, self.runs_with, self.runs, self.messages)
+
+    def day(self):
+        """Its fatal incidents in a day, and their interval."""
+        day, low, high = (rate(hundredths(self.told[name])) for name in ('deaths_day', 'day_low', 'day_high'))
+        return day, '-' if low == '-' else f'{low} to {high}'
 
     def safety(self):
         return 'safe' if self.high <= SAFE else 'unsafe' if self.low > SAFE else 'unknown'
@@ -131,6 +140,10 @@ class Page:
         on_front = [Front(self.across(case), at) for at, case in enumerate(self.cases)
                     if case.is_best and self.across(case) is not None]
         self.front = sorted(on_front)
+
+    def counts_incidents(self):
+        """Whether the table's version counts incidents."""
+        return any('deaths_day' in case.told for case in self.cases)
 
     @staticmethod
     def ticks(ticks):
@@ -228,9 +241,11 @@ class Page:
         return text + (f' and {grouped(len(places) - MOST_NAMED)} more' if len(places) > MOST_NAMED else '')
 
     def open_item(self, at):
-        # a setting that may meet all is open in the share alone
-        more = more_runs([want for want in self.wants if want.startswith('out<=')], self.cases[at].told)
-        told = ('no number of runs would decide: its share of runs with a false death is the goal itself' if more == '-' else
+        # a setting that may meet all is open in the share or in the fatal incidents of a day
+        wants = [want for want in self.wants if want.startswith(('out<=', 'deaths_day<='))]
+        more, is_of_day = more_runs(wants, self.cases[at].told), first_open(wants, self.cases[at].told).startswith('deaths_day')
+        told = ('the interval of its fatal incidents in a day isn\'t narrow enough yet; how many more runs would decide isn\'t known' if is_of_day else
+                'no number of runs would decide: its share of runs with a false death is the goal itself' if more == '-' else
                 f'<b>{more}</b> more {"run" if more == 1 else "runs"} would decide')
         return f'<li class="unknown"><span class="number">{grouped(at + 1)}</span><code>{self.name(at)}</code><span>{told}</span></li>'
 
@@ -360,7 +375,8 @@ class Page:
         late = ('suspected, median', 'confirmed, 99th percentile', 'confirmed, greatest', 'last confirmed, median', 'last confirmed, greatest')
         columns = ['number', *(key.replace('.', '.<wbr>') for key, _ in self.settings), *self.times(('confirmed, median',)),
                    'runs with a false death', 'their share', '95&nbsp;% interval', 'members with a false death per run',
-                   'their 95&nbsp;% interval', *self.times(late), 'false suspicions per run', 'messages per member per 1,000 ticks']
+                   'their 95&nbsp;% interval', *self.times(late), 'false suspicions per run', 'messages per member per 1,000 ticks',
+                   *(('fatal incidents in a day', 'their 95&nbsp;% interval') if self.counts_incidents() else ())]
         text = figure('cases', 'All settings')
         since = 'counted from the crash on' if self.tick else 'in ticks since the crash'
         told = (f'Times are {since}, over all crashes of all runs; a dash stands where too few crashes were detected.' if self.crashed else
@@ -374,7 +390,7 @@ class Page:
         begin, star = ('<tr class="best">', '&#9733;&nbsp;') if case.is_best else ('<tr>', '')
         times = (case.suspected, case.late, case.latest, case.last, case.last_latest)
         values = (*map(word, self.choices[at]), *self.times((self.time(case.confirmed),)), *self.shares(case),
-                  *self.times(tuple(map(self.time, times))), rate(case.false), rate(case.messages))
+                  *self.times(tuple(map(self.time, times))), rate(case.false), rate(case.messages), *(case.day() if self.counts_incidents() else ()))
         return f'{begin}{row_head(star + grouped(at + 1))}{cells("td", values)}</tr>\n'
 
 

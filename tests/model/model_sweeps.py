@@ -12,7 +12,7 @@ from math import inf, isqrt
 
 import model
 import model_text
-from model_sweep_deaths import CASE_COLUMNS, RUN_COLUMNS, case_deaths, run_deaths
+from model_sweep_deaths import CASE_COLUMNS, NO_RUN_DEATHS, RUN_COLUMNS, case_deaths, noted_deaths, run_deaths
 from scenarios import NEWEST, NEWEST_TAKEN, judge, version_of
 
 RUN_FIGURES = [
@@ -129,7 +129,7 @@ def refusal_of(rule, settings, case):
 
 def figures_of(scenario, rows, version):
     """What is told of a run of a sweep of a text of this version, and `times`, `members`, `end` and `version`, which its
-    case needs."""
+    case needs. Of a run of an earlier version, by `--set version`, what is new in version 4 isn't told."""
     crashes = model_text.ends_of(scenario, rows, 'crash')
     times = {name: [None if crash[place] is None else max(0, crash[place] - crash[1]) for crash in crashes]
              for place, name in enumerate(['suspect', 'confirm', 'last'], 2)}
@@ -139,7 +139,8 @@ def figures_of(scenario, rows, version):
     sent = [row.lost for row in rows if row.what in MESSAGES]
     return {
         'times': times, 'members': len(scenario['members']), 'end': scenario['end'], 'version': version,
-        **(run_deaths(scenario, rows) if version >= FIRST_TOLD['deaths'] else {}), 'revived': model_text.revived(scenario, rows),
+        **(run_deaths(scenario, rows) if scenario['version'] >= FIRST_TOLD['deaths'] else NO_RUN_DEATHS),
+        'revived': model_text.revived(scenario, rows),
         'rows': len(rows), 'crashes': len(crashes), 'detected': len(confirm),
         'suspect_least': min(suspect, default=''), 'confirm_least': min(confirm, default=''),
         'confirm_greatest': max(confirm, default=''), 'last_greatest': max(last, default=''),
@@ -168,7 +169,7 @@ def word(value):
 def note_of(figures):
     """What a case keeps of a run, as it is written."""
     told = [figures['false_suspect'], figures['thrown_out'], figures['revived'], figures['sent'],
-            figures['members'] * figures['end']]
+            figures['members'] * figures['end'], *noted_deaths(figures)]
     times = zip(*(figures['times'][name] for name in ('suspect', 'confirm', 'last')))
     return ' '.join(map(str, [*told, *('-' if time is None else time for crash in times for time in crash)]))
 
@@ -234,7 +235,7 @@ def nearest_hundredth(value):
 
 
 def deaths_per_run(counts):
-    """The mean of the runs' false deaths and the ends of its 95 % interval, in hundredths: Poisson's score interval, widened where the
+    """The mean of the runs' members with a false death and the ends of its 95 % interval, in hundredths: Poisson's score interval, widened where the
     runs' variance shows more."""
     runs, found = len(counts), sum(counts)
     mean = Fraction(found, runs)
@@ -242,7 +243,7 @@ def deaths_per_run(counts):
     z = Fraction(196, 100)
     root = Fraction(isqrt(int((max(found, seen) + z * z / 4) * 8000**2)), 8000)
     low, high = (max(0, found + z * z / 2 + sign * z * root) / runs for sign in (-1, 1))
-    return {'deaths': nearest_hundredth(mean), 'deaths_low': nearest_hundredth(low), 'deaths_high': nearest_hundredth(high)}
+    return {'per_run': nearest_hundredth(mean), 'per_run_low': nearest_hundredth(low), 'per_run_high': nearest_hundredth(high)}
 
 
 def decimal(number, digits):
@@ -273,6 +274,8 @@ def case_figures(figures):
 
 def told_deaths(figures):
     """What a case of a text of version 4 has of deaths, as it is told."""
+    if figures[0]['deaths'] == '':
+        return dict.fromkeys(CASE_COLUMNS, '-')
     found = case_deaths(figures)
     for name in ('alarms', 'deaths_day', 'day_low', 'day_high'):
         found[name] = '-' if found[name] is None else decimal(found[name], 2)
@@ -300,7 +303,8 @@ def told_of_cases(cases):
 
 def figure(told, name):
     """A figure of a case as a number; one that isn't there is greater than any."""
-    return inf if told[name] == '-' else Fraction(told[name])
+    held = told.get(name, '-')
+    return inf if held in ('-', None) else Fraction(held)
 
 
 def has_crash(cases):
@@ -336,6 +340,8 @@ def answer_to(want, told):
     """Whether a case shows what is wanted, shows that it isn't so, or neither: 'shown', 'refuted' or 'open'."""
     name, _, bound = want.partition('<=')
     bound = Fraction(bound)
+    if name == 'deaths_day':
+        return 'shown' if figure(told, 'day_high') <= bound else 'refuted' if figure(told, 'day_low') > bound else 'open'
     if name != 'out':
         return 'shown' if figure(told, name) <= bound else 'refuted'
     if bound >= 1:
@@ -348,9 +354,17 @@ def answer_to(want, told):
     return 'refuted' if share > bound and not is_inside(bound, told) else 'open'
 
 
+def first_open(wants, told):
+    """The first that is wanted and not shown."""
+    return next(want for want in wants if answer_to(want, told) != 'shown')
+
+
 def more_runs(wants, told):
-    """How many more runs would tell, if the share stays."""
-    bound = next(Fraction(want.partition('<=')[2]) for want in wants if answer_to(want, told) != 'shown')
+    """How many more runs would tell, if the share stays; of fatal incidents in a day it isn't told."""
+    name, _, bound = first_open(wants, told).partition('<=')
+    if name == 'deaths_day':
+        return '-'
+    bound = Fraction(bound)
     share = Fraction(told['runs_with'], told['runs'])
     if bound >= 1 or share == bound:
         return '-'

@@ -1,6 +1,6 @@
 """Which rule a text of version 4 breaks, as it is written, or the scenario that it says, for the second simulator.
 
-Written from docs/designs/VERSION-4.md ("What a text stands for", "Rules of the written text") alone. Whatever a plain
+Written from docs/VERSION-4.md ("The text", "Refusals") alone. Whatever a plain
 text of version 3 keeps is asked here, too, but of rules that version 4 hasn't (rule 8).
 """
 
@@ -65,8 +65,9 @@ def written_keys():
 # ---- Rules 2 to 5: the shape ----
 
 def entries_of(document, *sections):
-    """The entries of these lists."""
-    return [entry for section in sections for entry in document.get(section, []) if isinstance(entry, dict)]
+    """The entries of these lists; one that is no list, which breaks rule 4, has none."""
+    lists = [document.get(section) for section in sections]
+    return [entry for held in lists if isinstance(held, list) for entry in held if isinstance(entry, dict)]
 
 
 def lacks_who_or_when(document):

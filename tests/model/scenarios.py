@@ -13,7 +13,7 @@ import tomllib
 # the newest version of the format, and the newest that the program takes. Whatever compares the program with
 # these models goes by the second: runs, texts and sweeps of later versions are held against no program.
 NEWEST = 4
-NEWEST_TAKEN = 3
+NEWEST_TAKEN = 4
 
 REQUIRED = object()
 

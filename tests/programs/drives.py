@@ -101,6 +101,14 @@ def check_closed(program, text):
     expect('report and page', (program.held('r.txt'), program.held('p.html')), (b'', b''))
 
 
+def check_newest(program):
+    """A scenario of version 4 is refused before anything is told or made."""
+    program.keep('s.toml', (DATA / 'expand' / 'alone.plain').read_bytes())
+    ran = call(drive_words(program), cwd=program.folder)
+    expect_ran(ran, 3, b'', b'swimsim: scenario version: drive takes versions 1 to 3\n')
+    expect('the files', [program.held(name) for name in ('t.csv', 'r.txt', 'p.html')], 3 * [None])
+
+
 def check_smallest(program):
     """The smallest harness, in C, plays the smallest scenario."""
     built = program.folder / 'smallest'
@@ -131,6 +139,7 @@ def cases():
         yield Case(f'drive of the program, own members: random run {number}', check_own,
                    (run_case(SEED, number, NEWEST_RUN)[0],))
     yield Case('drive of the program: standard output is closed', check_closed, (drives[0]['text'],))
+    yield Case('drive of the program: version 4 is refused', check_newest, ())
     yield Case('drive of the program: the harness in Python', check_python, ())
     if shutil.which('cc'):
         yield Case('drive of the program: the smallest harness', check_smallest, ())

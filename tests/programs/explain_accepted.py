@@ -137,7 +137,7 @@ def cases(program):
 
 
 def main():
-    judge_cases(cases(program_at(parser_of(__doc__, TOP / 'swimsim').parse_args().program)))
+    judge_cases(cases(program_at(parser_of(__doc__).parse_args().program)))
 
 
 if __name__ == '__main__':

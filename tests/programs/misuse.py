@@ -227,12 +227,21 @@ def sizes(uses, room, whole):
     """More than there may be in a version of the format, and long lists."""
     folder = folder_of(room, 'sizes')
     second = TWO_MEMBERS.replace('version = 1', 'version = 2')
+    fourth = TWO_MEMBERS.replace('version = 1', 'version = 4')
     cut = '[[cut]]\nfrom = "n"\nto = "n"\nat = 1\nuntil = 2\n'
+    # every one of them lasts a tick, and the next begins two ticks after it began: 50,000 a member in 100,000 ticks
+    often = '[[pause]]\ngroup = "n"\nfrom = 1\nuntil = {}\nevery = 1\nlasts = 1\n'
     for what, text, status, line in (('4,097 members', second.replace('count = 2', 'count = 4097'), 3, b'swimsim: scenario rule 5\n'),
                                      ('twice 2,049', second.replace('count = 2', 'count = 2049').replace('[[group]]', '[[group]]\nname = "m"\ncount = 2049\n[[group]]'),
                                       3, b'swimsim: scenario rule 10\n'),
                                      ('a cut in version 1', TWO_MEMBERS + cut, 3, b'swimsim: scenario rule 3\n'),
-                                     ('version 4', TWO_MEMBERS.replace('version = 1', 'version = 4'), 3, b'swimsim: scenario rule 5\n'),
+                                     ('version 5', TWO_MEMBERS.replace('version = 1', 'version = 5'), 3, b'swimsim: scenario rule 5\n'),
+                                     ('16,384 members in version 4', fourth.replace('count = 2', 'count = 16384'), 0, b''),
+                                     ('16,385 members', fourth.replace('count = 2', 'count = 16385'), 3, b'swimsim: scenario rule 5\n'),
+                                     ('50,000 restarts', fourth + '[[restart]]\nmember = "n-1"\nat = 3\n' * 50_000, 0, b''),
+                                     ('100,000 pauses by chance', fourth + often.format(100_000), 0, b''),
+                                     ('two more', fourth + often.format(100_002), 3, b'swimsim: scenario rule 10\n'),
+                                     ('10^12 pauses by chance', fourth + often.format(2**40), 3, b'swimsim: scenario rule 10\n'),
                                      ('50,000 cuts', second + cut * 50_000, 0, b'')):
         (folder / 'f').write_text(text)
         left = uses.call(folder, ['check', 'f'])

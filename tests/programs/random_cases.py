@@ -1,11 +1,12 @@
 #!/usr/bin/env python3
 """Compares the program with tests/model/model.py on random cases.
 
-    tests/programs/random_cases.py [--program FILE] [--seed N] [--runs 300] [--far 12] [--texts 2000] [--sweeps 20] [--newest V]
+    tests/programs/random_cases.py [--program FILE] [--seed N] [--runs 300] [--far 12] [--written 30] [--texts 2000] [--sweeps 20]
+        [--newest V]
 
 The program is the one that ./swimsim has built, or FILE. Of each run the trace and the report are compared
-byte for byte, by 1 to 3 workers and some division; of each text what `check` says of it; of each sweep its
-table and its lines. The seed is made of the sources' SHA-256 unless one is given, so that other cases are
+byte for byte, by 1 to 3 workers and some division, also of texts of version 4 as operators write them; of each text what
+`check` says of it; of each sweep its table and its lines. The seed is made of the sources' SHA-256 unless one is given, so that other cases are
 tried with each change. Texts are of versions 1 to V of the format; without V to the newest that the program
 takes (NEWEST_TAKEN in tests/model/scenarios.py). A comparison that fails is told with its text and its first
 differing line. The last line is `N passed, M failed`, and the status is 1 where M is over 0. It needs
@@ -13,12 +14,14 @@ Python 3.11. The program sees eight processors, as by tests/programs/cases.py.
 """
 
 import hashlib
+import random
 import tempfile
 from concurrent.futures import ProcessPoolExecutor
 from pathlib import Path
 
 import paths  # noqa: F401 (puts the folders of what follows on the path)
 import generate
+import generate_written
 import model
 import model_sweeps
 import model_text
@@ -87,6 +90,12 @@ def try_far(program, folder, seed, number, newest):
     return tried(program, folder, generate.far_case(seed, number, newest), site_division_of, newest)
 
 
+def try_written(program, folder, seed, number, newest):
+    """The same of a run of a text with units, groups, chance and times that come again."""
+    text = generate_written.run_text(seed, number).encode()
+    return tried(program, folder, (text, None, random.Random(f'{seed} division {number}')), division_of, newest)
+
+
 def tried(program, folder, case, words_of, newest):
     """The same of this case, by words that are made for its members."""
     text, _, rng = case
@@ -138,7 +147,7 @@ def try_sweep(program, folder, seed, number, newest):
     return ['sweep', 'FILE', '--table', 'T', *options], text, compared(expected, found)
 
 
-TRIALS = {'run': try_run, 'far': try_far, 'text': try_text, 'sweep': try_sweep}
+TRIALS = {'run': try_run, 'far': try_far, 'written': try_written, 'text': try_text, 'sweep': try_sweep}
 
 
 def fault_of(case):
@@ -149,6 +158,8 @@ def fault_of(case):
     if difference is None:
         return None
     again = f'tests/model/generate.py {seed} {kind} {number} {newest}'
+    if kind == 'written':
+        again = f'tests/model/generate_written.py {seed} {number} run'
     shown = text.decode(errors='backslashreplace')
     return (f'FAILED {kind} {number}: {difference}\nby: swimsim {" ".join(words)}\n'
             f'the text, by {again}:\n{shown}\n')
@@ -159,6 +170,7 @@ def main():
     arguments.add_argument('--seed', type=int)
     arguments.add_argument('--runs', type=int, default=300)
     arguments.add_argument('--far', type=int, default=12)
+    arguments.add_argument('--written', type=int, default=30)
     arguments.add_argument('--texts', type=int, default=2000)
     arguments.add_argument('--sweeps', type=int, default=20)
     arguments.add_argument('--newest', type=int, default=NEWEST_TAKEN)
@@ -166,7 +178,8 @@ def main():
     program = program_at(options.program)
     seed = seed_of_sources() if options.seed is None else options.seed
     print(f'seed {seed}, versions 1 to {options.newest}')
-    counts = {'run': options.runs, 'far': options.far, 'text': options.texts, 'sweep': options.sweeps}
+    written = options.written if options.newest >= 4 else 0
+    counts = {'run': options.runs, 'far': options.far, 'written': written, 'text': options.texts, 'sweep': options.sweeps}
     cases = [(program, seed, kind, number, options.newest) for kind in counts for number in range(counts[kind])]
     with tempfile.TemporaryDirectory() as room:
         StandIn(Path(room)).free_processors()

@@ -5,8 +5,8 @@ ghost use Rattle.advice.specs.Told.{IsBeginning, TellsFirst};
 use crate::settings::text_with;
 use base::Memory;
 use diagnostics::of_refused;
-use scenario_reader::read;
 use std::alloc::Global;
+use text_reader::read_text;
 
 /// The first diagnostic of a text that breaks this rule, as `explain` prints it of a file of this name. Where only the text with
 /// these values of a setting breaks it, as `KEY=V KEY=V`, the first line of that one's: places in it are none of the file.
@@ -51,12 +51,12 @@ fn first_line(lines: &str) -> &str
 
 /// Whether a text is an accepted scenario.
 pub(crate) fn is_accepted(alloc: Global, bytes: &[u8]) -> bool {
-    read(alloc, bytes).is_ok()
+    read_text(alloc, bytes).is_ok()
 }
 
 /// Whether a text breaks this rule, and no lower one.
 fn breaks(alloc: Global, bytes: &[u8], rule: u8) -> bool {
-    match read(alloc, bytes) {
+    match read_text(alloc, bytes) {
         Ok(_) => false,
         Err(refusal) => refusal.rule == rule,
     }

@@ -1,7 +1,10 @@
 //! The limits of a simulation.
 
 /// The most members of a cluster.
-pub const MOST_MEMBERS: u64 = 4096;
+pub const MOST_MEMBERS: u64 = 16_384;
+
+/// The most members of a cluster whose text has version 2 or 3.
+pub const MOST_MEMBERS_BEFORE_4: u64 = 4096;
 
 /// The most members of a cluster whose text has version 1.
 pub const MOST_MEMBERS_AT_FIRST: u64 = 1024;

@@ -29,7 +29,7 @@ use Rattle.drive_command.specs.Outcomes.{DriveEnds, DriveFails, DrivesAll}
 use Rattle.command_line.specs.declared.driving.DriveWords.{DriveWords}
 use Rattle.cli.specs.Outcomes.{AsksForProgress, CheckFails, EndsRunBy, HasDone, Fails, HoldsScenario}
 use Rattle.files.specs.Files.{Making}
-use Rattle.command_line.specs.Printed.{rows_line, PresetFails, PrintsPreset}
+use Rattle.command_line.specs.Printed.{members_line, rows_line, PresetFails, PrintsPreset}
 use Rattle.command_line.specs.Words.{Answers, AsksForRun, AsksForCheck, AsksForDrive, AsksForExpand, AsksForExplain, AsksForInit, AsksForJoin, AsksForPage, AsksForShard, AsksForSweep, AsksToDrive, IsCommand}
 use Rattle.command_line.specs.declared.release.Release.{Release}
 use Rattle.command_line.specs.declared.words.Asked.{Asked}
@@ -459,7 +459,16 @@ asked_expand_unprinted Refused words before after making old new gave heard answ
     let asks : Answers words (asked.Expand file) = subst (Answers words) is h in
     IfErr-weaker printed _ _ (λ failure output. subst (Fails Refused words before after making old new gave heard) (sym output) (inr (inr (inr (inr (inr (inr (inr (inr (text, (file.now, asks, stands, same))))))))))) told
 
--- the number of members that the words ask for was not printed
+-- the number of members that the words ask for was printed
+pub asked_check_done : {E : Type 0} (release : Release) (words : List Text) (before after : Shelf) (making : Making) (old new : Option (List ℕ)) (gave : List (List ℕ)) (heard : List ℕ) (answer : Asked) (file : Bor Text) (s : Setup) (members : ℕ)
+    (printed : Result (Unit {0}) E) → answer ≡ asked.Check file → Answers words answer → (after ≡ before) → HasVerdict (before file.now) (Ok s) → members ≡ member_count s
+    → OnOk printed (Appends old new (members_line members)) → OnOk printed (HasDone release words before after making old new gave heard)
+asked_check_done release words before after making old new gave heard answer file s members printed is h same accepted counted told =
+    let asks : Answers words (asked.Check file) = subst (Answers words) is h in
+    let holds : HoldsScenario (before file.now) members = record { scenario = s; accepted = accepted; counted = counted } in
+    on_ok_weaker printed (λ appended. inr (inl (members, (file.now, asks, holds, same), appended))) told
+
+-- or not printed
 pub asked_check_unprinted : (Refused : Type 0) (words : List Text) (before after : Shelf) (making : Making) (old new : Option (List ℕ)) (gave : List (List ℕ)) (heard : List ℕ) (answer : Asked) (file : Bor Text) (s : Setup)
     (printed : Result (Unit {0}) Failure) → answer ≡ asked.Check file → Answers words answer → (after ≡ before) → HasVerdict (before file.now) (Ok s)
     → IfErr printed (λ failure. failure ≡ Output) → IfErr printed (Fails Refused words before after making old new gave heard)

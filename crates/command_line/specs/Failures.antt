@@ -1,7 +1,6 @@
 -- How a command that failed ends, and what users read of it.
 use Rattle.std.specs.Prelude.{◌≡◌, ℕ, Bool, true, false, if◌then◌else◌, List, [], ◌∷◌, ◌++◌, Option, Result, Err, codes, string_bytes}
 use Rattle.std.specs.Fmt.{decimal}
-use Rattle.scenario_reader.specs.Rules.{verdict}
 use Rattle.scenario.specs.Division.{Deal}
 use Rattle.scenario.specs.declared.division.DivisionFault.{DivisionFault}
 use Rattle.scenario.specs.declared.division.DivisionFault.TheVariants as division
@@ -24,6 +23,7 @@ use Rattle.command_line.specs.declared.failure.ShardFault.TheVariants as shard
 abbrev pub stop_status : DriveStop → ℕ
 stop_status (stop.Answer place cause event) = 6
 stop_status stop.Closed = 1
+stop_status stop.Version = 3
 
 -- the exit status
 abbrev pub status_of : Failure → ℕ
@@ -103,12 +103,13 @@ answer_message place cause event =
 abbrev pub stop_message : DriveStop → List ℕ
 stop_message (stop.Answer place cause event) = answer_message place cause (string_bytes event)
 stop_message stop.Closed = codes "output"
+stop_message stop.Version = codes "scenario version: drive takes versions 1 to 3"
 
 -- what failed, in words
 abbrev pub message_of : Failure → List ℕ
 message_of (File name) = codes "file " ++ shown_name name.now
 message_of Usage = codes "usage"
-message_of Preset = codes "usage: the presets are local, lan, wan and swim"
+message_of Preset = codes "usage: the presets are local, lan, wan, serf, serf-wan, consul, consul-wan and swim"
 message_of (NoItem key) = codes "usage: no item of " ++ string_bytes key
 message_of (Rule number) = codes "scenario rule " ++ decimal number
 message_of (Mistaken number) = codes "scenario rule " ++ decimal number
@@ -125,6 +126,7 @@ message_of Output = codes "output"
 abbrev pub is_closed : DriveStop → Bool
 is_closed (stop.Answer place cause event) = false
 is_closed stop.Closed = true
+is_closed stop.Version = false
 
 -- whether no line reports the failure: standard output failed
 abbrev pub is_silent : Failure → Bool
@@ -146,12 +148,6 @@ is_silent Memory = false
 -- the line on standard error, with its line feed
 abbrev pub failure_line : Failure → List ℕ
 failure_line failure = if is_silent failure then [] else codes "swimsim: " ++ message_of failure ++ 10 ∷ []
-
--- what a scenario's text may be refused by: a rule, which is its verdict, or want of memory
-abbrev pub RefusesText : List ℕ → Failure → Type 0
-RefusesText bytes (Rule rule) = verdict bytes ≡ Err rule
-RefusesText bytes Memory = Unit {0}
-RefusesText bytes _ = ⊥
 
 -- no number of workers is asked for
 abbrev pub RefusesWorkers : Option Text → Failure → Type 0

@@ -32,6 +32,8 @@ pub enum DriveStop {
     },
     /// Standard output was closed.
     Closed,
+    /// The scenario's text is of version 4 of the format, whose members start again and are blocked: no harness is asked that yet.
+    Version,
 }
 
 /// The exit status of a drive that was stopped so.
@@ -41,6 +43,7 @@ pub(crate) fn stop_status(stop: &DriveStop) -> u8
     match stop {
         DriveStop::Answer { .. } => 6,
         DriveStop::Closed => 1,
+        DriveStop::Version => 3,
     }
 }
 
@@ -51,6 +54,7 @@ pub(crate) fn is_closed(stop: &DriveStop) -> bool
     match stop {
         DriveStop::Answer { .. } => false,
         DriveStop::Closed => true,
+        DriveStop::Version => false,
     }
 }
 
@@ -65,6 +69,7 @@ pub(crate) fn write_stop<W: fmt::Write>(f: &mut fmt::Formatter<W>, stop: &DriveS
             event,
         } => write_answer(f, *place, *cause, event),
         DriveStop::Closed => f.write_str("output"),
+        DriveStop::Version => f.write_str("scenario version: drive takes versions 1 to 3"),
     }
 }
 

@@ -12,8 +12,7 @@ use std::alloc::{AllocError, Global};
 pub(crate) fn expand_command<'a>(alloc: Global) -> Result<Command<'a>, AllocError>
     ensures { IfOk result (IsLocal expand_app) }
 {
-    let about =
-        "Prints what a scenario stands for in plain entries, of version 4 too, which no command runs yet";
+    let about = "Prints what a scenario stands for in plain entries, as `run` takes it";
     with_file(alloc, new_command(alloc, "expand", about))
 }
 

@@ -116,7 +116,9 @@ impl fmt::Display for Failure<'_> {
                 write_name(f, name)
             }
             Failure::Usage => f.write_str("usage"),
-            Failure::Preset => f.write_str("usage: the presets are local, lan, wan and swim"),
+            Failure::Preset => f.write_str(
+                "usage: the presets are local, lan, wan, serf, serf-wan, consul, consul-wan and swim",
+            ),
             Failure::NoItem { key } => write!(f, "usage: no item of {key}"),
             Failure::Rule(rule) | Failure::Mistaken(rule) => write!(f, "scenario rule {rule}"),
             Failure::Setting { rule, swept_keys } => {

@@ -32,7 +32,9 @@ fn preset_argument<'a>(alloc: Global) -> Arg<'a>
     ensures local { result.global ≡ false }
 {
     Arg::new(alloc, "PRESET")
-        .help("Whose settings it has: memberlist's local, lan or wan, or the defaults of swim")
+        .help(
+            "Whose settings it has: memberlist's local, lan or wan, serf or serf-wan, consul or consul-wan, or the defaults of swim",
+        )
         .required(true)
 }
 

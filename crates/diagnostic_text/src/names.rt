@@ -1,17 +1,41 @@
 //! The words of diagnostics of rules 6 and 7.
 use crate::context::Context;
 use crate::nearest::distance;
+use crate::rows::version_of;
 use crate::shown::shown_name;
 use crate::words::Words;
 use diagnostics::Known;
+use schema::Version;
 use std::alloc::{AllocError, Global};
 use toml_places::Span;
 
 /// How many groups are listed.
 const MOST_GROUPS: usize = 8;
 
-/// Rule 6: a group's name has another form.
+/// Rule 6: a group's name, or in version 4 an entry's, has another form.
 pub(crate) fn group_name_words(context: &Context<'_>, span: Span) -> Result<Words, AllocError> {
+    match version_of(context) {
+        Version::One | Version::Two | Version::Three => narrow_name_words(context, span),
+        Version::Four => wide_name_words(context, span),
+    }
+}
+
+/// Rule 6: a name of version 4 has another form.
+fn wide_name_words(context: &Context<'_>, span: Span) -> Result<Words, AllocError> {
+    let alloc = context.alloc;
+    let shown = context.shown_name(span)?;
+    Words::of(
+        format!(in alloc; "`{shown}` can't be a name here"),
+        String::from_str(alloc, "write another name"),
+        String::from_str(
+            alloc,
+            "a name has 1 to 32 letters, digits, `-` and `_`, a letter first and no `-` last",
+        ),
+    )
+}
+
+/// Rule 6: a group's name has another form than before version 4.
+fn narrow_name_words(context: &Context<'_>, span: Span) -> Result<Words, AllocError> {
     let alloc = context.alloc;
     let name = context.name(span)?;
     let shown = context.shown_name(span)?;

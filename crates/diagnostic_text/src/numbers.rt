@@ -1,7 +1,7 @@
 //! What to write in place of a value that isn't a whole number.
 use crate::context::Context;
 use crate::decimal::number_of;
-use crate::lengths::nanoseconds;
+use crate::nanoseconds::nanoseconds;
 use diagnostics::ValueKind;
 use schema::{FormatKey, KeyRule, Kind};
 use std::alloc::{AllocError, Global};
@@ -69,6 +69,8 @@ fn is_time(key: FormatKey) -> bool {
         FormatKey::End | FormatKey::Period | FormatKey::Timeout | FormatKey::Spread => true,
         FormatKey::Interval | FormatKey::Dead | FormatKey::Push => true,
         FormatKey::Connect | FormatKey::Again => true,
+        FormatKey::Limit | FormatKey::Retry => true,
+        FormatKey::Reconnect | FormatKey::Reap | FormatKey::Linger => true,
         FormatKey::Delay | FormatKey::Jitter | FormatKey::Extra => true,
         FormatKey::Start | FormatKey::At | FormatKey::From | FormatKey::Until => true,
         _ => false,

@@ -1,6 +1,6 @@
 //! Words on tables and keys, from the rows of the format.
 use crate::context::Context;
-use diagnostics::{Home, ValueKind};
+use diagnostics::{Home, ValueKind, entry_keys};
 use schema::{Absence, FormatKey, KeyRule, Kind, Section, Version};
 use std::alloc::{AllocError, Global};
 
@@ -31,10 +31,40 @@ fn is_listed(section: Section) -> bool {
     match section {
         Section::Top | Section::Swim | Section::Suspicion | Section::Lifeguard | Section::Link =>
             false,
-        Section::Gossip | Section::Stream => false,
+        Section::Gossip | Section::Stream | Section::Serf => false,
         Section::Group | Section::Path | Section::Slow | Section::Departure | Section::Cut => true,
-        Section::Pause => true,
+        Section::Pause | Section::Restart => true,
     }
+}
+
+/// The keys of a table in a version.
+pub(crate) fn table_keys(
+    alloc: Global,
+    version: Version,
+    home: Home,
+) -> Result<String, AllocError> {
+    if version == Version::Four {
+        return fourth_keys(alloc, home);
+    }
+    keys_text(alloc, home.section.rows(version), false)
+}
+
+/// The keys of a table in version 4.
+fn fourth_keys(alloc: Global, home: Home) -> Result<String, AllocError> {
+    match home.section {
+        Section::Slow | Section::Departure | Section::Pause | Section::Restart => {
+            String::from_str(alloc, entry_keys(home.key.unwrap_or(FormatKey::Pause)))
+        }
+        Section::Top => more_keys(alloc, home.section, "tick"),
+        Section::Path | Section::Cut => more_keys(alloc, home.section, "both"),
+        _ => keys_text(alloc, home.section.rows(Version::Four), false),
+    }
+}
+
+/// The keys of a section and one more.
+fn more_keys(alloc: Global, section: Section, more: &str) -> Result<String, AllocError> {
+    let keys = keys_text(alloc, section.rows(Version::Four), false)?;
+    format!(in alloc; "{keys}, {more}")
 }
 
 /// The keys of rows, or those of them that are required.
@@ -122,7 +152,8 @@ pub(crate) fn version_of(context: &Context<'_>) -> Version {
 pub(crate) fn told_version(context: &Context<'_>) -> Version {
     match version_of(context) {
         Version::One | Version::Two => Version::Two,
-        Version::Three | Version::Four => Version::Three,
+        Version::Three => Version::Three,
+        Version::Four => Version::Four,
     }
 }
 

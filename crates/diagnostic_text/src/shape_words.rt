@@ -5,8 +5,8 @@ use crate::foreign::foreign_kind;
 use crate::nearest::nearest_key;
 use crate::numbers::{LOSS, whole_label};
 use crate::rows::{
-    default_text, found_text, header_text, home_text, keys_text, told_version, version_number,
-    version_of, wanted_text,
+    default_text, found_text, header_text, home_text, keys_text, table_keys, told_version,
+    version_number, version_of, wanted_text,
 };
 use crate::words::Words;
 use diagnostics::{Cause, Diagnostic, Home, ValueKind};
@@ -73,20 +73,18 @@ fn missing_note(context: &Context<'_>, home: Home, row: KeyRule) -> Result<Strin
             "the version decides which keys there are; the rest is judged once it is there",
         );
     }
-    keys_note(context, home, "needs", true)
-}
-
-/// The keys of a table, or those of them that are required.
-fn keys_note(
-    context: &Context<'_>,
-    home: Home,
-    verb: &str,
-    only_required: bool,
-) -> Result<String, AllocError> {
     let alloc = context.alloc;
     let place = home_text(alloc, home)?;
-    let keys = keys_text(alloc, home.section.rows(version_of(context)), only_required)?;
-    format!(in alloc; "{place} {verb}: {keys}")
+    let keys = keys_text(alloc, home.section.rows(version_of(context)), true)?;
+    format!(in alloc; "{place} needs: {keys}")
+}
+
+/// The keys of a table.
+fn keys_note(context: &Context<'_>, home: Home) -> Result<String, AllocError> {
+    let alloc = context.alloc;
+    let place = home_text(alloc, home)?;
+    let keys = table_keys(alloc, version_of(context), home)?;
+    format!(in alloc; "{place} has: {keys}")
 }
 
 /// What isn't there.
@@ -174,7 +172,7 @@ pub(crate) fn unknown_words(
         None => Words::of(
             unknown_message(context, home, found, span),
             unknown_label(context, home, name.as_str()),
-            keys_note(context, home, "has", false),
+            keys_note(context, home),
         ),
     }
 }
@@ -201,7 +199,7 @@ fn alias_note(context: &Context<'_>, home: Home, alias: Alias) -> Result<String,
             context.alloc,
             "docs/MEMBERLIST.md lists memberlist's names next to these",
         ),
-        Alias::End | Alias::Until => keys_note(context, home, "has", false),
+        Alias::End | Alias::Until => keys_note(context, home),
     }
 }
 

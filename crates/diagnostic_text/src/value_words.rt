@@ -12,6 +12,7 @@ fn departure_words(departure: DepartureKind) -> (&'static str, &'static str) {
     match departure {
         DepartureKind::Crash => ("crashes", "crash"),
         DepartureKind::Leave => ("leaves", "leave"),
+        DepartureKind::Restart => ("starts again", "restart"),
     }
 }
 

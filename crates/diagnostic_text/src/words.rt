@@ -1,5 +1,6 @@
 //! The words of a diagnostic.
 use crate::context::Context;
+use crate::fourth_words::fourth_words;
 use crate::names::{group_name_words, group_words, member_words, repeated_words};
 use crate::rows::version_of;
 use crate::shape_words::{
@@ -78,7 +79,7 @@ pub(crate) fn words_of(
     }
 }
 
-/// The words of a diagnostic of rules 8 to 10, or of one of which the rule alone is known.
+/// The words of a diagnostic of rules 8 to 10, of one that only version 4 has, or of one of which the rule alone is known.
 fn later_rule_words(context: &Context<'_>, diagnostic: &Diagnostic) -> Result<Words, AllocError> {
     let span = diagnostic.span;
     match diagnostic.cause {
@@ -98,7 +99,7 @@ fn later_rule_words(context: &Context<'_>, diagnostic: &Diagnostic) -> Result<Wo
         } => early_words(context, departure, at, start),
         Cause::EndsTooSoon { key, begins, until } => end_words(context, key, begins, until),
         Cause::TooManyMembers { members, most } => size_words(context, members, most),
-        _ => general_words(context, diagnostic.rule),
+        _ => fourth_words(context, diagnostic),
     }
 }
 
@@ -112,6 +113,24 @@ fn stretches_rule(version: Version) -> &'static str {
     }
 }
 
+/// The words of rule 6 in a version.
+fn names_rule(version: Version) -> &'static str {
+    match version {
+        Version::One | Version::Two | Version::Three => {
+            "a group name is of another form or stands twice"
+        }
+        Version::Four => "a name is of another form or stands twice",
+    }
+}
+
+/// The words of rule 10 in a version.
+fn size_rule(version: Version) -> &'static str {
+    match version {
+        Version::One | Version::Two | Version::Three => "there are too many members",
+        Version::Four => "there are too many members, or times that come again",
+    }
+}
+
 /// What is wrong where a rule is broken.
 fn rule_text(version: Version, rule: u8) -> &'static str {
     match rule {
@@ -120,17 +139,17 @@ fn rule_text(version: Version, rule: u8) -> &'static str {
         3 => "a key is unknown",
         4 => "a value is of another kind",
         5 => "a whole number is outside its range",
-        6 => "a group name is of another form or stands twice",
+        6 => names_rule(version),
         7 => "a name is no member's or no group's",
         8 => stretches_rule(version),
         9 => "a moment or a length of time may not be",
-        10 => "there are too many members",
+        10 => size_rule(version),
         _ => "the text breaks a rule",
     }
 }
 
 /// The words of a rule.
-fn general_words(context: &Context<'_>, rule: u8) -> Result<Words, AllocError> {
+pub(crate) fn general_words(context: &Context<'_>, rule: u8) -> Result<Words, AllocError> {
     let message = rule_text(version_of(context), rule);
     Words::fixed(context.alloc, message, "", "docs/FORMAT.md has the rules")
 }

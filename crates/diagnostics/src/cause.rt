@@ -1,5 +1,6 @@
 //! The causes of diagnostics in a scenario text, by the rule that each breaks (1 to 10), with the values that a
 //! diagnostic shows.
+use crate::wanted::Wanted;
 use schema::{FormatKey, KeyRule, Section, Version};
 use toml_places::Span;
 
@@ -23,11 +24,13 @@ pub struct Home {
     pub key: Option<FormatKey>,
 }
 
-/// How a member goes.
+/// How a member goes, or comes again.
 #[derive(Clone, Copy, Debug, PartialEq, Eq)]
 pub enum DepartureKind {
     Crash,
     Leave,
+    /// It starts again.
+    Restart,
 }
 
 /// Why a text breaks a rule, with the values at hand.
@@ -49,6 +52,15 @@ pub enum Cause {
     /// Rule 2: a group that starts at this moment has no contact.
     MissingContact {
         start: i64,
+    },
+    /// Rule 2: an entry names no member and no group.
+    NamesNobody {
+        home: Home,
+    },
+    /// Rule 2: an entry on members lacks this key.
+    LacksKey {
+        home: Home,
+        key: &'static str,
     },
     /// Rule 3: a table has no key of this name, whose value is of this kind.
     UnknownKey {
@@ -74,10 +86,25 @@ pub enum Cause {
         row: KeyRule,
         number: i64,
     },
-    /// Rule 6: a group's name has another form.
+    /// Rule 4: the value of a key of version 4 is of another kind.
+    OtherKind {
+        key: &'static str,
+        wanted: Wanted,
+        found: ValueKind,
+    },
+    /// Rule 5: the value of a key of version 4 is outside its range, or no whole number of ticks.
+    Outside {
+        key: &'static str,
+        wanted: Wanted,
+    },
+    /// Rule 6: a group's name, or in version 4 an entry's, has another form.
     BadName,
     /// Rule 6: an earlier group, whose name stands at `other`, has the name too.
     RepeatedName {
+        other: Span,
+    },
+    /// Rule 6: an earlier entry of the list, whose name stands at `other`, has the name too.
+    RepeatedEntry {
         other: Span,
     },
     /// Rule 7: no group has the name.
@@ -120,6 +147,32 @@ pub enum Cause {
         begins: u64,
         until: u64,
     },
+    /// Rule 9: a key of an entry stands beside another one.
+    BesideKey {
+        key: &'static str,
+        other: &'static str,
+    },
+    /// Rule 9: a key of an entry stands without another one.
+    WithoutKey {
+        key: &'static str,
+        other: &'static str,
+    },
+    /// Rule 9: a time lasts less at the most than at least.
+    LastsLess {
+        least: u64,
+        most: u64,
+    },
+    /// Rule 9: a member is named twice, the other time as the text says at `other`.
+    NamedTwice {
+        other: Span,
+    },
+    /// Rule 9: more members are to be chosen than a group has.
+    CountOverGroup {
+        count: u64,
+        members: u64,
+    },
+    /// Rule 9: a member is to ask itself.
+    AsksItself,
     /// Rule 10: there are more members than a text of its version may have.
     TooManyMembers {
         members: u128,

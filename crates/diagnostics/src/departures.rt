@@ -25,11 +25,15 @@ struct Stretch {
     span: Span,
 }
 
-/// Judges crashes, leaves, slow times and pauses by pairs.
+/// Judges crashes, leaves, slow times and pauses by pairs. In version 4 members may go several times, and their times may
+/// overlap.
 pub(crate) fn judge_departures(walk: &mut Walk<'_>, roster: &Roster) -> Result<(), Memory> {
+    if walk.version == Version::Four {
+        return Ok(());
+    }
     judge_gone(walk, roster)?;
     judge_stretches(walk, roster, Section::Slow, FormatKey::Slow)?;
-    if matches!(walk.version, Version::Three | Version::Four) {
+    if walk.version == Version::Three {
         judge_stretches(walk, roster, Section::Pause, FormatKey::Pause)?;
     }
     Ok(())

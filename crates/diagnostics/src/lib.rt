@@ -3,6 +3,7 @@
 
 mod cause;
 mod departures;
+mod entries;
 mod list;
 mod members;
 mod names;
@@ -11,8 +12,11 @@ mod sizes;
 mod telling;
 mod times;
 mod walk;
+mod wanted;
+mod written;
 
 pub use cause::{Cause, DepartureKind, Home, ValueKind};
 pub use list::{Diagnostic, Diagnostics};
 pub use members::Known;
 pub use telling::{has_rule, of_refused};
+pub use wanted::{Wanted, entry_keys};

@@ -1,19 +1,21 @@
 //! Rules 6 and 7: the names of groups, and the names that name a member or a group.
 use crate::cause::{Cause, ValueKind};
+use crate::entries::judge_scripts;
 use crate::members::{Known, Named, Roster};
 use crate::walk::{Walk, found_at};
 use base::Memory;
-use schema::{FormatKey, Section};
+use schema::{FormatKey, Section, Version};
 use toml_places::{Places, Span};
 
 /// Judges all names. What comes out are the groups.
 pub(crate) fn judge_names(walk: &mut Walk<'_>) -> Result<Roster, Memory> {
     let roster = read_groups(walk)?;
     judge_contacts(walk, &roster)?;
-    judge_members(walk, &roster, walk.items(FormatKey::Slow))?;
-    judge_members(walk, &roster, walk.items(FormatKey::Crash))?;
-    judge_members(walk, &roster, walk.added_items(FormatKey::Leave))?;
-    judge_members(walk, &roster, walk.pauses())?;
+    if walk.version == Version::Four {
+        judge_scripts(walk, &roster)?;
+    } else {
+        judge_each_member(walk, &roster)?;
+    }
     judge_ends(walk, &roster, walk.items(FormatKey::Path))?;
     judge_ends(walk, &roster, walk.added_items(FormatKey::Cut))?;
     Ok(roster)
@@ -54,11 +56,37 @@ fn known_at(walk: &Walk<'_>, item: usize, place: usize) -> Known {
 
 /// Judges the form of a group's name.
 fn judge_form(walk: &mut Walk<'_>, name: &str, span: Span) -> Result<(), Memory> {
-    if is_group_name(name.as_bytes()) {
+    if is_name_of(walk.version, name.as_bytes()) {
         Ok(())
     } else {
         walk.add(6, Cause::BadName, span)
     }
+}
+
+/// Whether a group's name has the form that it has in the version.
+fn is_name_of(version: Version, name: &[u8]) -> bool {
+    match version {
+        Version::One | Version::Two | Version::Three => is_group_name(name),
+        Version::Four => is_wide_name(name),
+    }
+}
+
+/// Whether a name is 1 to 32 letters, digits, `-` and `_`, the first a letter and the last not `-`.
+pub(crate) fn is_wide_name(name: &[u8]) -> bool {
+    match (name.first(), name.last()) {
+        (Some(first), Some(last)) => {
+            first.is_ascii_alphabetic()
+                && *last != b'-'
+                && name.len() <= 32
+                && name.iter().all(|byte| is_wide_byte(*byte))
+        }
+        _ => false,
+    }
+}
+
+/// Whether a byte is a letter, a digit, `-` or `_`.
+fn is_wide_byte(byte: u8) -> bool {
+    byte.is_ascii_alphanumeric() || byte == b'-' || byte == b'_'
 }
 
 /// Whether a name is 1 to 16 bytes of `a` to `z` and `0` to `9`, the first a letter.
@@ -81,6 +109,14 @@ fn judge_contacts(walk: &mut Walk<'_>, roster: &Roster) -> Result<(), Memory> {
         judge_member(walk, roster, *item, FormatKey::Contact)?;
     }
     Ok(())
+}
+
+/// Judges whom the entries of lists name before version 4.
+fn judge_each_member(walk: &mut Walk<'_>, roster: &Roster) -> Result<(), Memory> {
+    judge_members(walk, roster, walk.items(FormatKey::Slow))?;
+    judge_members(walk, roster, walk.items(FormatKey::Crash))?;
+    judge_members(walk, roster, walk.added_items(FormatKey::Leave))?;
+    judge_members(walk, roster, walk.pauses())
 }
 
 /// Judges the members of slow times, crashes, leaves or pauses.

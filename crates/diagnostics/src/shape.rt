@@ -1,6 +1,8 @@
 //! Rules 2 to 5: which keys a table has, and of what kind and range their values are.
 use crate::cause::{Cause, Home, ValueKind};
 use crate::walk::{Walk, found_at, is_within, items_of};
+use crate::wanted::{WrittenKey, added_key, entry_key, is_script, wanted_in};
+use crate::written::{judge_entries, judge_wanted};
 use base::Memory;
 use schema::{Absence, FormatKey, KeyRule, Kind, Section, Version};
 use toml_places::{NodeContent, Places};
@@ -30,7 +32,14 @@ fn judge_below(walk: &mut Walk<'_>, row: &KeyRule, place: usize) -> Result<(), M
             }
             Ok(())
         }
-        Kind::List(section) => judge_items(walk, row, section, items_of(walk.places, place)),
+        Kind::List(section) => {
+            let items = items_of(walk.places, place);
+            if walk.version == Version::Four && is_script(row.key) {
+                judge_entries(walk, row, home(section, Some(row.key)), items)
+            } else {
+                judge_items(walk, row, section, items)
+            }
+        }
         Kind::Whole { .. } | Kind::Switch | Kind::Text => Ok(()),
     }
 }
@@ -87,17 +96,32 @@ fn judge_absence(
     }
 }
 
-/// The whole number of a key, whatever its range.
+/// The whole number of a key, or what its length says, whatever its range.
 fn whole_at(walk: &Walk<'_>, table: usize, key: FormatKey) -> Option<i64> {
     let place = walk.places.child(table, key.text())?;
     match walk.places.content(place) {
         Some(NodeContent::Whole(number)) => Some(*number),
-        _ => None,
+        _ => i64::try_from(walk.ticks(table, key.text())?).ok(),
+    }
+}
+
+/// Judges the value of a row's key. In version 4 a number of ticks may be a length, and a share be said in percent.
+fn judge_value(walk: &mut Walk<'_>, row: &KeyRule, place: usize) -> Result<(), Memory> {
+    match wanted_in(row) {
+        Some(wanted) if walk.version == Version::Four => judge_wanted(
+            walk,
+            WrittenKey {
+                name: row.key.text(),
+                wanted,
+            },
+            place,
+        ),
+        _ => judge_plain(walk, row, place),
     }
 }
 
 /// Judges the kind of a value, its range, and that a list has an item where it needs one.
-fn judge_value(walk: &mut Walk<'_>, row: &KeyRule, place: usize) -> Result<(), Memory> {
+fn judge_plain(walk: &mut Walk<'_>, row: &KeyRule, place: usize) -> Result<(), Memory> {
     let found = found_at(walk.places, place);
     let span = walk.places.value(place);
     if !is_of_kind(row.kind, found) {
@@ -120,7 +144,7 @@ fn judge_value(walk: &mut Walk<'_>, row: &KeyRule, place: usize) -> Result<(), M
 /// The row that a diagnostic on a key has: of the version, that which knows all of them.
 fn told_row(row: &KeyRule) -> KeyRule {
     if row.key == FormatKey::Version {
-        for other in Section::Top.rows(Version::Three) {
+        for other in Section::Top.rows(Version::Four) {
             if other.key == FormatKey::Version {
                 return *other;
             }
@@ -150,13 +174,23 @@ fn judge_keys(
     if let Some(NodeContent::Table(keys)) = walk.places.content(table) {
         for (name, place) in keys.iter() {
             if !is_named(rows, name.as_str()) {
-                let cause = unknown(walk, home, name.as_str(), *place);
-                let span = walk.places.key(*place);
-                walk.add(3, cause, span)?;
+                judge_other(walk, home, name.as_str(), *place)?;
             }
         }
     }
     Ok(())
+}
+
+/// Judges a key that no row has: version 4 has some more.
+fn judge_other(walk: &mut Walk<'_>, home: Home, name: &str, place: usize) -> Result<(), Memory> {
+    match added_key(home.section, name) {
+        Some(key) if walk.version == Version::Four => judge_wanted(walk, key, place),
+        _ => {
+            let cause = unknown(walk, home, name, place);
+            let span = walk.places.key(place);
+            walk.add(3, cause, span)
+        }
+    }
 }
 
 /// Whether one of the rows is of the key that is spelt so.
@@ -174,10 +208,25 @@ fn unknown(walk: &Walk<'_>, home: Home, name: &str, place: usize) -> Cause {
         Cause::LaterKey {
             version: Version::Three,
         }
+    } else if is_fourth_key(home, name) {
+        Cause::LaterKey {
+            version: Version::Four,
+        }
     } else {
         Cause::UnknownKey {
             home,
             found: found_at(walk.places, place),
         }
+    }
+}
+
+/// Whether version 4 adds a key to those that a table has.
+fn is_fourth_key(home: Home, name: &str) -> bool {
+    if is_named(home.section.rows(Version::Four), name) || added_key(home.section, name).is_some() {
+        return true;
+    }
+    match home.key {
+        Some(list) => is_script(list) && entry_key(list, name).is_some(),
+        None => false,
     }
 }

@@ -23,6 +23,12 @@ pub(crate) fn judge_times(walk: &mut Walk<'_>, roster: &Roster) -> Result<(), Me
         walk.added_items(FormatKey::Cut),
     )?;
     judge_ends(walk, Section::Pause, FormatKey::From, walk.pauses())?;
+    judge_ends(
+        walk,
+        Section::Pause,
+        FormatKey::From,
+        walk.fourth_items(FormatKey::Block),
+    )?;
     judge_departures(
         walk,
         roster,
@@ -34,7 +40,22 @@ pub(crate) fn judge_times(walk: &mut Walk<'_>, roster: &Roster) -> Result<(), Me
         roster,
         DepartureKind::Leave,
         walk.added_items(FormatKey::Leave),
-    )
+    )?;
+    judge_fourth(walk, roster)
+}
+
+/// Judges the moments of restarts, and the times in which members go again and again.
+fn judge_fourth(walk: &mut Walk<'_>, roster: &Roster) -> Result<(), Memory> {
+    judge_departures(
+        walk,
+        roster,
+        DepartureKind::Restart,
+        walk.fourth_items(FormatKey::Restart),
+    )?;
+    let crashes = walk.fourth_items(FormatKey::Crash);
+    judge_ends(walk, Section::Pause, FormatKey::From, crashes)?;
+    let leaves = walk.fourth_items(FormatKey::Leave);
+    judge_ends(walk, Section::Pause, FormatKey::From, leaves)
 }
 
 /// Judges the contacts of groups.
@@ -58,7 +79,7 @@ fn judge_ends(
     Ok(())
 }
 
-/// Judges that each of these members goes after its start.
+/// Judges that each of these members goes, or comes again, after its start.
 fn judge_departures(
     walk: &mut Walk<'_>,
     roster: &Roster,
@@ -125,7 +146,7 @@ fn judge_end(
     Ok(())
 }
 
-/// Judges that a member goes after its start.
+/// Judges that a member goes, or comes again, after its start.
 fn judge_departure(
     walk: &mut Walk<'_>,
     roster: &Roster,

@@ -7,6 +7,7 @@ use crate::names::judge_names;
 use crate::shape::judge_shape;
 use crate::sizes::judge_size;
 use crate::times::judge_times;
+use crate::written::{tick_in, ticks_said};
 use base::Memory;
 use indexmap::IndexMap;
 use schema::{Absence, FormatKey, KeyRule, Kind, Section, Version};
@@ -19,6 +20,8 @@ pub(crate) struct Walk<'p> {
     pub(crate) alloc: Global,
     pub(crate) places: &'p Places,
     pub(crate) version: Version,
+    /// How many microseconds a tick has.
+    pub(crate) tick: u64,
     pub(crate) list: Vec<Diagnostic>,
 }
 
@@ -53,6 +56,14 @@ impl<'p> Walk<'p> {
         }
     }
 
+    /// The items of a list that version 4 adds.
+    pub(crate) fn fourth_items(&self, key: FormatKey) -> &'p [usize] {
+        match self.version {
+            Version::One | Version::Two | Version::Three => &[],
+            Version::Four => self.items(key),
+        }
+    }
+
     /// The text of a key of a table, and its place.
     pub(crate) fn text(&self, table: usize, key: FormatKey) -> Option<(&'p str, usize)> {
         let place = self.places.child(table, key.text())?;
@@ -67,17 +78,35 @@ impl<'p> Walk<'p> {
     pub(crate) fn number(&self, section: Section, table: usize, key: FormatKey) -> Option<u64> {
         let row = row_of(section.rows(self.version), key)?;
         match self.places.child(table, key.text()) {
-            Some(place) => match self.places.content(place) {
-                Some(NodeContent::Whole(number)) if is_within(row.kind, *number) => {
-                    u64::try_from(*number).ok()
+            Some(place) => {
+                let number = self.ticks_at(place)?;
+                if is_low(row.kind, number) {
+                    Some(number)
+                } else {
+                    None
                 }
-                _ => None,
-            },
+            }
             None => match row.absence {
                 Absence::Default(number) => Some(number),
                 Absence::Refused | Absence::RefusedOver0(_) | Absence::Off | Absence::Optional =>
                     None,
             },
+        }
+    }
+
+    /// How many ticks a key of an entry says: a whole number or, in version 4, a length.
+    pub(crate) fn ticks(&self, table: usize, key: &str) -> Option<u64> {
+        self.ticks_at(self.places.child(table, key)?)
+    }
+
+    /// The whole number at a place; in version 4 also of a length.
+    fn ticks_at(&self, place: usize) -> Option<u64> {
+        match self.places.content(place) {
+            Some(NodeContent::Whole(number)) => u64::try_from(*number).ok(),
+            Some(NodeContent::Text(word)) if self.version == Version::Four => {
+                ticks_said(word.as_str(), self.tick)
+            }
+            _ => None,
         }
     }
 
@@ -115,6 +144,14 @@ pub(crate) fn is_within(kind: Kind, number: i64) -> bool {
             Ok(number) => least <= number && number <= most,
             Err(_) => false,
         },
+        Kind::Switch | Kind::Text | Kind::Table(_) | Kind::List(_) => true,
+    }
+}
+
+/// Whether a number that isn't negative is in the range of a kind.
+fn is_low(kind: Kind, number: u64) -> bool {
+    match kind {
+        Kind::Whole { least, most } => least <= number && number <= most,
         Kind::Switch | Kind::Text | Kind::Table(_) | Kind::List(_) => true,
     }
 }
@@ -221,7 +258,7 @@ fn missing_version(places: &Places) -> Option<Diagnostic> {
     {
         return None;
     }
-    let row = row_of(Section::Top.rows(Version::Three), FormatKey::Version)?;
+    let row = row_of(Section::Top.rows(Version::Four), FormatKey::Version)?;
     let home = Home {
         section: Section::Top,
         key: None,
@@ -250,6 +287,7 @@ fn walk_all(alloc: Global, places: &Places, rule: u8) -> Result<Diagnostics, Mem
         alloc,
         places,
         version: version_of(places),
+        tick: tick_in(places),
         list: Vec::new(alloc),
     };
     judge_shape(&mut walk)?;
@@ -291,6 +329,7 @@ fn version_of(places: &Places) -> Version {
         Some(place) => match places.content(place) {
             Some(NodeContent::Whole(2)) => Version::Two,
             Some(NodeContent::Whole(3)) => Version::Three,
+            Some(NodeContent::Whole(4)) => Version::Four,
             _ => Version::One,
         },
         None => Version::One,

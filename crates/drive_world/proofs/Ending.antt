@@ -1,5 +1,5 @@
 -- Where a drive pauses and rests, and the error that it ends by.
-use Rattle.std.proofs.Common.{◌≡◌, ◌⊎◌, ℕ, List, [], Option, Result, Err, IsErrAnd, inl, inr, ap, ◌∙◌, sym, subst, refl, append-nil}
+use Rattle.std.proofs.Common.{◌≡◌, ◌⊎◌, ℕ, List, [], Option, Result, Err, IsErrAnd, inl, inr, ap, ◌+◌, ◌∙◌, sym, subst, refl, append-nil, arith}
 use Rattle.std.specs.Result.{OnOk, IfErr}
 use Rattle.std.specs.declared.cmp.Ordering.{Ordering}
 use Rattle.base.specs.declared.fault.Fault.{Fault}
@@ -114,3 +114,14 @@ fails_alike T U fault.ThreadLost = refl
 
 pub same_failures : {T : Type 0} (U : Type 0) (r : Result T Fault) (fault : Fault) → IsErrAnd r (λ e. e ≡ fault) → sink_failures r ≡ sink_failures {T = U} (Err fault)
 same_failures {T} U r fault gives = ap sink_failures (is_err r fault gives) ∙ fails_alike T U fault
+
+-- where a drive halts, no write has failed
+halt_unfailed : (T : Type 0) (halt : Halt) → drive_failures {T = T} (Err (error_of halt)) ≡ 0
+halt_unfailed T (Stopped place stop event) = refl
+halt_unfailed T Closed = refl
+
+pub unfailed_halt : (T : Type 0) (first begun played last : ℕ) (e : DriveError) (halt : Halt) → e ≡ error_of halt → begun ≡ first + 0 → played ≡ begun + 0 → last ≡ played + 0
+    → last ≡ first + drive_failures {T = T} (Err e)
+unfailed_halt T first begun played last e halt is begins plays ends =
+    let none : drive_failures {T = T} (Err e) ≡ 0 = ap (λ x. drive_failures {T = T} (Err x)) is ∙ halt_unfailed T halt in
+    omega (arith, none, begins, plays, ends)

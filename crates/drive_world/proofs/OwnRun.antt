@@ -13,7 +13,10 @@ use Rattle.base.specs.Rising.{IsNumbered, AreNew}
 use Rattle.base.specs.Run.{trace, handled, run-exists, run_more, one_run}
 use Rattle.base.specs.World.{World, IsOver, settled, rows_of, events_of, outcome, with_events, NextStep, Run, SequentialRun}
 use Rattle.base.proofs.Rising.{all_weaker, numbered_step, new_step}
-use Rattle.scenario.specs.Setup.{Setup, IsSound, start_of, crash_of, leave_of}
+use Rattle.scenario.specs.Setup.{Setup, IsSound, start_of, crash_of, leave_of, is_fourth}
+use Rattle.scenario.specs.Profile.{profile_of_version, profile_of}
+use Rattle.schema.specs.declared.schema.Version.{Version}
+use Rattle.schema.specs.declared.schema.Version.TheVariants.{One, Two, Three, Four}
 use Rattle.trace.specs.declared.row.Row.{Row}
 use Rattle.member.specs.declared.event_kind.EventKind.{EventKind}
 use Rattle.member.specs.declared.event_kind.EventKind.TheVariants as own
@@ -190,7 +193,14 @@ module _ (s : Setup) (sound : IsSound s) (encode : EventKind → Content) (Idle 
 
 -- ---- where both begin
 
-module _ (s : Setup) (encode : EventKind → Content) (code : IsEncoding encode) where
+-- versions 1 to 3 have one script
+earlier_script : (v : Version) (s : Setup) (m : ℕ) → is_fourth v ≡ false → own_opening.script_by (profile_of_version v) s m ≡ own_opening.script_of s m
+earlier_script One s m is = refl
+earlier_script Two s m is = refl
+earlier_script Three s m is = refl
+earlier_script Four s m is = absurd (false≢true (sym is))
+
+module _ (s : Setup) (earlier : is_fourth s.version ≡ false) (encode : EventKind → Content) (code : IsEncoding encode) where
   written_ending : (c : EventKind) (d : Content) (m : ℕ) (at : Option ℕ) → encode c ≡ d → written_by encode (own_opening.ending_event c m at) ≡ ending d m at
   written_ending c d m None is = refl
   written_ending c d m (Some at) is = ap (λ x. (own_opening.script_key m at 1, x) ∷ []) is
@@ -202,11 +212,15 @@ module _ (s : Setup) (encode : EventKind → Content) (code : IsEncoding encode)
       (λ i. (own_opening.script_key m (start_of s m) 0, code.start i) ∷ map-append (λ (e : Key × EventKind). (e.0, encode e.1)) (own_opening.ending_event own.Crash m (crash_of s m)) (own_opening.ending_event own.Leave m (leave_of s m)) i)
       ∙ (λ i. (own_opening.script_key m (start_of s m) 0, content.Start) ∷ (crash i ++ leave i))
 
-  written_scripts : (members : List ℕ) → written_by encode (flat_map (own_opening.script_of s) members) ≡ flat_map (script_of s) members
+  -- the script of its version
+  written_own : (m : ℕ) → written_by encode (own_opening.script_by (profile_of s) s m) ≡ script_of s m
+  written_own m = ap (written_by encode) (earlier_script s.version s m earlier) ∙ written_script m
+
+  written_scripts : (members : List ℕ) → written_by encode (flat_map (own_opening.script_by (profile_of s) s) members) ≡ flat_map (script_of s) members
   written_scripts [] = refl
   written_scripts (m ∷ members) =
-      map-append (λ (e : Key × EventKind). (e.0, encode e.1)) (own_opening.script_of s m) (flat_map (own_opening.script_of s) members)
-      ∙ (λ i. written_script m i ++ written_scripts members i)
+      map-append (λ (e : Key × EventKind). (e.0, encode e.1)) (own_opening.script_by (profile_of s) s m) (flat_map (own_opening.script_by (profile_of s) s) members)
+      ∙ (λ i. written_own m i ++ written_scripts members i)
 
   like_written : (Idle : Key → Content → Type 0) (fs : List (Key × EventKind)) (r : FinMap key_cmp EventKind) (p : FinMap key_cmp Content) → AreLike encode Idle r p
       → AreLike encode Idle (with_events r fs) (with_events p (written_by encode fs))
@@ -218,9 +232,9 @@ module _ (s : Setup) (encode : EventKind → Content) (code : IsEncoding encode)
 
   pub alike_at_first : (Idle : Key → Content → Type 0) → AreAlike encode Idle (own_opening.opening s) (opening s)
   alike_at_first Idle = record {
-    members = opened_processes s (own_opening.numbers s);
-    pending = subst (λ es. AreLike encode Idle (with_events empty (flat_map (own_opening.script_of s) (own_opening.numbers s))) (with_events empty es)) (written_scripts (own_opening.numbers s))
-        (like_written Idle (flat_map (own_opening.script_of s) (own_opening.numbers s)) empty empty (like_empty Idle));
+    members = opened_processes s earlier (own_opening.numbers s);
+    pending = subst (λ es. AreLike encode Idle (with_events empty (flat_map (own_opening.script_by (profile_of s) s) (own_opening.numbers s))) (with_events empty es)) (written_scripts (own_opening.numbers s))
+        (like_written Idle (flat_map (own_opening.script_by (profile_of s) s) (own_opening.numbers s)) empty empty (like_empty Idle));
   }
 
   -- with no idle event: what pends in the one pends in the other
@@ -235,15 +249,15 @@ module _ (s : Setup) (encode : EventKind → Content) (code : IsEncoding encode)
       let used = opening_numbered s q (back q (get (own_opening.opening s).pending q) (get (opening s).pending q) (like.pending q) here) in
       (process_in used.0, like.members q.from ∙ ap (option_map process_in) used.1, used.2)
 
-pub own_run : (s : Setup) (sound : IsSound s) (encode : EventKind → Content) (Idle : Key → Content → Type 0) (answers : Answers) (rows : List Row) → AreSoundAnswers s answers → IsEncoding encode
+pub own_run : (s : Setup) (sound : IsSound s) (earlier : is_fourth s.version ≡ false) (encode : EventKind → Content) (Idle : Key → Content → Type 0) (answers : Answers) (rows : List Row) → AreSoundAnswers s answers → IsEncoding encode
     → SaysAll s encode Idle answers → IsRunOf s rows → (keys : List Key) × SequentialRun (driven s answers) s.end (opening s) keys rows
-own_run s sound encode Idle answers rows are code says is =
+own_run s sound earlier encode Idle answers rows are code says is =
     let later = driven_later s sound answers are in
     let whole = run-exists (driven s answers) later s.end (opening s) in
     let keys = handled (driven s answers) later s.end (opening s) in
     let found =
     goes s sound encode Idle answers are code says keys (own_opening.opening s) (opening s) whole.last (trace (driven s answers) later s.end (opening s))
-    (alike_at_first s encode code Idle) ([], [], (refl, refl)) (numbered_at_first s encode code) whole.run whole.over in
+    (alike_at_first s earlier encode code Idle) ([], [], (refl, refl)) (numbered_at_first s earlier encode code) whole.run whole.over in
     let same =
     one_run (step s) (steps_later s sound) s.end found.0 is.0 (own_opening.opening s) found.1 is.1.last (trace (driven s answers) later s.end (opening s)) rows found.2 found.3 is.1.run is.1.over in
     (keys, subst (SequentialRun (driven s answers) s.end (opening s) keys) same.1 whole)

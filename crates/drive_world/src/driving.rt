@@ -52,7 +52,7 @@ pub fn drive<H: Harness, T: RowSink<P>, P>(
     ensures failures { T.failed place.new ≡ T.failed place.old + drive_failures result }
 {
     let mut world = World::open(alloc, setting.scenario)?;
-    let mut tallies = Tallies::new(alloc);
+    let mut tallies = Tallies::new(alloc, setting.scenario);
     T::begin(place)?;
     match play::<H, T, P>(alloc, &mut world, setting, harness, &mut tallies, place)? {
         None => {

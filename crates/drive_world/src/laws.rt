@@ -1,10 +1,10 @@
 //! What holds of every drive, stated over the definitions alone.
-ghost use Rattle.std.specs.Prelude.{◌≡◌, ℕ, Bool, List, Option};
+ghost use Rattle.std.specs.Prelude.{◌≡◌, ℕ, Bool, false, List, Option};
 ghost use Rattle.base.specs.declared.key.Key.{Key};
 ghost use Rattle.base.specs.World.{IsOver, SequentialRun};
 ghost use Rattle.std.specs.List.Sorted.{IsPermutation, IsSorted};
 ghost use Rattle.std.specs.declared.cmp.Ordering.{Ordering};
-ghost use Rattle.scenario.specs.Setup.{Setup, IsSound};
+ghost use Rattle.scenario.specs.Setup.{Setup, IsSound, is_fourth};
 ghost use Rattle.trace.specs.declared.row.Row.{Row};
 ghost use Rattle.member_laws.specs.Runs.{IsRunOf};
 ghost use Rattle.windows.specs.Cluster.{link_delay, IsLeastDelay, IsRowOrder};
@@ -44,9 +44,10 @@ pub fn the_course_is_one()
         → Moves s least_delay c.last m → Moves s least_delay c.last n → m.taken ≡ n.taken → m ≡ n }
 {}
 
-/// Our own members over the protocol write the rows of the run: where each answer says what the member's step does.
+/// Our own members over the protocol write the rows of the run, in versions 1 to 3 of the format: where each answer says what
+/// the member's step does.
 pub fn own_members_write_the_run()
     ensures { (s : Setup) (encode : EventKind → Content) (idle : Key → Content → Bool) (answers : Answers) (rows : List Row)
-        → IsSound s → AreSoundAnswers s answers → IsEncoding encode → SaysAll s encode (IsIdle idle) answers → IsRunOf s rows
+        → IsSound s → is_fourth s.version ≡ false → AreSoundAnswers s answers → IsEncoding encode → SaysAll s encode (IsIdle idle) answers → IsRunOf s rows
         → (keys : List Key) × SequentialRun (driven s answers) s.end (opening s) keys rows }
 {}

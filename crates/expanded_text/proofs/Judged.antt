@@ -1,5 +1,5 @@
 -- From what a document breaks as it is written, and what its lists break, to the rule that it breaks.
-use Rattle.std.proofs.Common.{◌≡◌, ◌≢◌, ◌≤◌, ℕ, ◌+◌, List, [], ◌∷◌, Bool, true, false, map, length, nat_eq, eq-eqb, Option, Some, None, refl, ap, sym, subst, ◌∙◌, arith}
+use Rattle.std.proofs.Common.{◌≡◌, ◌≢◌, ◌≤◌, ℕ, ◌+◌, List, [], ◌∷◌, Bool, true, false, length, nat_eq, Option, refl, ap, sym, ◌∙◌, arith}
 use Rattle.std.specs.List.{sum_by}
 use Rattle.std.proofs.lemmas.Bool.Decides.{nat_tests}
 use Rattle.std.proofs.lemmas.List.Sums.{sum_by-cons}
@@ -46,6 +46,11 @@ module _ (d : Data) (tick : ℕ) (groups : List WrittenGroup) (says : Says d tic
       record { tick = tick; groups = groups; written = rule; says = says; of_written = is.1; lowest = broken_by rule (nat_eq rule no_rule) refl is.0 }
   refused_written error.Memory is = tt
 
+  -- and it is a rule
+  pub is_broken : (e : ExpandError) → IfRefused (λ rule. (rule ≢ no_rule) × IsWrittenRule tick groups d rule) e → IfRefused (λ rule. rule ≢ no_rule) e
+  is_broken (error.Rule rule) is = is.0
+  is_broken error.Memory is = tt
+
 -- ---- its lists
 
 module _ (d : Data) (text : WrittenText) (is : IsWrittenText d text) where
@@ -70,3 +75,9 @@ refused_lists Is (Entry fault) is = is (λ e. omega (arith, e))
 refused_lists Is TooMany is = is (λ e. omega (arith, e))
 refused_lists Is Late is = is (λ e. omega (arith, e))
 refused_lists Is Memory is = tt
+
+pub broken_lists : (refusal : ScriptRefusal) → IfRefused (λ rule. rule ≢ no_rule) (error_of refusal)
+broken_lists (Entry fault) = λ e. omega (arith, e)
+broken_lists TooMany = λ e. omega (arith, e)
+broken_lists Late = λ e. omega (arith, e)
+broken_lists Memory = tt

@@ -1,5 +1,5 @@
 -- The lowest of rules, each at most 255.
-use Rattle.std.proofs.Common.{◌≡◌, ◌<◌, ℕ, min, refl, ap, sym, ◌∙◌, arith}
+use Rattle.std.proofs.Common.{◌≡◌, ◌<◌, ℕ, min, ap, sym, ◌∙◌, arith}
 use Rattle.std.proofs.lemmas.Bool.Decides.{nat_tests}
 
 pub low_within : (n : ℕ) → n < 256 → n ≡ min n 255

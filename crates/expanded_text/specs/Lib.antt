@@ -1,3 +1,4 @@
+pub mod Order
 pub mod Rule
 pub mod Text
 pub mod Written

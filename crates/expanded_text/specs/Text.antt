@@ -20,6 +20,7 @@ use Rattle.written_groups.specs.Groups.{IsExtraIn}
 use Rattle.written_groups.specs.Values.{items_at}
 use Rattle.written_names.specs.Roster.{group_of}
 use Rattle.written_names.specs.declared.roster.WrittenGroup.{WrittenGroup}
+use Rattle.expanded_text.specs.Order.{tree_order}
 use Rattle.expanded_text.specs.Rule.{seed_in, starts_of, Says}
 
 -- the plain entries of the six lists under the text's seed, members' names, and by how much members are slow
@@ -48,3 +49,27 @@ pub record IsPlainTextOf (d : Data) (text : List ℕ) : Type 0 where
   pub read : IsScriptIn tick d (map group_of groups) groups script
   pub of_lists : ArePartsOf d tick groups script parts
   pub laid_out : IsLaidOut tick d parts text
+
+-- ---- in a given order of its keys
+
+-- the plain lines of a document, its keys in this order, as a text; where they are plain the text is the document that they define
+pub record IsLaidIn (sections : List Section) (tick : ℕ) (d : Data) (parts : PlainParts) (text : List ℕ) : Type 0 where
+  pub lines : List PlainLine
+  pub plain : AreLinesOf tick d sections parts (map expression_of lines)
+  pub whole : text ≡ text_of lines
+  pub reads : All IsPlainLine lines → parse_document text ≡ document_of (map expression_of lines)
+
+-- the text for which a document stands, its keys in this order
+pub record IsTextIn (sections : List Section) (d : Data) (text : List ℕ) : Type 0 where
+  pub tick : ℕ
+  pub groups : List WrittenGroup
+  pub script : Script
+  pub parts : PlainParts
+  pub says : Says d tick groups
+  pub read : IsScriptIn tick d (map group_of groups) groups script
+  pub of_lists : ArePartsOf d tick groups script parts
+  pub laid_in : IsLaidIn sections tick d parts text
+
+-- the text for which a document stands, its keys in the order in which its tables hold them
+abbrev pub IsTreeTextOf : Data → List ℕ → Type 0
+IsTreeTextOf d text = IsTextIn (tree_order d) d text

@@ -1,5 +1,5 @@
 -- What is kept of a document that breaks no rule as it is written.
-use Rattle.std.specs.Prelude.{◌≡◌, false, map}
+use Rattle.std.specs.Prelude.{map}
 use Rattle.toml.specs.Data.{Data}
 use Rattle.lengths.specs.Lengths.{IsTick}
 use Rattle.script_reader.specs.Script.{IsScriptIn}

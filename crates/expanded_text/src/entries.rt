@@ -1,5 +1,5 @@
 //! The plain entries of a document's six lists.
-ghost use Rattle.std.specs.Prelude.{◌≡◌, IfErr, IfOk, OnOk};
+ghost use Rattle.std.specs.Prelude.{◌≡◌, ◌≢◌, IfErr, IfOk, OnOk};
 ghost use Rattle.toml.specs.View.{view};
 ghost use Rattle.plain_entries.specs.Entries.{start_in};
 ghost use Rattle.plain_entries.specs.Script.{lists_of, plain_of};
@@ -31,6 +31,7 @@ pub(crate) fn plain_entries_of(
     ensures made { IfOk result (λ made. lists_of made ≡ plain_of (start_in (starts_of written.now.groups.items)) written.now.script (text_words (seed_in (view document.now)))) }
     ensures kept { OnOk result (IsDocumentRule (view document.now) no_rule) }
     ensures refused { IfErr result (IfRefused (IsDocumentRule (view document.now))) }
+    ensures broken { IfErr result (IfRefused (λ rule. rule ≢ no_rule)) }
 {
     let starts = member_starts(alloc, written.groups.as_slice())?;
     let seed = number(Section::Top, FormatKey::Seed, Some(document));

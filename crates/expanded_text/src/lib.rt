@@ -4,8 +4,9 @@
 mod entries;
 mod error;
 mod lists;
+mod order;
 mod text;
 mod written;
 
 pub use error::ExpandError;
-pub use text::expanded;
+pub use text::{expanded, tree_text};

@@ -35,6 +35,7 @@ impl WrittenText {
     pub(crate) fn of(alloc: Global, document: &Value) -> Result<WrittenText, ExpandError>
         ensures read { IfOk result (IsWrittenText (view document.now)) }
         ensures refused { IfErr result (IfRefused (IsDocumentRule (view document.now))) }
+        ensures broken { IfErr result (IfRefused (λ rule. rule ≢ no_rule)) }
     {
         let tick = tick_of(document);
         let groups = written_groups(alloc, document, tick)?;

@@ -9,6 +9,7 @@ use Rattle.shown_names.specs.Shown.{shown_name}
 use Rattle.command_line.specs.declared.explaining.ExplainWords.{ExplainWords}
 use Rattle.command_line.specs.declared.failure.Failure.{Failure}
 use Rattle.command_line.specs.declared.failure.Failure.TheVariants.{Mistaken, Output}
+use Rattle.text_reader.specs.Answers.{Answers}
 use Rattle.scenario_files.specs.Loading.{HasVerdict}
 use Rattle.scenario_files.specs.Shelves.{IsUnread}
 
@@ -27,6 +28,10 @@ TellsSetup false s file text = TellsMeaning s (shown_name file) text
 abbrev pub TellsText : Result Setup ℕ → ExplainWords → Option ℕ → List ℕ → Type 0
 TellsText (Ok s) explain broken text = (broken ≡ None) × TellsSetup explain.json s explain.file.now text
 TellsText (Err rule) explain broken text = (broken ≡ Some rule) × TellsDiagnostics explain.json rule text
+
+-- the text explains what bytes are answered
+abbrev pub TellsBytes : List ℕ → ExplainWords → Option ℕ → List ℕ → Type 0
+TellsBytes bytes explain broken text = (answer : Result Setup ℕ) × Answers bytes answer × TellsText answer explain broken text
 
 -- the text explains the scenario of the file
 abbrev pub TellsOf : KnownFile → ExplainWords → Option ℕ → List ℕ → Type 0

@@ -1,15 +1,14 @@
 //! What is printed of a text.
 ghost use Rattle.std.specs.Prelude.{◌≡◌, IfOk, None, Ok, Some, string_bytes};
-ghost use Rattle.scenario_reader.specs.Rules.{verdict};
-ghost use Rattle.explain_command.specs.Outcomes.{TellsDiagnostics, TellsSetup, TellsText};
+ghost use Rattle.explain_command.specs.Outcomes.{TellsBytes, TellsDiagnostics, TellsSetup};
 
 use crate::accepting::meaning;
 use base::Memory;
 use command_line::ExplainWords;
 use diagnostics::of_refused;
 use scenario::Scenario;
-use scenario_reader::read;
 use std::alloc::Global;
+use text_reader::read_text;
 
 /// What is printed of a text.
 #[derive(Debug, Drop)]
@@ -29,9 +28,9 @@ pub(crate) fn explained_text(
     words: ExplainWords<'_>,
     bytes: &[u8],
 ) -> Result<Explained, Memory>
-    ensures { IfOk result (λ told. TellsText (verdict bytes.now) words.entry told.broken (string_bytes told.text)) }
+    ensures { IfOk result (λ told. TellsBytes bytes.now words.entry told.broken (string_bytes told.text)) }
 {
-    match read(alloc, bytes) {
+    match read_text(alloc, bytes) {
         Ok(scenario) => accepted(alloc, words, bytes, &scenario),
         Err(refusal) if refusal.rule == MEMORY_RULE => Err(Memory),
         Err(refusal) => refused(alloc, words, bytes, refusal.rule),

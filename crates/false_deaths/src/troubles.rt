@@ -1,9 +1,9 @@
-//! What a member was in a time: slow, paused, cut off or well.
+//! What a member was in a time: slow, paused, blocked, cut off or well.
 ghost use Rattle.std.specs.Prelude.{◌≡◌, ◌<◌, ◌++◌, OnOk, Some, None, if◌then◌else◌, filter};
 ghost use Rattle.std.specs.String.{string_bytes};
 ghost use Rattle.std.specs.List.{last_or};
 ghost use Rattle.scenario.specs.Setup.{member_count};
-ghost use Rattle.false_deaths.specs.Troubles.{meets, slows_in, pauses_in, cuts_in, sentence_opening, time_words, slow_sentence, pause_sentence, cut_sentence, slow_told, pause_told, cut_told, well_told, states_told, states};
+ghost use Rattle.false_deaths.specs.Troubles.{meets, slows_in, pauses_in, cuts_in, sentence_opening, time_words, slow_sentence, pause_sentence, block_sentence, cut_sentence, slow_told, pause_told, block_told, cut_told, well_told, states_told, states};
 
 use base::{MemberId, Moment};
 use drawing::{push_escaped, push_timed};
@@ -27,8 +27,17 @@ pub(crate) fn push_states(
     let group = scenario.group_number(member);
     let slow = last_slow(scenario.slows(), member, first, last);
     let pause = last_pause(scenario.pauses(), member, first, last);
+    let block = last_pause(scenario.blocks(), member, first, last);
     let cut = last_cut(scenario.cuts(), group, first, last);
-    push_all(text, time, scenario.name(member), &slow, &pause, &cut)
+    push_all(
+        text,
+        time,
+        scenario.name(member),
+        &slow,
+        &pause,
+        &block,
+        &cut,
+    )
 }
 
 /// Appends what a member of that name was.
@@ -39,14 +48,16 @@ fn push_all(
     name: &str,
     slow: &Option<Slow>,
     pause: &Option<Pause>,
+    block: &Option<Pause>,
     cut: &Option<Cut>,
 ) -> Result<(), AllocError>
-    ensures { OnOk result (string_bytes text.new ≡ string_bytes text.old ++ states_told time name.now slow.now pause.now cut.now) }
+    ensures { OnOk result (string_bytes text.new ≡ string_bytes text.old ++ states_told time name.now slow.now pause.now block.now cut.now) }
 {
     push_slow_told(text, time, name, slow)?;
     push_pause_told(text, time, name, pause)?;
+    push_block_told(text, time, name, block)?;
     push_cut_told(text, time, name, cut)?;
-    push_well(text, name, slow, pause, cut)?;
+    push_well(text, name, slow, pause, block, cut)?;
     Ok(())
 }
 
@@ -87,6 +98,21 @@ fn push_pause_told(
     }
 }
 
+/// Appends that it was blocked, where it was.
+fn push_block_told(
+    text: &mut String,
+    time: Option<Tick>,
+    name: &str,
+    block: &Option<Pause>,
+) -> Result<(), AllocError>
+    ensures { OnOk result (string_bytes text.new ≡ string_bytes text.old ++ block_told time name.now block.now) }
+{
+    match block {
+        Some(block) => push_block(text, time, name, block.from.ticks(), block.until.ticks()),
+        None => Ok(()),
+    }
+}
+
 /// Appends that it was cut off, where it was.
 fn push_cut_told(
     text: &mut String,
@@ -108,11 +134,12 @@ fn push_well(
     name: &str,
     slow: &Option<Slow>,
     pause: &Option<Pause>,
+    block: &Option<Pause>,
     cut: &Option<Cut>,
 ) -> Result<(), AllocError>
-    ensures { OnOk result (string_bytes text.new ≡ string_bytes text.old ++ well_told name.now slow.now pause.now cut.now) }
+    ensures { OnOk result (string_bytes text.new ≡ string_bytes text.old ++ well_told name.now slow.now pause.now block.now cut.now) }
 {
-    if slow.is_some() || pause.is_some() || cut.is_some() {
+    if slow.is_some() || pause.is_some() || block.is_some() || cut.is_some() {
         return Ok(());
     }
     open_sentence(text, name, " was well.")
@@ -174,6 +201,22 @@ fn push_pause(
     Ok(())
 }
 
+/// Appends that a member was blocked.
+#[tactic(auto, unfolding(crate::specs::Troubles::block_sentence))]
+fn push_block(
+    text: &mut String,
+    time: Option<Tick>,
+    name: &str,
+    from: u64,
+    until: u64,
+) -> Result<(), AllocError>
+    ensures { OnOk result (string_bytes text.new ≡ string_bytes text.old ++ block_sentence time name.now from until) }
+{
+    open_sentence(text, name, " was blocked")?;
+    push_time(text, time, from, until)?;
+    Ok(())
+}
+
 /// Appends that a member was cut off.
 #[tactic(auto, unfolding(crate::specs::Troubles::cut_sentence))]
 fn push_cut(
@@ -215,7 +258,7 @@ fn is_slow_in(slow: &Slow, member: MemberId, first: Moment, last: Moment) -> boo
     slow.member == member && meets(first, last, slow.from, slow.until)
 }
 
-/// The last pause of the member at some moment of a time.
+/// The last pause of the member at some moment of a time, or of blocks the last.
 fn last_pause(pauses: &[Pause], member: MemberId, first: Moment, last: Moment) -> Option<Pause>
     ensures { result ≡ last_or None (filter (pauses_in member first last) pauses.now) }
 {

@@ -1,12 +1,15 @@
 -- How a line of aligned columns grows.
-use Rattle.std.proofs.Common.{◌≡◌, ◌+◌, ◌==◌, ◌<◌, ℕ, Bool, true, false, List, [], ◌∷◌, ◌++◌, codes, length, map, take, get_or, refl, sym, ap, ◌∙◌, arith, append-nil, append_assoc}
-use Rattle.std.specs.Prelude.{if◌then◌else◌}
+use Rattle.std.proofs.Common.{◌≡◌, ◌+◌, ◌==◌, ◌<◌, ℕ, Bool, true, false, List, [], ◌∷◌, ◌++◌, codes, decimal, length, length-append, map, take, get_or, refl, sym, ap, ◌∙◌, arith, append-nil, append_assoc}
+use Rattle.std.specs.Prelude.{Option, Some, None, if◌then◌else◌}
 use Rattle.std.specs.List.{flat_map, zip}
 use Rattle.std.proofs.lemmas.Bool.{eqb-true}
 use Rattle.std.proofs.lemmas.List.{take_more, length-take-le, length-map, map-append}
+use Rattle.incident_figures.specs.declared.setting.DayRates.{DayRates}
+use Rattle.incident_figures.specs.declared.setting.IncidentSummary.{IncidentSummary}
+use Rattle.figures.specs.declared.column_set.ColumnSet.{ColumnSet}
+use Rattle.figures.specs.declared.column_set.ColumnSet.TheVariants.{First, WithRevived, WithIncidents}
 use Rattle.figures.specs.declared.summary.SettingSummary.{SettingSummary}
-use Rattle.figures.specs.Lines.{where_told}
-use Rattle.figures.specs.SettingLines.{padded, cells_aligned, figure_texts, figure_widths}
+use Rattle.figures.specs.SettingLines.{padded, cells_aligned, day_texts, first_texts, incident_texts, last_texts, some_words, figure_texts, figure_widths, widths_of}
 
 -- the parts of a line, as they were added and as the definition has them
 pub parts_joined : {A : Type 0} (keys first revived last : List A) → ((keys ++ first) ++ revived) ++ last ≡ keys ++ (first ++ (revived ++ last))
@@ -19,14 +22,27 @@ first_widths = 8 ∷ 11 ∷ 11 ∷ 11 ∷ 16 ∷ 8 ∷ 13 ∷ 13 ∷ 10 ∷ []
 abbrev pub last_widths : List ℕ
 last_widths = 9 ∷ 9 ∷ 10 ∷ 8 ∷ []
 
-pub widths_told : (revived : Bool) → first_widths ++ (where_told revived (8 ∷ []) ++ last_widths) ≡ figure_widths revived
-widths_told true = refl
-widths_told false = refl
+pub widths_told : (columns : ColumnSet) → first_widths ++ (widths_of (some_words columns) ++ last_widths) ≡ figure_widths columns
+widths_told First = refl
+widths_told WithRevived = refl
+widths_told WithIncidents = refl
 
 -- there are as many figures as columns
-pub as_many : (revived : Bool) (setting : SettingSummary) → length (figure_texts revived setting) ≡ length (figure_widths revived)
-as_many true setting = refl
-as_many false setting = refl
+pub as_many : (columns : ColumnSet) (setting : SettingSummary) → length (figure_texts columns setting) ≡ length (figure_widths columns)
+as_many First setting = refl
+as_many WithRevived setting = refl
+as_many WithIncidents setting = with_incidents setting.incidents
+  where
+    days : (day : Option DayRates) → length (day_texts day) ≡ 3
+    days None = refl
+    days (Some rates) = refl
+
+    six : (incidents : Option IncidentSummary) → length (incident_texts incidents) ≡ 6
+    six None = refl
+    six (Some told) = let three = days told.day in omega (arith, three)
+
+    with_incidents : (incidents : Option IncidentSummary) → length (first_texts setting ++ ((decimal setting.revived ∷ incident_texts incidents) ++ last_texts setting)) ≡ length (figure_widths WithIncidents)
+    with_incidents incidents = let long = six incidents in omega (arith, long, length-append (incident_texts incidents) (last_texts setting))
 
 -- what stands before the cell at a place
 abbrev pub gap : ℕ → List ℕ

@@ -9,6 +9,7 @@ pub mod Summaries
 mod Cells
 pub mod MetadataWords
 pub mod SameFigures
+pub mod NoteParts
 pub mod SameNotes
 pub mod NoNotes
 pub mod Handing

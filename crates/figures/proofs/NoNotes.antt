@@ -1,5 +1,5 @@
 -- Words that say no note, and figures that no note has.
-use Rattle.std.proofs.Common.{◌≡◌, ◌≢◌, ◌<◌, ◌-◌, ◌*◌, ◌%◌, ◌^◌, ◌==◌, ℕ, zero, suc, List, [], ◌∷◌, map, length, length-drop, get_or, take, drop, codes, refl, sym, ap, subst, ◌∙◌, arith}
+use Rattle.std.proofs.Common.{◌≡◌, ◌≢◌, ◌<◌, ◌≤◌, ◌-◌, ◌%◌, ◌^◌, ◌==◌, ℕ, zero, suc, List, [], ◌∷◌, map, length, length-drop, get_or, take, drop, codes, refl, sym, ap, subst, ◌∙◌, arith}
 use Rattle.std.specs.Prelude.{Option, Some, None, All}
 use Rattle.std.specs.Option.{ForSome}
 use Rattle.std.specs.List.{flat_map, slice_split}
@@ -7,10 +7,12 @@ use Rattle.std.proofs.lemmas.List.{take_all}
 use Rattle.std.proofs.lemmas.List.Elements.{All-head, All-tail}
 use Rattle.reports.specs.Text.{figure}
 use Rattle.decimals.specs.Numbers.{IsDecimal}
+use Rattle.incident_figures.specs.declared.run.RunCounts.{RunCounts}
 use Rattle.figures.specs.declared.crashes.CrashTimes.{CrashTimes}
 use Rattle.figures.specs.declared.note_words.MetadataFault.{MetadataFault}
 use Rattle.figures.specs.declared.note_words.MetadataFault.TheVariants as unread
-use Rattle.figures.specs.Notes.{Note, AreFigureWords, AreWordsOf, IsFigureWord, IsWordOf, RefusesFigures, RefusesNote, RefusesNoteOf, RefusesTimes, note_figures, times_in_order}
+use Rattle.figures.specs.Notes.{Note, AreFigureWords, AreWordsOf, IsFigureWord, IsWordOf, RefusesCounts, RefusesFigures, RefusesNote, RefusesNoteOf, RefusesTimes, counts_in_order, counts_part, note_figures, times_in_order, times_part}
+use Rattle.figures.proofs.NoteParts.{behind_first, parts_joined, parts_of, times_long}
 use Rattle.figures.proofs.SameFigures.{figures_cut, same_figures}
 
 -- a word that is no dash and no number says no figure
@@ -32,11 +34,7 @@ no_figures text_of items k word inside at none fs are =
     said (g ∷ gs) zero inside at small = none g (record { written = sym at; small = All-head (λ f. ForSome f (λ m. m < 2 ^ 63)) g gs small })
     said (g ∷ gs) (suc j) inside at small = said gs j (omega (arith, inside)) at (All-tail (λ f. ForSome f (λ m. m < 2 ^ 63)) g gs small)
 
--- the times of crashes are three figures each
-times_long : (ts : List CrashTimes) → length (flat_map times_in_order ts) ≡ 3 * length ts
-times_long [] = refl
-times_long (t ∷ ts) = let more = times_long ts in omega (arith, more)
-
+-- figures that aren't three for each crash
 pub no_times : (fs : List (Option ℕ)) → length fs % 3 ≢ 0 → (ts : List CrashTimes) → flat_map times_in_order ts ≢ fs
 no_times fs uneven ts is =
     let long = times_long ts in
@@ -68,9 +66,40 @@ fourth_missing fs d none n is = let there : get_or fs 3 d ≡ Some n.sent = ap (
 pub fifth_missing : (fs : List (Option ℕ)) (d : Option ℕ) → get_or fs 4 d ≡ None → (n : Note) → note_figures n ≢ fs
 fifth_missing fs d none n is = let there : get_or fs 4 d ≡ Some n.member_ticks = ap (λ l. get_or l 4 d) (sym is) in cc
 
-pub times_refused : (fs rest : List (Option ℕ)) (e : MetadataFault) → rest ≡ drop 5 fs → RefusesTimes rest e → RefusesNoteOf fs e
-times_refused fs rest unread.Memory behind none = tt
-times_refused fs rest unread.Word behind none = λ n is. none n.crashes (ap (drop 5) is ∙ sym behind)
+-- what is behind the first five of a note's figures
+behind_note : (fs : List (Option ℕ)) (n : Note) → note_figures n ≡ fs → behind_first n.incidents n.crashes ≡ drop 5 fs
+behind_note fs n is = ap (drop 5) is
+
+pub counts_refused : (fs rest : List (Option ℕ)) (e : MetadataFault) → rest ≡ drop 5 fs → RefusesCounts rest e → RefusesNoteOf fs e
+counts_refused fs rest unread.Memory behind none = tt
+counts_refused fs rest unread.Word behind none = λ n is.
+    none n.incidents (sym (parts_of n.incidents n.crashes).0 ∙ ap counts_part (behind_note fs n is ∙ sym behind))
+
+pub times_refused : (fs rest times : List (Option ℕ)) (e : MetadataFault) → rest ≡ drop 5 fs → times ≡ times_part rest → RefusesTimes times e → RefusesNoteOf fs e
+times_refused fs rest times unread.Memory behind are none = tt
+times_refused fs rest times unread.Word behind are none = λ n is.
+    none n.crashes (sym (parts_of n.incidents n.crashes).1 ∙ ap times_part (behind_note fs n is ∙ sym behind) ∙ sym are)
+
+pub no_counts_of : (fs : List (Option ℕ)) (e : MetadataFault) → ((counts : Option RunCounts) → counts_in_order counts ≢ counts_part fs) → RefusesCounts fs e
+no_counts_of fs unread.Word none = none
+no_counts_of fs unread.Memory none = tt
+
+-- five figures that are there, and the two parts behind them
+pub note_made : (fs rest times : List (Option ℕ)) (n : Note) → 5 ≤ length fs → (a b c d e : Option ℕ) → get_or fs 0 a ≡ Some n.false_suspect → get_or fs 1 b ≡ Some n.thrown_out
+    → get_or fs 2 c ≡ Some n.revived → get_or fs 3 d ≡ Some n.sent → get_or fs 4 e ≡ Some n.member_ticks → rest ≡ drop 5 fs → counts_in_order n.incidents ≡ counts_part rest
+    → times ≡ times_part rest → flat_map times_in_order n.crashes ≡ times → note_figures n ≡ fs
+note_made fs rest times n many a b c d e claims thrown back sends lasts behind counts are made =
+    let later : behind_first n.incidents n.crashes ≡ drop 5 fs = parts_joined rest n.incidents n.crashes counts (made ∙ are) ∙ behind in
+    sym (five fs many claims thrown back sends lasts (sym later))
+  where
+    five : (l : List (Option ℕ)) → 5 ≤ length l → get_or l 0 a ≡ Some n.false_suspect → get_or l 1 b ≡ Some n.thrown_out → get_or l 2 c ≡ Some n.revived → get_or l 3 d ≡ Some n.sent
+        → get_or l 4 e ≡ Some n.member_ticks → drop 5 l ≡ behind_first n.incidents n.crashes → l ≡ note_figures n
+    five [] many claims thrown back sends lasts later = absurd (omega (arith, many))
+    five (p ∷ []) many claims thrown back sends lasts later = absurd (omega (arith, many))
+    five (p ∷ q ∷ []) many claims thrown back sends lasts later = absurd (omega (arith, many))
+    five (p ∷ q ∷ r ∷ []) many claims thrown back sends lasts later = absurd (omega (arith, many))
+    five (p ∷ q ∷ r ∷ s ∷ []) many claims thrown back sends lasts later = absurd (omega (arith, many))
+    five (p ∷ q ∷ r ∷ s ∷ t ∷ l) many claims thrown back sends lasts later = (λ i. claims i ∷ thrown i ∷ back i ∷ sends i ∷ lasts i ∷ later i)
 
 -- what is left behind five of a list
 pub behind_five : (fs : List (Option ℕ)) → take (length fs - 5) (drop 5 fs) ≡ drop 5 fs

@@ -1,5 +1,5 @@
 -- One run more in a setting.
-use Rattle.std.proofs.Common.{◌≡◌, ◌+◌, ◌*◌, ◌<◌, ◌==◌, ℕ, Bool, true, false, cond, not, List, [], ◌∷◌, ◌++◌, length, get_or, take, refl, sym, ap, ◌∙◌, arith, append-nil, append_assoc, length-append}
+use Rattle.std.proofs.Common.{◌≡◌, ◌+◌, ◌*◌, ◌<◌, ◌==◌, ℕ, Bool, true, false, cond, not, List, [], ◌∷◌, ◌++◌, length, get_or, take, refl, sym, ap, subst, ◌∙◌, arith, append-nil, append_assoc, length-append}
 use Rattle.std.specs.Prelude.{Option, Some, None, sum_by, if◌then◌else◌}
 use Rattle.std.specs.Option.{option_to_list}
 use Rattle.std.specs.List.{filter_map, cons_option}
@@ -7,10 +7,12 @@ use Rattle.std.proofs.lemmas.List.{take_more}
 use Rattle.std.proofs.lemmas.List.Elements.{filter_map-append}
 use Rattle.std.proofs.lemmas.List.Sums.{sum_by_push}
 use Rattle.std.proofs.lemmas.Grind.{flat_map-append}
+use Rattle.incident_figures.specs.declared.run.RunCounts.{RunCounts}
+use Rattle.incident_figures.specs.Settings.{AreIncidentsOf}
 use Rattle.figures.specs.declared.setting.SettingFigures.{SettingFigures}
 use Rattle.figures.specs.declared.crashes.CrashTimes.{CrashTimes}
 use Rattle.figures.specs.Notes.{Note}
-use Rattle.figures.specs.Settings.{crashes_in, suspected_in, confirmed_in, last_in, false_deaths}
+use Rattle.figures.specs.Settings.{crashes_in, suspected_in, confirmed_in, last_in, incidents_in, false_deaths}
 use Rattle.figures.specs.Kept.{AreFiguresOf}
 
 -- ---- times
@@ -43,6 +45,13 @@ times_push h runs run old new were are =
 sum_push : (f : Note → ℕ) (runs : List Note) (run : Note) (old new this : ℕ) → old ≡ sum_by f runs → new ≡ old + this → this ≡ f run → new ≡ sum_by f (runs ++ run ∷ [])
 sum_push f runs run old new this was is same = omega (arith, was, is, same, sum_by_push f runs run)
 
+one_count : (o : Option RunCounts) → cons_option o [] ≡ option_to_list o
+one_count None = refl
+one_count (Some c) = refl
+
+incidents_push : (runs : List Note) (run : Note) → incidents_in (runs ++ run ∷ []) ≡ incidents_in runs ++ option_to_list run.incidents
+incidents_push runs run = filter_map-append (λ (those : Note). those.incidents) runs (run ∷ []) ∙ ap (λ l. incidents_in runs ++ l) (one_count run.incidents)
+
 one_or_none : (n : ℕ) → ◌≡◌ {A = ℕ} (if n == 0 then 0 else 1) (cond (not (n == 0)) 1 0)
 one_or_none n = settings (n == 0)
   where
@@ -59,8 +68,9 @@ pub one_run : (old new : SettingFigures) (this : Note) (runs : List Note) → Ar
     → new.thrown_out ≡ old.thrown_out + this.thrown_out → new.revived ≡ old.revived + this.revived
     → new.runs_with ≡ old.runs_with + (if this.thrown_out == 0 then 0 else 1) → new.deaths ≡ old.deaths + false_deaths this
     → new.squares ≡ old.squares + false_deaths this * false_deaths this → new.sent ≡ old.sent + this.sent
-    → new.member_ticks ≡ old.member_ticks + this.member_ticks → AreFiguresOf new (runs ++ this ∷ [])
-one_run old new this runs were suspected confirmed last counted crashed falsely thrown back with_thrown dead squared sent lasting =
+    → new.member_ticks ≡ old.member_ticks + this.member_ticks
+    → ((counts : List RunCounts) → AreIncidentsOf old.incidents counts → AreIncidentsOf new.incidents (counts ++ option_to_list this.incidents)) → AreFiguresOf new (runs ++ this ∷ [])
+one_run old new this runs were suspected confirmed last counted crashed falsely thrown back with_thrown dead squared sent lasting incidents =
     record {
       all = omega (arith, counted, were.all, length-append runs (this ∷ []));
       crashed = omega (arith, crashed, were.crashed, ap length (crashes_push runs this), length-append (crashes_in runs) this.crashes);
@@ -75,4 +85,5 @@ one_run old new this runs were suspected confirmed last counted crashed falsely 
       squares = sum_push (λ those. false_deaths those * false_deaths those) runs this _ _ _ were.squares squared refl;
       sendings = sum_push (λ those. those.sent) runs this _ _ _ were.sendings sent refl;
       lasting = sum_push (λ those. those.member_ticks) runs this _ _ _ were.lasting lasting refl;
+      with_incidents = subst (AreIncidentsOf new.incidents) (sym (incidents_push runs this)) (incidents (incidents_in runs) were.with_incidents);
     }

@@ -1,5 +1,5 @@
 -- The words of notes: which bytes they don't have, and that notes of one word are one.
-use Rattle.std.proofs.Common.{◌≡◌, ◌<◌, ◌^◌, ◌==◌, ◌∙◌, ℕ, suc, false, List, [], ◌∷◌, ◌++◌, map, length, decimal, lit<, arith, refl, sym, ap}
+use Rattle.std.proofs.Common.{◌≡◌, ◌<◌, ◌^◌, ◌==◌, ◌∙◌, ℕ, suc, false, List, [], ◌∷◌, map, length, drop, decimal, lit<, arith, refl, sym, ap}
 use Rattle.std.specs.Prelude.{Option, Some, None, All}
 use Rattle.std.specs.Option.{ForSome}
 use Rattle.std.specs.List.{flat_map, join_with_byte, slice_split}
@@ -11,7 +11,8 @@ use Rattle.std.proofs.lemmas.Str.Ascii.{All-from_ascii, IsAscii-from_all}
 use Rattle.reports.specs.Text.{figure}
 use Rattle.sweep_plan.proofs.Words.{Lacks, decimal_lacks}
 use Rattle.figures.specs.declared.crashes.CrashTimes.{CrashTimes}
-use Rattle.figures.specs.Notes.{Note, IsSmall, note_figures, note_text, times_in_order}
+use Rattle.figures.specs.Notes.{Note, IsSmall, counts_part, note_figures, note_text, times_in_order, times_part}
+use Rattle.figures.proofs.NoteParts.{behind_first, parts_of, same_counts}
 use Rattle.figures.proofs.SameFigures.{Small, figures_cut, low64, same_figures}
 
 -- ---- bytes that lists have, and don't
@@ -70,6 +71,9 @@ same_note m n low high same =
         let third : m.revived ≡ n.revived = cc in
         let fourth : m.sent ≡ n.sent = cc in
         let fifth : m.member_ticks ≡ n.member_ticks = cc in
-        let rest : flat_map times_in_order m.crashes ≡ flat_map times_in_order n.crashes = cc in
-        let more = same_times m.crashes n.crashes rest in
-        (λ i. record { crashes = more i; false_suspect = first i; thrown_out = second i; revived = third i; sent = fourth i; member_ticks = fifth i })
+        let rest : behind_first m.incidents m.crashes ≡ behind_first n.incidents n.crashes = ap (drop 5) same in
+        let mine = parts_of m.incidents m.crashes in
+        let others = parts_of n.incidents n.crashes in
+        let counts = same_counts m.incidents n.incidents (sym mine.0 ∙ ap counts_part rest ∙ others.0) in
+        let more = same_times m.crashes n.crashes (sym mine.1 ∙ ap times_part rest ∙ others.1) in
+        (λ i. record { crashes = more i; false_suspect = first i; thrown_out = second i; revived = third i; sent = fourth i; member_ticks = fifth i; incidents = counts i })

@@ -4,7 +4,7 @@ use Rattle.std.specs.Prelude.{Option, Some, None, if◌then◌else◌}
 use Rattle.std.specs.List.{filter_map}
 use Rattle.figures.specs.declared.crashes.CrashTimes.{CrashTimes}
 use Rattle.figures.specs.Notes.{Note}
-use Rattle.figures.specs.Settings.{rank, at_rank, percentile, false_rate, false_suspicions_in, message_rate, sent_in, member_ticks_in, share_low, share_high, nearest_hundredth, deaths_low, deaths_high}
+use Rattle.figures.specs.Settings.{rank, at_rank, percentile, false_rate, false_suspicions_in, message_rate, sent_in, member_ticks_in, share_low, share_high, nearest_hundredth}
 
 -- a percentile
 pub of_rank : (percent : ℕ) (time : CrashTimes → Option ℕ) (crashes : List CrashTimes) (told : Option ℕ) (given : List ℕ) (count : ℕ) → told ≡ at_rank (rank percent count) given

@@ -1,34 +1,37 @@
 -- The cells of a run, and what its metadata says of them.
-use Rattle.std.proofs.Common.{◌≡◌, ◌≢◌, ◌∙◌, ◌+◌, ◌<◌, ◌^◌, fold, ◌==◌, ◌||◌, ℕ, suc, Bool, true, false, cond, List, [], ◌∷◌, ◌++◌, map, length, get_or, decimal, lit<, arith, refl, sym, ap, subst}
+use Rattle.std.proofs.Common.{◌≡◌, ◌≢◌, ◌∙◌, ◌+◌, ◌*◌, ◌<◌, ◌^◌, fold, ◌==◌, ◌||◌, ℕ, suc, false, cond, List, [], ◌∷◌, ◌++◌, map, length, get_or, decimal, lit<, arith, refl, sym, ap, subst}
 use Rattle.std.specs.Prelude.{Option, Some, None, All, count_by, is_some, max, min, unwrap_or, if◌then◌else◌}
-use Rattle.std.specs.Option.{ForSome}
+use Rattle.std.specs.Option.{ForSome, option_map}
 use Rattle.std.specs.List.{cons_option, filter_map, join_with_byte, reduce, slice_split}
 use Rattle.std.specs.Str.{IsAscii}
 use Rattle.std.specs.Bool.{Decides}
 use Rattle.std.specs.Option.{option_eq}
 use Rattle.std.proofs.lemmas.Bool.{false≢true}
-use Rattle.std.proofs.lemmas.Bool.Decides.{Decides-eqb, nat_tests}
+use Rattle.std.proofs.lemmas.Bool.Decides.{Decides-eqb}
 use Rattle.std.proofs.lemmas.Option.{none-some, same_Some}
 use Rattle.std.proofs.lemmas.Str.Ascii.{All-from_ascii, IsAscii-from_all}
 use Rattle.std.proofs.lemmas.Fmt.{IsAscii-decimal, decimal_injective, decimal_is_IsNumeral}
 use Rattle.std.proofs.lemmas.List.{append_cancel_right, length-map}
-use Rattle.std.proofs.lemmas.List.Elements.{All-append, All-cons, All-head, All-map, All-nil, All-tail, All-weaker}
+use Rattle.std.proofs.lemmas.List.Elements.{All-head, All-map, All-nil, All-tail, All-weaker}
 use Rattle.std.proofs.lemmas.List.Splits.{join_with_byte-slice_split}
 use Rattle.csv.specs.Writing.{default_writer, field_text, needs_quotes, quoted}
 use Rattle.csv.specs.Quoting.{needs_byte}
 use Rattle.scenario.specs.Setup.{Setup}
 use Rattle.trace.specs.declared.row.Row.{Row}
 use Rattle.reports.specs.declared.departure.DepartureReport.{DepartureReport}
-use Rattle.reports.specs.Departures.{crashes_of, latency_of}
+use Rattle.reports.specs.Departures.{latency_of}
 use Rattle.decimals.specs.Numbers.{IsDecimal}
 use Rattle.sweep_plan.proofs.Words.{Lacks, decimal_lacks, joined_split}
-use Rattle.figures.specs.declared.note_words.MetadataFault.{MetadataFault}
+use Rattle.incident_figures.specs.declared.run.RunCounts.{RunCounts}
+use Rattle.incident_figures.specs.declared.run.RunIncidents.{RunIncidents}
+use Rattle.figures.specs.declared.column_set.ColumnSet.{ColumnSet}
+use Rattle.figures.specs.declared.column_set.ColumnSet.TheVariants.{First, WithRevived, WithIncidents}
 use Rattle.figures.specs.declared.run.RunFigures.{RunFigures}
 use Rattle.figures.specs.declared.crashes.CrashTimes.{CrashTimes}
-use Rattle.figures.specs.Cells.{AgreesWith, AreCellsOf, SayCells, TakesCells, cells_in_order, is_confirmed, number_in}
-use Rattle.figures.specs.Figures.{figures_of, is_detected, last_after, suspected_after}
-use Rattle.figures.specs.Lines.{cell, cells_joined, figures_in_order, run_line, table_line}
-use Rattle.figures.specs.Notes.{AreWordsOf, IsWordOf, Note, note_of, times_of}
+use Rattle.figures.specs.Cells.{AgreesWith, AreCellsOf, SayCells, TakesCells, cells_in_order, counts_kept, counts_told, incidents_taken, is_confirmed, number_in}
+use Rattle.figures.specs.Figures.{crashes_told, figures_of, incidents_told, is_detected, last_after, suspected_after}
+use Rattle.figures.specs.Lines.{cell, claims_in_order, figures_in_order, incident_cells, protocol_in_order, run_line, table_line}
+use Rattle.figures.specs.Notes.{AreWordsOf, IsWordOf, Note, counts_of, note_of, times_of}
 use Rattle.figures.specs.Settings.{suspected_in, confirmed_in, last_in}
 use Rattle.figures.proofs.SameFigures.{Small, low64}
 use Rattle.figures.proofs.SameNotes.{all_joined}
@@ -56,11 +59,16 @@ counted_kept (crash ∷ crashes) n =
 found_kept : (crashes : List DepartureReport) → count_by is_detected crashes ≡ count_by is_confirmed (map times_of crashes)
 found_kept crashes = counted_kept crashes 0
 
+-- a note counts of incidents what the figures say
+same_counts : (time : ℕ) (incidents : Option RunIncidents) → option_map counts_told incidents ≡ option_map counts_kept (option_map (counts_of time) incidents)
+same_counts time None = refl
+same_counts time (Some run) = refl
+
 -- its figures agree with its metadata
-pub made_agrees : (s : Setup) (rows : List Row) → AgreesWith (note_of s rows) (figures_of s rows)
+pub made_agrees : (s : Setup) (tick : ℕ) (rows : List Row) → AgreesWith (note_of s tick rows) (figures_of s rows)
 unfolding note_of figures_of
-made_agrees s rows =
-    let crashes = crashes_of rows in
+made_agrees s tick rows =
+    let crashes = crashes_told s.version rows in
     let suspected = times_kept suspected_in suspected_after (λ crash. refl) crashes in
     let confirmed = times_kept confirmed_in latency_of (λ crash. refl) crashes in
     let last = times_kept last_in last_after (λ crash. refl) crashes in
@@ -75,6 +83,7 @@ made_agrees s rows =
       thrown = refl;
       returned = refl;
       messages = refl;
+      counted = same_counts (s.end * tick) (incidents_told s.version s rows);
     }
 
 -- ---- fields that are written as they are
@@ -106,10 +115,10 @@ plain_cells [] small = refl
 plain_cells (f ∷ fs) small = (λ i. plain_cell f (All-head Small f fs small) i ∷ plain_cells fs (All-tail Small f fs small) i)
 
 -- what a line has behind its values
-pub cells_written : (revived : Bool) (seed : ℕ) (run : RunFigures) → All Small (cells_in_order revived seed run)
-    → run_line revived [] seed run ≡ join_with_byte 44 (map cell (cells_in_order revived seed run)) ++ 10 ∷ []
+pub cells_written : (columns : ColumnSet) (seed : ℕ) (run : RunFigures) → All Small (cells_in_order columns seed run)
+    → run_line columns [] seed run ≡ join_with_byte 44 (map cell (cells_in_order columns seed run)) ++ 10 ∷ []
 unfolding table_line
-cells_written revived seed run small = ap (λ (l : List (List ℕ)). join_with_byte 44 l ++ 10 ∷ []) (plain_cells (cells_in_order revived seed run) small)
+cells_written columns seed run small = ap (λ (l : List (List ℕ)). join_with_byte 44 l ++ 10 ∷ []) (plain_cells (cells_in_order columns seed run) small)
 
 -- ---- the text of cells
 
@@ -158,27 +167,27 @@ no_cell_word word some none (Some n) is = none n (record { written = is.written;
 
 -- ---- a text and its cells
 
-module _ (revived : Bool) (known : Option ℕ) (n : Note) (text : List ℕ) where
-  abbrev told : AreCellsOf revived known n text → List (Option ℕ)
-  told is = cells_in_order revived is.seed is.run
+module _ (columns : ColumnSet) (known : Option ℕ) (n : Note) (text : List ℕ) where
+  abbrev told : AreCellsOf columns known n text → List (Option ℕ)
+  told is = cells_in_order columns is.seed is.run
 
-  pub no_words : ((words : List ℕ) → IsAscii words → text ≢ words ++ 10 ∷ []) → ¬ (AreCellsOf revived known n text)
-  no_words none is = none (join_with_byte 44 (map cell (told is))) (IsAscii-from_all _ (lows (told is) is.small)) (is.written ∙ cells_written revived is.seed is.run is.small)
+  pub no_words : ((words : List ℕ) → IsAscii words → text ≢ words ++ 10 ∷ []) → ¬ (AreCellsOf columns known n text)
+  no_words none is = none (join_with_byte 44 (map cell (told is))) (IsAscii-from_all _ (lows (told is) is.small)) (is.written ∙ cells_written columns is.seed is.run is.small)
 
   module _ (words : List ℕ) (fed : text ≡ words ++ 10 ∷ []) where
-    words_joined : (is : AreCellsOf revived known n text) → words ≡ join_with_byte 44 (map cell (told is))
-    words_joined is = append_cancel_right words (join_with_byte 44 (map cell (told is))) (10 ∷ []) (sym fed ∙ is.written ∙ cells_written revived is.seed is.run is.small)
+    words_joined : (is : AreCellsOf columns known n text) → words ≡ join_with_byte 44 (map cell (told is))
+    words_joined is = append_cancel_right words (join_with_byte 44 (map cell (told is))) (10 ∷ []) (sym fed ∙ is.written ∙ cells_written columns is.seed is.run is.small)
 
-    words_cut : (is : AreCellsOf revived known n text) → slice_split (λ byte. byte == 44) words ≡ map cell (told is)
-    words_cut is = ap (slice_split (λ byte. byte == 44)) (words_joined is) ∙ cells_cut (Some is.seed) (figures_in_order revived is.run) is.small
+    words_cut : (is : AreCellsOf columns known n text) → slice_split (λ byte. byte == 44) words ≡ map cell (told is)
+    words_cut is = ap (slice_split (λ byte. byte == 44)) (words_joined is) ∙ cells_cut (Some is.seed) (figures_in_order columns is.run) is.small
 
-    pub no_cells : ((fs : List (Option ℕ)) → ¬ (AreWordsOf cell (slice_split (λ byte. byte == 44) words) fs)) → ¬ (AreCellsOf revived known n text)
+    pub no_cells : ((fs : List (Option ℕ)) → ¬ (AreWordsOf cell (slice_split (λ byte. byte == 44) words) fs)) → ¬ (AreCellsOf columns known n text)
     no_cells none is = none (told is) (record { written = sym (words_cut is); small = is.small })
 
     module _ (fs : List (Option ℕ)) (are : AreWordsOf cell (slice_split (λ byte. byte == 44) words) fs) where
-      pub cells_so : SayCells revived known n fs → AreCellsOf revived known n text
+      pub cells_so : SayCells columns known n fs → AreCellsOf columns known n text
       cells_so say =
-          let small : All Small (cells_in_order revived say.seed say.run) = subst (All Small) say.told are.small in
+          let small : All Small (cells_in_order columns say.seed say.run) = subst (All Small) say.told are.small in
           record {
             seed = say.seed;
             seeded = say.seeded;
@@ -187,10 +196,10 @@ module _ (revived : Bool) (known : Option ℕ) (n : Note) (text : List ℕ) wher
             small = small;
             written = fed
                 ∙ ap (λ l. l ++ 10 ∷ []) (sym (join_with_byte-slice_split 44 words) ∙ ap (join_with_byte 44) (sym are.written) ∙ ap (λ l. join_with_byte 44 (map cell l)) say.told)
-                ∙ sym (cells_written revived say.seed say.run small);
+                ∙ sym (cells_written columns say.seed say.run small);
           }
 
-      pub not_cells : ¬ (SayCells revived known n fs) → ¬ (AreCellsOf revived known n text)
+      pub not_cells : ¬ (SayCells columns known n fs) → ¬ (AreCellsOf columns known n text)
       not_cells none is = none (record {
         seed = is.seed;
         seeded = is.seeded;
@@ -203,7 +212,8 @@ module _ (revived : Bool) (known : Option ℕ) (n : Note) (text : List ℕ) wher
 
 one_run : (n : Note) (made run : RunFigures) → AgreesWith n made → AgreesWith n run → made.rows ≡ run.rows → made.false_suspect_healthy ≡ run.false_suspect_healthy
     → made.false_confirm ≡ run.false_confirm → made.false_confirm_healthy ≡ run.false_confirm_healthy → made.accuse ≡ run.accuse → made.refute ≡ run.refute
-    → made.fail ≡ run.fail → made.health ≡ run.health → made.lost ≡ run.lost → made ≡ run
+    → made.fail ≡ run.fail → made.health ≡ run.health → made.lost ≡ run.lost
+    → (claims_in_order made ≡ claims_in_order run) × ((made.revived ≡ run.revived) × (protocol_in_order made ≡ protocol_in_order run))
 one_run n made run agrees has rows suspect confirm healthy accuse refute fail health lost =
     let crashes = agrees.crashed ∙ sym has.crashed in
     let detected = agrees.found ∙ sym has.found in
@@ -214,73 +224,87 @@ one_run n made run agrees has rows suspect confirm healthy accuse refute fail he
     let false_suspect = agrees.false_claims ∙ sym has.false_claims in
     let thrown_out = agrees.thrown ∙ sym has.thrown in
     let revived = agrees.returned ∙ sym has.returned in
-    let sent = agrees.messages ∙ sym has.messages in
-    λ i. record {
-      rows = rows i;
-      crashes = crashes i;
-      detected = detected i;
-      suspect_least = suspect_least i;
-      confirm_least = confirm_least i;
-      confirm_greatest = confirm_greatest i;
-      last_greatest = last_greatest i;
-      false_suspect = false_suspect i;
-      false_suspect_healthy = suspect i;
-      false_confirm = confirm i;
-      false_confirm_healthy = healthy i;
-      thrown_out = thrown_out i;
-      revived = revived i;
-      accuse = accuse i;
-      refute = refute i;
-      fail = fail i;
-      health = health i;
-      sent = sent i;
-      lost = lost i;
-    }
+    let sent = agrees.messages ∙ sym has.messages in (
+      (λ i. Some (rows i) ∷ Some (crashes i) ∷ Some (detected i) ∷ suspect_least i ∷ confirm_least i ∷ confirm_greatest i ∷ last_greatest i
+          ∷ Some (false_suspect i) ∷ Some (suspect i) ∷ Some (confirm i) ∷ Some (healthy i) ∷ Some (thrown_out i) ∷ []),
+      (revived, (λ i. Some (accuse i) ∷ Some (refute i) ∷ Some (fail i) ∷ Some (health i) ∷ Some (sent i) ∷ Some (lost i) ∷ [])),
+    )
 
--- what neither the metadata nor the cells leave open is one run
-figures_one : (revived : Bool) (n : Note) (cells : List (Option ℕ)) (made : RunFigures) → AgreesWith n made → TakesCells revived cells made
-    → (seed : ℕ) (run : RunFigures) → AgreesWith n run → cells ≡ cells_in_order revived seed run → made ≡ run
-figures_one true n cells made agrees takes seed run has is =
-    let at : (place : ℕ) → number_in cells place ≡ number_in (cells_in_order true seed run) place = λ place. ap (λ l. number_in l place) is in
-    let rows : made.rows ≡ run.rows = takes.rows_in ∙ at 1 in
-    let suspect : made.false_suspect_healthy ≡ run.false_suspect_healthy = takes.suspect_in ∙ at 9 in
-    let confirm : made.false_confirm ≡ run.false_confirm = takes.confirm_in ∙ at 10 in
-    let healthy : made.false_confirm_healthy ≡ run.false_confirm_healthy = takes.confirm_healthy_in ∙ at 11 in
-    let accuse : made.accuse ≡ run.accuse = takes.accuse_in ∙ at 14 in
-    let refute : made.refute ≡ run.refute = takes.refute_in ∙ at 15 in
-    let fail : made.fail ≡ run.fail = takes.fail_in ∙ at 16 in
-    let health : made.health ≡ run.health = takes.health_in ∙ at 17 in
-    let lost : made.lost ≡ run.lost = takes.lost_in ∙ at 19 in
-    one_run n made run agrees has rows suspect confirm healthy accuse refute fail health lost
-figures_one false n cells made agrees takes seed run has is =
-    let at : (place : ℕ) → number_in cells place ≡ number_in (cells_in_order false seed run) place = λ place. ap (λ l. number_in l place) is in
-    let rows : made.rows ≡ run.rows = takes.rows_in ∙ at 1 in
-    let suspect : made.false_suspect_healthy ≡ run.false_suspect_healthy = takes.suspect_in ∙ at 9 in
-    let confirm : made.false_confirm ≡ run.false_confirm = takes.confirm_in ∙ at 10 in
-    let healthy : made.false_confirm_healthy ≡ run.false_confirm_healthy = takes.confirm_healthy_in ∙ at 11 in
-    let accuse : made.accuse ≡ run.accuse = takes.accuse_in ∙ at 13 in
-    let refute : made.refute ≡ run.refute = takes.refute_in ∙ at 14 in
-    let fail : made.fail ≡ run.fail = takes.fail_in ∙ at 15 in
-    let health : made.health ≡ run.health = takes.health_in ∙ at 16 in
-    let lost : made.lost ≡ run.lost = takes.lost_in ∙ at 18 in
-    one_run n made run agrees has rows suspect confirm healthy accuse refute fail health lost
+one_of : (x y : RunIncidents) → ◌≡◌ {A = Option RunIncidents} (Some x) (Some y) → x ≡ y
+one_of x y same = cc
+
+-- incidents that were taken from cells are those that the cells say
+same_taken : (counts : Option RunCounts) (cells : List (Option ℕ)) (made found : Option RunIncidents) → made ≡ incidents_taken counts cells
+    → option_map counts_told found ≡ option_map counts_kept counts
+    → ((run : RunIncidents) → found ≡ Some run → (number_in cells 17 ≡ run.restarts) × (get_or cells 18 None ≡ run.whole)) → made ≡ found
+same_taken None cells made None is counted at = is
+same_taken None cells made (Some run) is counted at = absurd (none-some (counts_told run) (sym counted))
+same_taken (Some c) cells made None is counted at = absurd (none-some (counts_kept c) counted)
+same_taken (Some c) cells made (Some run) is counted at =
+    let same : counts_told run ≡ counts_kept c = cc in
+    let both = at run refl in
+    let alarms : c.alarms ≡ run.alarms = sym (ap (λ x. x.0) same) in
+    let deaths : c.deaths ≡ run.deaths = sym (ap (λ x. x.1) same) in
+    let well : c.deaths_well ≡ run.deaths_well = sym (ap (λ x. x.2) same) in
+    let restarts = both.0 in
+    let whole = both.1 in
+    is ∙ (λ i. Some (record { alarms = alarms i; deaths = deaths i; deaths_well = well i; restarts = restarts i; whole = whole i }))
+
+-- the cells of a run with incidents
+abbrev incident_line : ℕ → RunFigures → Option RunIncidents → List (Option ℕ)
+incident_line seed run incidents = Some seed ∷ (claims_in_order run ++ ((Some run.revived ∷ incident_cells incidents) ++ protocol_in_order run))
+
+incidents_one : (n : Note) (cells : List (Option ℕ)) (made : RunFigures) → AgreesWith n made → TakesCells WithIncidents n cells made
+    → (seed : ℕ) (run : RunFigures) → AgreesWith n run → (found : Option RunIncidents) → run.incidents ≡ found → cells ≡ incident_line seed run found
+    → incident_line seed made made.incidents ≡ incident_line seed run found
+incidents_one n cells made agrees takes seed run has None here is =
+    let at : (place : ℕ) → number_in cells place ≡ number_in (incident_line seed run None) place = λ place. ap (λ l. number_in l place) is in
+    let same = one_run n made run agrees has (takes.rows_in ∙ at 1) (takes.suspect_in ∙ at 9) (takes.confirm_in ∙ at 10) (takes.confirm_healthy_in ∙ at 11)
+    (takes.accuse_in ∙ at 19) (takes.refute_in ∙ at 20) (takes.fail_in ∙ at 21) (takes.health_in ∙ at 22) (takes.lost_in ∙ at 24) in
+    let incidents : made.incidents ≡ None =
+    same_taken n.incidents cells made.incidents None takes.incidents_in (sym (ap (option_map counts_told) here) ∙ has.counted) (λ r e. absurd (none-some r e)) in
+    (λ i. Some seed ∷ (same.0 i ++ ((Some (same.1.0 i) ∷ incident_cells (incidents i)) ++ same.1.1 i)))
+incidents_one n cells made agrees takes seed run has (Some told) here is =
+    let at : (place : ℕ) → number_in cells place ≡ number_in (incident_line seed run (Some told)) place = λ place. ap (λ l. number_in l place) is in
+    let whole : get_or cells 18 None ≡ told.whole = ap (λ l. get_or l 18 None) is in
+    let same = one_run n made run agrees has (takes.rows_in ∙ at 1) (takes.suspect_in ∙ at 9) (takes.confirm_in ∙ at 10) (takes.confirm_healthy_in ∙ at 11)
+    (takes.accuse_in ∙ at 19) (takes.refute_in ∙ at 20) (takes.fail_in ∙ at 21) (takes.health_in ∙ at 22) (takes.lost_in ∙ at 24) in
+    let incidents : made.incidents ≡ Some told =
+    same_taken n.incidents cells made.incidents (Some told) takes.incidents_in (sym (ap (option_map counts_told) here) ∙ has.counted)
+    (λ r e. (at 17 ∙ ap (λ (x : RunIncidents). x.restarts) (one_of told r e), whole ∙ ap (λ (x : RunIncidents). x.whole) (one_of told r e))) in
+    (λ i. Some seed ∷ (same.0 i ++ ((Some (same.1.0 i) ∷ incident_cells (incidents i)) ++ same.1.1 i)))
+
+-- what neither the metadata nor the cells leave open are the cells of one run
+figures_one : (columns : ColumnSet) (n : Note) (cells : List (Option ℕ)) (made : RunFigures) → AgreesWith n made → TakesCells columns n cells made
+    → (seed : ℕ) (run : RunFigures) → AgreesWith n run → cells ≡ cells_in_order columns seed run → cells_in_order columns seed made ≡ cells_in_order columns seed run
+figures_one First n cells made agrees takes seed run has is =
+    let at : (place : ℕ) → number_in cells place ≡ number_in (cells_in_order First seed run) place = λ place. ap (λ l. number_in l place) is in
+    let same = one_run n made run agrees has (takes.rows_in ∙ at 1) (takes.suspect_in ∙ at 9) (takes.confirm_in ∙ at 10) (takes.confirm_healthy_in ∙ at 11)
+    (takes.accuse_in ∙ at 13) (takes.refute_in ∙ at 14) (takes.fail_in ∙ at 15) (takes.health_in ∙ at 16) (takes.lost_in ∙ at 18) in
+    (λ i. Some seed ∷ (same.0 i ++ same.1.1 i))
+figures_one WithRevived n cells made agrees takes seed run has is =
+    let at : (place : ℕ) → number_in cells place ≡ number_in (cells_in_order WithRevived seed run) place = λ place. ap (λ l. number_in l place) is in
+    let same = one_run n made run agrees has (takes.rows_in ∙ at 1) (takes.suspect_in ∙ at 9) (takes.confirm_in ∙ at 10) (takes.confirm_healthy_in ∙ at 11)
+    (takes.accuse_in ∙ at 14) (takes.refute_in ∙ at 15) (takes.fail_in ∙ at 16) (takes.health_in ∙ at 17) (takes.lost_in ∙ at 19) in
+    (λ i. Some seed ∷ (same.0 i ++ Some (same.1.0 i) ∷ same.1.1 i))
+figures_one WithIncidents n cells made agrees takes seed run has is = incidents_one n cells made agrees takes seed run has run.incidents refl is
 
 -- cells of a run are those of the figures that were taken
-pub say_so : (revived : Bool) (known : Option ℕ) (n : Note) (cells expected : List (Option ℕ)) (seed : ℕ) (run : RunFigures) → AgreesWith n run → seed ≡ unwrap_or known (number_in cells 0)
-    → expected ≡ cells_in_order revived seed run → cells ≡ expected → SayCells revived known n cells
-say_so revived known n cells expected seed run agrees is laid same = record { seed = seed; seeded = known_so known is; run = run; agrees = agrees; told = same ∙ laid }
+pub say_so : (columns : ColumnSet) (known : Option ℕ) (n : Note) (cells expected : List (Option ℕ)) (seed : ℕ) (run : RunFigures) → AgreesWith n run → seed ≡ unwrap_or known (number_in cells 0)
+    → expected ≡ cells_in_order columns seed run → cells ≡ expected → SayCells columns known n cells
+say_so columns known n cells expected seed run agrees is laid same = record { seed = seed; seeded = known_so known is; run = run; agrees = agrees; told = same ∙ laid }
   where
     known_so : (known : Option ℕ) → seed ≡ unwrap_or known (number_in cells 0) → ForSome known (λ k. seed ≡ k)
     known_so None is = λ k none. absurd cc
     known_so (Some k) is = λ j some. is ∙ same_Some k j some
 
-pub say_not : (revived : Bool) (known : Option ℕ) (n : Note) (cells expected : List (Option ℕ)) (seed : ℕ) (run : RunFigures) → AgreesWith n run → TakesCells revived cells run
-    → seed ≡ unwrap_or known (number_in cells 0) → expected ≡ cells_in_order revived seed run → cells ≢ expected → ¬ (SayCells revived known n cells)
-say_not revived known n cells expected seed run agrees takes is laid other say =
-    let one : run ≡ say.run = figures_one revived n cells run agrees takes say.seed say.run say.agrees say.told in
+pub say_not : (columns : ColumnSet) (known : Option ℕ) (n : Note) (cells expected : List (Option ℕ)) (seed : ℕ) (run : RunFigures) → AgreesWith n run → TakesCells columns n cells run
+    → seed ≡ unwrap_or known (number_in cells 0) → expected ≡ cells_in_order columns seed run → cells ≢ expected → ¬ (SayCells columns known n cells)
+say_not columns known n cells expected seed run agrees takes is laid other say =
+    let one = figures_one columns n cells run agrees takes say.seed say.run say.agrees say.told in
     let first : number_in cells 0 ≡ say.seed = ap (λ l. number_in l 0) say.told in
     let same : seed ≡ say.seed = by known is say.seeded in
-    other (say.told ∙ (λ i. cells_in_order revived (sym same i) (sym one i)) ∙ sym laid)
+    other (say.told ∙ sym one ∙ ap (λ k. cells_in_order columns k run) (sym same) ∙ sym laid)
   where
     by : (known : Option ℕ) → seed ≡ unwrap_or known (number_in cells 0) → ForSome known (λ k. say.seed ≡ k) → seed ≡ say.seed
     by None is seeded = is ∙ ap (λ l. number_in l 0) say.told

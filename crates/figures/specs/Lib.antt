@@ -1,4 +1,6 @@
+pub mod ColumnSets
 pub mod Figures
+pub mod Told
 pub mod Lines
 pub mod Notes
 pub mod Cells

@@ -1,22 +1,23 @@
 -- What is kept of a run for its setting, and how it is written.
-use Rattle.std.specs.Prelude.{◌≡◌, ◌≢◌, ℕ, ◌<◌, ◌^◌, ◌*◌, List, [], ◌∷◌, ◌++◌, Option, Some, All, map}
+use Rattle.std.specs.Prelude.{◌≡◌, ◌≢◌, ℕ, ◌<◌, ◌^◌, ◌*◌, ◌%◌, ◌==◌, List, [], ◌∷◌, ◌++◌, Option, Some, None, All, length, map, take, drop, if◌then◌else◌}
 use Rattle.std.specs.List.{flat_map, join_with_byte}
-use Rattle.std.specs.Option.{ForSome}
+use Rattle.std.specs.Option.{ForSome, option_map}
 use Rattle.scenario.specs.Setup.{Setup, member_count}
 use Rattle.trace.specs.declared.row.What.TheVariants as what
 use Rattle.trace.specs.declared.row.Row.{Row}
 use Rattle.reports.specs.declared.departure.DepartureReport.{DepartureReport}
-use Rattle.reports.specs.Departures.{crashes_of, latency_of}
-use Rattle.reports.specs.FalsePositives.{ways_to_depart, false_positives}
-use Rattle.reports.specs.Revivals.{revivals}
+use Rattle.reports.specs.Departures.{latency_of}
 use Rattle.reports.specs.Text.{figure}
+use Rattle.incident_figures.specs.declared.run.RunCounts.{RunCounts}
+use Rattle.incident_figures.specs.declared.run.RunIncidents.{RunIncidents}
 use Rattle.figures.specs.declared.crashes.CrashTimes.{CrashTimes}
 use Rattle.figures.specs.declared.note_words.MetadataFault.{MetadataFault}
 use Rattle.figures.specs.declared.note_words.MetadataFault.TheVariants.{Word, Memory}
-use Rattle.figures.specs.Figures.{suspected_after, last_after, thrown_out, messages_sent}
+use Rattle.figures.specs.Figures.{suspected_after, last_after, crashes_told, claim_count, revivals_told, thrown_out, messages_sent, incidents_told}
 
 -- How the crashes of a run were detected, in their order; how many suspicions were false positives, how many members had a false death, how
--- often members were taken for alive again and how many messages were sent; and how long the members last together, in ticks.
+-- often members were taken for alive again and how many messages were sent; how long the members last together, in ticks; and what its setting
+-- counts of its incidents, where the version of its text has them.
 pub record Note : Type 0 where
   pub crashes : List CrashTimes
   pub false_suspect : ℕ
@@ -24,30 +25,50 @@ pub record Note : Type 0 where
   pub revived : ℕ
   pub sent : ℕ
   pub member_ticks : ℕ
+  pub incidents : Option RunCounts
 
 -- the times until a crash was first suspected, first confirmed and last confirmed, where it was
 abbrev pub times_of : DepartureReport → CrashTimes
 times_of crash = record { suspected = suspected_after crash; confirmed = latency_of crash; last = last_after crash }
 
--- what is kept of a run of a scenario that has these rows; each member lasts from moment 0 to the end
-unfoldable pub note_of : Setup → List Row → Note
-note_of s rows =
+-- what a setting counts of the incidents of a run that lasts so many microseconds
+abbrev pub counts_of : ℕ → RunIncidents → RunCounts
+counts_of time run = record { alarms = run.alarms; deaths = run.deaths; deaths_well = run.deaths_well; time = time }
+
+-- what is kept of a run of a scenario that has these rows, where a tick is so many microseconds; each member lasts from moment 0 to the end
+unfoldable pub note_of : Setup → ℕ → List Row → Note
+note_of s tick rows =
     record {
-      crashes = map times_of (crashes_of rows);
-      false_suspect = false_positives ways_to_depart what.Suspect rows;
+      crashes = map times_of (crashes_told s.version rows);
+      false_suspect = claim_count s.version what.Suspect rows;
       thrown_out = thrown_out s rows;
-      revived = revivals rows;
+      revived = revivals_told s.version rows;
       sent = messages_sent s.version rows;
       member_ticks = member_count s * s.end;
+      incidents = option_map (counts_of (s.end * tick)) (incidents_told s.version s rows);
     }
 
 -- the times of a crash, in the order in which they are written
 abbrev pub times_in_order : CrashTimes → List (Option ℕ)
 times_in_order t = t.suspected ∷ t.confirmed ∷ t.last ∷ []
 
--- what a note says, in the order in which it is written: five numbers, and three times for each crash
+-- the counts of incidents likewise
+abbrev pub counts_in_order : Option RunCounts → List (Option ℕ)
+counts_in_order (Some c) = Some c.alarms ∷ Some c.deaths ∷ Some c.deaths_well ∷ Some c.time ∷ []
+counts_in_order None = []
+
+-- What a note says, in the order in which it is written: five numbers, four more where it has incidents, and three times for each crash. So the
+-- number of its figures tells whether it has incidents.
 abbrev pub note_figures : Note → List (Option ℕ)
-note_figures n = Some n.false_suspect ∷ Some n.thrown_out ∷ Some n.revived ∷ Some n.sent ∷ Some n.member_ticks ∷ flat_map times_in_order n.crashes
+note_figures n =
+    Some n.false_suspect ∷ Some n.thrown_out ∷ Some n.revived ∷ Some n.sent ∷ Some n.member_ticks ∷ (counts_in_order n.incidents ++ flat_map times_in_order n.crashes)
+
+-- among the figures behind the first five those of incidents, and those of crashes: the former are four, and there where their number tells so
+abbrev pub counts_part : List (Option ℕ) → List (Option ℕ)
+counts_part fs = if length fs % 3 == 1 then take 4 fs else []
+
+abbrev pub times_part : List (Option ℕ) → List (Option ℕ)
+times_part fs = if length fs % 3 == 1 then drop 4 fs else fs
 
 -- a note is written as its figures with spaces between them, and a dash for a time that isn't there
 abbrev pub note_text : Note → List ℕ
@@ -99,3 +120,8 @@ RefusesNoteOf fs Memory = Unit {0}
 abbrev pub RefusesTimes : List (Option ℕ) → MetadataFault → Type 0
 RefusesTimes fs Word = (times : List CrashTimes) → flat_map times_in_order times ≢ fs
 RefusesTimes fs Memory = Unit {0}
+
+-- and of figures that are no counts of incidents
+abbrev pub RefusesCounts : List (Option ℕ) → MetadataFault → Type 0
+RefusesCounts fs Word = (counts : Option RunCounts) → counts_in_order counts ≢ counts_part fs
+RefusesCounts fs Memory = Unit {0}

@@ -1,6 +1,9 @@
 -- The figures of a setting: of runs that belong together, by what is kept of each. In a sweep these differ in their seed alone.
-use Rattle.std.specs.Prelude.{◌≡◌, ℕ, ◌+◌, ◌-◌, ◌*◌, ◌/◌, ◌==◌, nat_le, not, Option, Some, None, List, length, filter, flat_map, count_by, sum_by, min, max, if◌then◌else◌}
+use Rattle.std.specs.Prelude.{◌≡◌, ℕ, ◌+◌, ◌-◌, ◌*◌, ◌/◌, ◌==◌, nat_le, not, Option, Some, None, List, [], length, filter, flat_map, count_by, sum_by, min, max, if◌then◌else◌}
 use Rattle.std.specs.List.{filter_map, range_with_len, reduce}
+use Rattle.incident_figures.specs.declared.run.RunCounts.{RunCounts}
+use Rattle.incident_figures.specs.declared.setting.IncidentSummary.{IncidentSummary}
+use Rattle.incident_figures.specs.Settings.{IsSummaryOf as IsIncidentSummaryOf}
 use Rattle.figures.specs.declared.crashes.CrashTimes.{CrashTimes}
 use Rattle.figures.specs.declared.summary.SettingSummary.{SettingSummary}
 use Rattle.figures.specs.Notes.{Note}
@@ -47,6 +50,15 @@ thrown_out_in runs = sum_by (λ run. run.thrown_out) runs
 -- how often members were taken for alive again in all runs
 abbrev pub revived_in : List Note → ℕ
 revived_in runs = sum_by (λ run. run.revived) runs
+
+-- what is counted of the incidents of the runs that have them
+abbrev pub incidents_in : List Note → List RunCounts
+incidents_in runs = filter_map (λ run. run.incidents) runs
+
+-- the incidents of these runs, where they have any
+abbrev pub AreIncidents : Option IncidentSummary → List RunCounts → Type 0
+AreIncidents (Some told) counts = IsIncidentSummaryOf told counts
+AreIncidents None counts = counts ≡ []
 
 -- in how many runs members had a false death
 abbrev pub runs_with : List Note → ℕ
@@ -151,3 +163,4 @@ pub record IsSummaryOf (setting : SettingSummary) (runs : List Note) : Type 0 wh
   pub fewest : setting.deaths_low ≡ deaths_low (false_deaths_in runs) (death_squares_in runs) (length runs)
   pub most : setting.deaths_high ≡ deaths_high (false_deaths_in runs) (death_squares_in runs) (length runs)
   pub rate : setting.messages ≡ message_rate runs
+  pub incidents : AreIncidents setting.incidents (incidents_in runs)

@@ -1,11 +1,12 @@
 //! The lines of settings, in aligned columns.
 ghost use Rattle.std.specs.Prelude.{◌≡◌, ◌+◌, ◌<◌, ◌++◌, ◌∷◌, ◌==◌, [], codes, decimal, map, length, OnOk, IfOk, if◌then◌else◌};
 ghost use Rattle.std.specs.String.{string_bytes};
-ghost use Rattle.figures.specs.Lines.{where_told};
-ghost use Rattle.figures.specs.SettingLines.{padded, cells_aligned, aligned, first_texts, last_texts, figure_widths, setting_header, setting_line};
+ghost use Rattle.figures.specs.SettingLines.{padded, cells_aligned, aligned, first_texts, some_words, some_texts, last_texts, incident_texts, day_texts, widths_of, figure_widths, setting_header, setting_line};
 
+use crate::column_set::ColumnSet;
 use crate::summary::SettingSummary;
 use crate::texts::{push_hundredths, push_number, push_rate, push_tenths, push_text, push_time};
+use incident_figures::{DayRates, IncidentSummary};
 use std::alloc::{AllocError, Global};
 
 /// The words over the first figures, in the order of their columns.
@@ -24,8 +25,19 @@ const FIRST_WORDS: [&str; 9] = [
 /// The widths of their columns, in bytes.
 const FIRST_WIDTHS: [usize; 9] = [8, 11, 11, 11, 16, 8, 13, 13, 10];
 
-/// The width of the column of those that were taken for alive again, where there is one.
-const REVIVED_WIDTH: usize = 8;
+/// The words that stand between these and the last in version 4.
+const LATER_WORDS: [&str; 7] = [
+    "revived",
+    "alarms",
+    "deaths",
+    "deaths_well",
+    "deaths_day",
+    "day_low",
+    "day_high",
+];
+
+/// The widths of their columns. Version 3 has the first of them alone.
+const LATER_WIDTHS: [usize; 7] = [8, 8, 8, 11, 10, 8, 8];
 
 /// The words over the last figures.
 const LAST_WORDS: [&str; 4] = ["runs_with", "share_low", "share_high", "messages"];
@@ -34,23 +46,23 @@ const LAST_WORDS: [&str; 4] = ["runs_with", "share_low", "share_high", "messages
 const LAST_WIDTHS: [usize; 4] = [9, 9, 10, 8];
 
 /// Adds the header of the lines of settings to a text: the keys that are set, each in a column of its
-/// width in bytes, and the words over the figures, among them `revived` where the lines have that column.
+/// width in bytes, and the words over the figures of these columns.
 pub fn push_setting_header(
     alloc: Global,
     text: &mut String,
     widths: &[usize],
     keys: &[&str],
-    revived: bool,
+    columns: ColumnSet,
 ) -> Result<(), AllocError>
     requires { length widths.now ≡ length keys.now }
-    ensures { OnOk result (string_bytes text.new ≡ string_bytes text.old ++ setting_header revived widths.now (map (λ key. key.now) keys.now)) }
+    ensures { OnOk result (string_bytes text.new ≡ string_bytes text.old ++ setting_header columns widths.now (map (λ key. key.now) keys.now)) }
 {
     let mut words = Vec::new(alloc);
     push_texts(alloc, &mut words, keys)?;
     push_texts(alloc, &mut words, &FIRST_WORDS)?;
-    push_revived_word(alloc, &mut words, revived)?;
+    push_some_words(alloc, &mut words, columns)?;
     push_texts(alloc, &mut words, &LAST_WORDS)?;
-    push_columns(alloc, text, widths, revived, &words)
+    push_columns(alloc, text, widths, columns, &words)
 }
 
 /// Adds the line of a setting to a text: the values that the keys have, in the columns of the keys, and
@@ -61,17 +73,17 @@ pub fn push_setting_line(
     widths: &[usize],
     values: &[&str],
     summary: &SettingSummary,
-    revived: bool,
+    columns: ColumnSet,
 ) -> Result<(), AllocError>
     requires { length widths.now ≡ length values.now }
-    ensures { OnOk result (string_bytes text.new ≡ string_bytes text.old ++ setting_line revived widths.now (map (λ value. value.now) values.now) summary.now) }
+    ensures { OnOk result (string_bytes text.new ≡ string_bytes text.old ++ setting_line columns widths.now (map (λ value. value.now) values.now) summary.now) }
 {
     let mut texts = Vec::new(alloc);
     push_texts(alloc, &mut texts, values)?;
     push_first(alloc, &mut texts, summary)?;
-    push_revived(alloc, &mut texts, revived, summary.revived)?;
+    push_some(alloc, &mut texts, columns, summary)?;
     push_last(alloc, &mut texts, summary)?;
-    push_columns(alloc, text, widths, revived, &texts)
+    push_columns(alloc, text, widths, columns, &texts)
 }
 
 /// Adds texts to those of a line.
@@ -84,33 +96,71 @@ fn push_texts(alloc: Global, texts: &mut Vec<String>, more: &[&str]) -> Result<(
     Ok(())
 }
 
-/// Adds the word over those that were taken for alive again to those of a line, where the line has that column.
-fn push_revived_word(
+/// Adds the words over the columns that only some tables have.
+fn push_some_words(
     alloc: Global,
     texts: &mut Vec<String>,
-    revived: bool,
+    columns: ColumnSet,
 ) -> Result<(), AllocError>
-    ensures { OnOk result (map string_bytes texts.new.items ≡ map string_bytes texts.old.items ++ where_told revived (codes "revived" ∷ [])) }
+    ensures { OnOk result (map string_bytes texts.new.items ≡ map string_bytes texts.old.items ++ some_words columns) }
 {
-    if revived {
-        return push_text(alloc, texts, "revived");
+    match columns {
+        ColumnSet::First => Ok(()),
+        ColumnSet::WithRevived => push_text(alloc, texts, "revived"),
+        ColumnSet::WithIncidents => push_texts(alloc, texts, &LATER_WORDS),
     }
-    Ok(())
 }
 
-/// Adds how often that was to the texts of a line, where the line has that column.
-fn push_revived(
+/// Adds the texts of these columns to those of a line.
+fn push_some(
     alloc: Global,
     texts: &mut Vec<String>,
-    revived: bool,
-    number: u128,
+    columns: ColumnSet,
+    summary: &SettingSummary,
 ) -> Result<(), AllocError>
-    ensures { OnOk result (map string_bytes texts.new.items ≡ map string_bytes texts.old.items ++ where_told revived (decimal number ∷ [])) }
+    ensures { OnOk result (map string_bytes texts.new.items ≡ map string_bytes texts.old.items ++ some_texts columns summary.now) }
 {
-    if revived {
-        return push_number(alloc, texts, number);
+    match columns {
+        ColumnSet::First => Ok(()),
+        ColumnSet::WithRevived => push_number(alloc, texts, summary.revived),
+        ColumnSet::WithIncidents => {
+            push_number(alloc, texts, summary.revived)?;
+            push_incidents(alloc, texts, summary.incidents)
+        }
     }
-    Ok(())
+}
+
+/// Adds the texts of incidents, or dashes where there are none.
+fn push_incidents(
+    alloc: Global,
+    texts: &mut Vec<String>,
+    incidents: Option<IncidentSummary>,
+) -> Result<(), AllocError>
+    ensures { OnOk result (map string_bytes texts.new.items ≡ map string_bytes texts.old.items ++ incident_texts incidents) }
+{
+    match incidents {
+        Some(told) => {
+            push_hundredths(alloc, texts, told.alarms)?;
+            push_number(alloc, texts, told.deaths)?;
+            push_number(alloc, texts, told.deaths_well)?;
+            push_day(alloc, texts, told.day)
+        }
+        None => push_texts(alloc, texts, &["-", "-", "-", "-", "-", "-"]),
+    }
+}
+
+/// Adds the texts of the false deaths of a day, or dashes where no run lasts.
+fn push_day(alloc: Global, texts: &mut Vec<String>, day: Option<DayRates>) -> Result<(), AllocError>
+    ensures { OnOk result (map string_bytes texts.new.items ≡ map string_bytes texts.old.items ++ day_texts day) }
+{
+    match day {
+        Some(rates) => {
+            push_hundredths(alloc, texts, rates.rate)?;
+            push_hundredths(alloc, texts, rates.low)?;
+            push_hundredths(alloc, texts, rates.high)
+        }
+        None => push_texts(alloc, texts, &["-", "-", "-"]),
+    }
 }
 
 /// Adds the texts of a setting's first figures to those of a line.
@@ -152,38 +202,45 @@ fn push_columns(
     alloc: Global,
     text: &mut String,
     widths: &[usize],
-    revived: bool,
+    columns: ColumnSet,
     texts: &[String],
 ) -> Result<(), AllocError>
-    requires { length texts.now ≡ length widths.now + length (figure_widths revived) }
-    ensures { OnOk result (string_bytes text.new ≡ string_bytes text.old ++ aligned (widths.now ++ figure_widths revived) (map string_bytes texts.now)) }
+    requires { length texts.now ≡ length widths.now + length (figure_widths columns) }
+    ensures { OnOk result (string_bytes text.new ≡ string_bytes text.old ++ aligned (widths.now ++ figure_widths columns) (map string_bytes texts.now)) }
 {
     let mut all = Vec::new(alloc);
     all.extend_from_slice(widths)?;
-    push_widths(&mut all, revived)?;
+    push_widths(&mut all, columns)?;
     push_cells(text, &all, texts)?;
     text.push_str("\n")?;
     Ok(())
 }
 
 /// Adds the widths of the columns of the figures.
-fn push_widths(widths: &mut Vec<usize>, revived: bool) -> Result<(), AllocError>
-    ensures { OnOk result (widths.new.items ≡ widths.old.items ++ figure_widths revived) }
+fn push_widths(widths: &mut Vec<usize>, columns: ColumnSet) -> Result<(), AllocError>
+    ensures { OnOk result (widths.new.items ≡ widths.old.items ++ figure_widths columns) }
 {
     widths.extend_from_slice(&FIRST_WIDTHS)?;
-    push_revived_width(widths, revived)?;
+    push_some_widths(widths, columns)?;
     widths.extend_from_slice(&LAST_WIDTHS)?;
     Ok(())
 }
 
-/// Adds the width of the column of those that were taken for alive again, where there is one.
-fn push_revived_width(widths: &mut Vec<usize>, revived: bool) -> Result<(), AllocError>
-    ensures { OnOk result (widths.new.items ≡ widths.old.items ++ where_told revived (8 ∷ [])) }
+/// Adds the widths of the columns that only some tables have.
+fn push_some_widths(widths: &mut Vec<usize>, columns: ColumnSet) -> Result<(), AllocError>
+    ensures { OnOk result (widths.new.items ≡ widths.old.items ++ widths_of (some_words columns)) }
 {
-    if revived {
-        widths.push(REVIVED_WIDTH)?;
+    match columns {
+        ColumnSet::First => Ok(()),
+        ColumnSet::WithRevived => {
+            widths.push(LATER_WIDTHS[0])?;
+            Ok(())
+        }
+        ColumnSet::WithIncidents => {
+            widths.extend_from_slice(&LATER_WIDTHS)?;
+            Ok(())
+        }
     }
-    Ok(())
 }
 
 /// Adds texts in these widths, separated by two spaces.

@@ -1,6 +1,8 @@
 //! The figures of one run, and of all runs of a setting.
 #![tactic(auto)]
 
+mod by_version;
+mod column_set;
 mod columns;
 mod crashes;
 mod deaths;
@@ -21,6 +23,7 @@ mod texts;
 mod thrown_out;
 mod times;
 
+pub use column_set::ColumnSet;
 pub use columns::{push_setting_header, push_setting_line};
 pub use crashes::CrashTimes;
 pub use histogram::Histogram;

@@ -1,7 +1,8 @@
 //! The lines of the table, in memory.
 ghost use Rattle.std.specs.Prelude.{◌≡◌, ◌≤◌, ◌++◌, ◌∷◌, ℕ, [], Some, codes, List, IfOk, OnOk, length, map};
-ghost use Rattle.figures.specs.Lines.{HasLaidOut, cell, claims_in_order, protocol_in_order, table_line, header_line, run_line, where_told};
+ghost use Rattle.figures.specs.Lines.{HasLaidOut, cell, claims_in_order, protocol_in_order, some_names, some_in_order, table_line, header_line, run_line};
 
+use crate::column_set::ColumnSet;
 use crate::run::RunFigures;
 use base::Memory;
 use csv::Writer;
@@ -27,16 +28,29 @@ const CLAIM_NAMES: [&str; 12] = [
 /// The names of the figures of the protocol, likewise.
 const PROTOCOL_NAMES: [&str; 6] = ["accuse", "refute", "fail", "health", "sent", "lost"];
 
-/// The first line of a table of runs for which these keys are set. `revived` says whether it has the column of
-/// members that were taken for alive again.
-pub(crate) fn header_text(alloc: Global, keys: &[&str], revived: bool) -> Result<Vec<u8>, Memory>
-    ensures { IfOk result (λ text. text.items ≡ header_line revived (map (λ key. key.now) keys.now)) }
+/// The names of the columns that tables of version 4 have between these.
+const LATER_NAMES: [&str; 6] = [
+    "revived",
+    "alarms",
+    "deaths",
+    "deaths_well",
+    "restarts",
+    "whole",
+];
+
+/// The first line of a table with these columns, of runs for which these keys are set.
+pub(crate) fn header_text(
+    alloc: Global,
+    keys: &[&str],
+    columns: ColumnSet,
+) -> Result<Vec<u8>, Memory>
+    ensures { IfOk result (λ text. text.items ≡ header_line columns (map (λ key. key.now) keys.now)) }
 {
     let mut writer = new_writer(alloc);
     write_texts(&mut writer, keys)?;
     write_field(&mut writer, b"seed")?;
     write_texts(&mut writer, &CLAIM_NAMES)?;
-    write_revived_name(&mut writer, revived)?;
+    write_some_names(&mut writer, columns)?;
     write_texts(&mut writer, &PROTOCOL_NAMES)?;
     finish(writer)
 }
@@ -47,15 +61,15 @@ pub(crate) fn run_text(
     values: &[&str],
     seed: u64,
     figures: &RunFigures,
-    revived: bool,
+    columns: ColumnSet,
 ) -> Result<Vec<u8>, Memory>
-    ensures { IfOk result (λ text. text.items ≡ run_line revived (map (λ value. value.now) values.now) seed figures.now) }
+    ensures { IfOk result (λ text. text.items ≡ run_line columns (map (λ value. value.now) values.now) seed figures.now) }
 {
     let mut writer = new_writer(alloc);
     write_texts(&mut writer, values)?;
     write_cell(&mut writer, Some(seed))?;
     write_cells(&mut writer, &claims_in_order(figures))?;
-    write_revived(&mut writer, revived, figures.revived)?;
+    write_some(&mut writer, columns, figures)?;
     write_cells(&mut writer, &protocol_in_order(figures))?;
     finish(writer)
 }
@@ -94,6 +108,24 @@ pub(crate) fn protocol_in_order(figures: &RunFigures) -> [Option<u64>; 6]
     ]
 }
 
+/// The figures of the columns that tables of version 4 have between these.
+pub(crate) fn later_in_order(figures: &RunFigures) -> [Option<u64>; 6]
+    ensures { result ≡ some_in_order ColumnSet.WithIncidents figures.now }
+{
+    let revived = Some(figures.revived);
+    match figures.incidents {
+        Some(run) => [
+            revived,
+            Some(run.alarms),
+            Some(run.deaths),
+            Some(run.deaths_well),
+            Some(run.restarts),
+            run.whole,
+        ],
+        None => [revived, None, None, None, None, None],
+    }
+}
+
 /// A writer that has written nothing yet.
 fn new_writer(alloc: Global) -> Writer<Vec<u8>>
     ensures { HasLaidOut result [] }
@@ -101,24 +133,30 @@ fn new_writer(alloc: Global) -> Writer<Vec<u8>>
     Writer::from_writer(Vec::new(alloc))
 }
 
-/// Writes the name of the column of those that were taken for alive again, where the table has it.
-fn write_revived_name(writer: &mut Writer<Vec<u8>>, revived: bool) -> Result<(), Memory>
-    ensures { OnOk result ((fields : List (List ℕ)) → HasLaidOut writer.old fields → HasLaidOut writer.new (fields ++ where_told revived (codes "revived" ∷ []))) }
+/// Writes the names of the columns that only some tables have.
+fn write_some_names(writer: &mut Writer<Vec<u8>>, columns: ColumnSet) -> Result<(), Memory>
+    ensures { OnOk result ((fields : List (List ℕ)) → HasLaidOut writer.old fields → HasLaidOut writer.new (fields ++ some_names columns)) }
 {
-    if revived {
-        return write_field(writer, b"revived");
+    match columns {
+        ColumnSet::First => Ok(()),
+        ColumnSet::WithRevived => write_field(writer, b"revived"),
+        ColumnSet::WithIncidents => write_texts(writer, &LATER_NAMES),
     }
-    Ok(())
 }
 
-/// Writes the figure of that column, where the table has it.
-fn write_revived(writer: &mut Writer<Vec<u8>>, revived: bool, figure: u64) -> Result<(), Memory>
-    ensures { OnOk result ((fields : List (List ℕ)) → HasLaidOut writer.old fields → HasLaidOut writer.new (fields ++ map cell (where_told revived (Some figure ∷ [])))) }
+/// Writes the figures of these columns.
+fn write_some(
+    writer: &mut Writer<Vec<u8>>,
+    columns: ColumnSet,
+    figures: &RunFigures,
+) -> Result<(), Memory>
+    ensures { OnOk result ((fields : List (List ℕ)) → HasLaidOut writer.old fields → HasLaidOut writer.new (fields ++ map cell (some_in_order columns figures.now))) }
 {
-    if revived {
-        return write_cell(writer, Some(figure));
+    match columns {
+        ColumnSet::First => Ok(()),
+        ColumnSet::WithRevived => write_cell(writer, Some(figures.revived)),
+        ColumnSet::WithIncidents => write_cells(writer, &later_in_order(figures)),
     }
-    Ok(())
 }
 
 /// Writes texts as fields.

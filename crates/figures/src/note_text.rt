@@ -1,19 +1,21 @@
 //! How a note is written.
-ghost use Rattle.std.specs.Prelude.{◌≡◌, ◌++◌, ◌==◌, [], codes, decimal, map, string_bytes, IfOk, OnOk, if◌then◌else◌};
+ghost use Rattle.std.specs.Prelude.{◌≡◌, ◌++◌, ◌==◌, [], Some, codes, decimal, map, string_bytes, IfOk, OnOk, if◌then◌else◌};
 ghost use Rattle.std.specs.List.{join_with_byte, flat_map};
 ghost use Rattle.reports.specs.Text.{figure};
-ghost use Rattle.figures.specs.Notes.{note_text, note_figures, times_in_order};
+ghost use Rattle.figures.specs.Notes.{note_text, note_figures, counts_in_order, times_in_order};
 
 use crate::crashes::CrashTimes;
 use crate::notes::RunMetadata;
 use base::Memory;
+use incident_figures::RunCounts;
 use std::alloc::Global;
 
 impl RunMetadata {
     /// The note as it is written, `3 0 0 4499 4500000 2840 12840 15399`: how many suspicions were false positives, how
     /// many members had a false death, how often members were taken for alive again, how many messages were sent, how
     /// long the members last together, and for each crash the times until it was first suspected, first confirmed and
-    /// last confirmed, or a dash.
+    /// last confirmed, or a dash. Before these times stand in version 4 how many false alarms and false deaths there were,
+    /// how many of these were of members that were well, and how many microseconds the run lasts.
     pub fn text(&self, alloc: Global) -> Result<String, Memory>
         ensures { IfOk result (λ text. string_bytes text ≡ note_text self.now) }
     {
@@ -31,9 +33,35 @@ impl RunMetadata {
         figures.push(Some(self.revived))?;
         figures.push(Some(self.sent))?;
         figures.push(Some(self.member_ticks))?;
+        push_counts(&mut figures, self.incidents)?;
         push_times(&mut figures, self.crashes.as_slice())?;
         Ok(figures)
     }
+}
+
+/// Adds what is counted of incidents, where that is there.
+fn push_counts(figures: &mut Vec<Option<u64>>, incidents: Option<RunCounts>) -> Result<(), Memory>
+    ensures { OnOk result (figures.new.items ≡ figures.old.items ++ counts_in_order incidents) }
+{
+    match incidents {
+        Some(counts) => {
+            figures.extend_from_slice(&counts_in_order(&counts))?;
+            Ok(())
+        }
+        None => Ok(()),
+    }
+}
+
+/// What is counted of incidents, in the order in which it is written.
+fn counts_in_order(counts: &RunCounts) -> [Option<u64>; 4]
+    ensures { result ≡ counts_in_order (Some counts.now) }
+{
+    [
+        Some(counts.alarms),
+        Some(counts.deaths),
+        Some(counts.deaths_well),
+        Some(counts.time),
+    ]
 }
 
 /// Adds the times of crashes.

@@ -1,12 +1,13 @@
 //! The note that a word says.
 ghost use Rattle.std.specs.Prelude.{◌≡◌, ◌==◌, ℕ, Option, Some, None, IfOk, IfErr, IfSome, IsNone};
 ghost use Rattle.std.specs.List.{flat_map, slice_split};
-ghost use Rattle.figures.specs.Notes.{times_in_order, note_figures, IsNoteWord, IsFigureWord, AreFigureWords, RefusesNote, RefusesFigures, RefusesNoteOf, RefusesTimes};
+ghost use Rattle.figures.specs.Notes.{times_in_order, counts_in_order, counts_part, times_part, note_figures, IsNoteWord, IsFigureWord, AreFigureWords, RefusesNote, RefusesFigures, RefusesNoteOf, RefusesCounts, RefusesTimes};
 ghost use Rattle.figures.specs.declared.note_words.MetadataFault.TheVariants as unread;
 
 use crate::crashes::CrashTimes;
 use crate::notes::RunMetadata;
 use decimals::number;
+use incident_figures::RunCounts;
 use std::alloc::{AllocFailed, Global};
 use thiserror::Error;
 
@@ -32,8 +33,8 @@ impl<T: Drop> From<AllocFailed<T>> for MetadataFault {
 impl RunMetadata {
     /// The note that a word says, as `text` writes it.
     ///
-    /// Failures: `Word` where it isn't five numbers, and then three times for each crash, with spaces between them; a number
-    /// is at most 2^63 - 1. `Memory`.
+    /// Failures: `Word` where it isn't five numbers, or nine where it has incidents, and then three times for each crash,
+    /// with spaces between them; a number is at most 2^63 - 1. `Memory`.
     pub fn read(alloc: Global, word: &str) -> Result<RunMetadata, MetadataFault>
         ensures read { IfOk result (IsNoteWord word.now) }
         ensures refused { IfErr result (RefusesNote word.now) }
@@ -85,7 +86,8 @@ fn note_of_figures(alloc: Global, figures: &[Option<u64>]) -> Result<RunMetadata
     let revived = there(figures[2])?;
     let sent = there(figures[3])?;
     let member_ticks = there(figures[4])?;
-    let crashes = times_of_figures(alloc, &figures[5..])?;
+    let incidents = counts_of_figures(&figures[5..])?;
+    let crashes = times_of_figures(alloc, times_in(&figures[5..]))?;
     Ok(RunMetadata {
         crashes,
         false_suspect,
@@ -93,7 +95,41 @@ fn note_of_figures(alloc: Global, figures: &[Option<u64>]) -> Result<RunMetadata
         revived,
         sent,
         member_ticks,
+        incidents,
     })
+}
+
+/// What the figures behind the first five say of incidents, where their number tells that they do.
+fn counts_of_figures(figures: &[Option<u64>]) -> Result<Option<RunCounts>, MetadataFault>
+    ensures made { IfOk result (λ counts. counts_in_order counts ≡ counts_part figures.now) }
+    ensures refused { IfErr result (RefusesCounts figures.now) }
+{
+    if figures.len() % 3 != 1 {
+        return Ok(None);
+    }
+    if figures.len() < 4 {
+        return Err(MetadataFault::Word);
+    }
+    let alarms = there(figures[0])?;
+    let deaths = there(figures[1])?;
+    let deaths_well = there(figures[2])?;
+    let time = there(figures[3])?;
+    Ok(Some(RunCounts {
+        alarms,
+        deaths,
+        deaths_well,
+        time,
+    }))
+}
+
+/// Those of these figures that say times of crashes.
+fn times_in(figures: &[Option<u64>]) -> &[Option<u64>]
+    ensures { result.now ≡ times_part figures.now }
+{
+    if figures.len() % 3 != 1 {
+        return figures;
+    }
+    &figures[figures.len().min(4)..]
 }
 
 /// The number, which must be there.

@@ -1,12 +1,16 @@
 //! What is kept of a run for its setting.
-ghost use Rattle.std.specs.Prelude.{◌≡◌, ◌<◌, ◌≤◌, ◌^◌, ◌*◌, IfOk, map};
+ghost use Rattle.std.specs.Prelude.{◌≡◌, ◌<◌, ◌≤◌, ◌^◌, ◌*◌, All, IfOk, map};
+ghost use Rattle.std.specs.Option.{option_map};
 ghost use Rattle.scenario.specs.Setup.{member_count};
+ghost use Rattle.trace.specs.Text.{NamesMembers};
 ghost use Rattle.figures.specs.Figures.{figures_of};
-ghost use Rattle.figures.specs.Notes.{note_of, times_of};
+ghost use Rattle.figures.specs.Notes.{counts_of, note_of, times_of};
 
+use crate::by_version::{account_told, told_by};
 use crate::crashes::{CrashTimes, times_of};
 use crate::run::RunFigures;
 use base::Memory;
+use incident_figures::{RunCounts, RunIncidents};
 use reports::{DepartureReport, Tallies};
 use scenario::Scenario;
 use std::alloc::Global;
@@ -21,6 +25,7 @@ pub struct RunMetadata {
     pub(crate) revived: u64,
     pub(crate) sent: u64,
     pub(crate) member_ticks: u64,
+    pub(crate) incidents: Option<RunCounts>,
 }
 
 impl Model for RunMetadata {
@@ -28,22 +33,28 @@ impl Model for RunMetadata {
 
     ghost Value = { Note };
 
-    ghost view = { λ n. record { crashes = n.crashes.items; false_suspect = n.false_suspect; thrown_out = n.thrown_out; revived = n.revived; sent = n.sent; member_ticks = n.member_ticks } };
+    ghost view = { λ n. record { crashes = n.crashes.items; false_suspect = n.false_suspect; thrown_out = n.thrown_out; revived = n.revived; sent = n.sent; member_ticks = n.member_ticks; incidents = n.incidents } };
 }
 
 impl RunMetadata {
-    /// The note of a run of the scenario whose rows were tallied, and which has these figures.
+    /// The note of a run of the scenario whose rows were tallied, and which has these figures. A tick is so many
+    /// microseconds.
     #[tactic(auto, unfolding(crate::specs::Figures::figures_of, crate::specs::Notes::note_of))]
     pub fn of(
         alloc: Global,
         tallies: &Tallies,
         figures: &RunFigures,
         scenario: &Scenario,
+        tick: u64,
     ) -> Result<RunMetadata, Memory>
-        requires { figures.now ≡ figures_of scenario.now tallies.now }
-        ensures { IfOk result (λ note. note ≡ note_of scenario.now tallies.now) }
+        requires named { All (NamesMembers scenario.now) tallies.now }
+        requires figures { figures.now ≡ figures_of scenario.now tallies.now }
+        requires tick { tick ≤ 1000000 }
+        ensures { IfOk result (λ note. note ≡ note_of scenario.now tick tallies.now) }
     {
-        let crashes = times_of_each(alloc, tallies.crashes())?;
+        let account = account_told(alloc, tallies, scenario)?;
+        let told = told_by(tallies, scenario, &account);
+        let crashes = times_of_each(alloc, told.crashes)?;
         Ok(RunMetadata {
             crashes,
             false_suspect: figures.false_suspect,
@@ -51,6 +62,7 @@ impl RunMetadata {
             revived: figures.revived,
             sent: figures.sent,
             member_ticks: member_ticks(scenario),
+            incidents: counts_told(figures.incidents, time_of(scenario, tick)),
         })
     }
 }
@@ -97,6 +109,45 @@ impl RunMetadata {
     {
         self.member_ticks
     }
+}
+
+impl RunMetadata {
+    /// What its setting counts of its incidents, where it has them.
+    pub fn incidents(&self) -> Option<RunCounts>
+        ensures { result ≡ self.now.incidents }
+    {
+        self.incidents
+    }
+}
+
+/// What a setting counts of the incidents of a run that lasts so many microseconds, where it has them.
+fn counts_told(incidents: Option<RunIncidents>, time: u64) -> Option<RunCounts>
+    ensures { result ≡ option_map (counts_of time) incidents }
+{
+    match incidents {
+        Some(run) => Some(counts_of(&run, time)),
+        None => None,
+    }
+}
+
+/// What a setting counts of incidents, likewise.
+fn counts_of(run: &RunIncidents, time: u64) -> RunCounts
+    ensures { result ≡ counts_of time run.now }
+{
+    RunCounts {
+        alarms: run.alarms,
+        deaths: run.deaths,
+        deaths_well: run.deaths_well,
+        time,
+    }
+}
+
+/// How long a run of a scenario lasts, in microseconds.
+fn time_of(scenario: &Scenario, tick: u64) -> u64
+    requires { tick ≤ 1000000 }
+    ensures { result ≡ scenario.now.end * tick }
+{
+    scenario.end().ticks() * tick
 }
 
 /// How each of these crashes was detected.

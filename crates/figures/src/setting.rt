@@ -1,7 +1,10 @@
 //! The figures of a setting: of runs that belong together.
 ghost use Rattle.std.specs.Prelude.{◌≡◌, ◌+◌, ◌<◌, ◌≤◌, ◌*◌, ◌/◌, ◌^◌, ◌==◌, ◌++◌, ◌∷◌, [], List, IfOk, if◌then◌else◌, length};
 ghost use Rattle.figures.specs.Notes.{Note};
-ghost use Rattle.figures.specs.Settings.{false_deaths};
+ghost use Rattle.std.specs.Option.{option_to_list};
+ghost use Rattle.incident_figures.specs.declared.run.RunCounts.{RunCounts as ACount};
+ghost use Rattle.incident_figures.specs.Settings.{AreIncidentsOf, runs_kept as incidents_kept};
+ghost use Rattle.figures.specs.Settings.{AreIncidents, false_deaths};
 
 use crate::deaths::{deaths_high, deaths_low, deaths_of, false_deaths, square};
 use crate::histogram::histogram_of;
@@ -11,6 +14,7 @@ use crate::shares::{share_high, share_low};
 use crate::summary::SettingSummary;
 use crate::times::{push_confirmed, push_last, push_suspected};
 use base::Memory;
+use incident_figures::{IncidentSummary, RunCounts, SettingIncidents};
 use std::alloc::Global;
 
 /// The figures of a setting: of runs that belong together, such as those of one scenario with many
@@ -43,6 +47,8 @@ pub struct SettingFigures {
     sent: u128,
     /// How long the members of each run last together, in ticks.
     member_ticks: u128,
+    /// The incidents of those of the runs that have them.
+    incidents: SettingIncidents,
     ghost crashes_fit: { crashes ≤ runs * 2 ^ 64 },
     ghost false_suspect_fit: { false_suspect ≤ runs * 2 ^ 64 },
     ghost thrown_out_fit: { thrown_out ≤ runs * 2 ^ 64 },
@@ -53,6 +59,7 @@ pub struct SettingFigures {
     ghost squares_fit: { squares ≤ runs * 1000000 ^ 2 },
     ghost runs_with_fit: { runs_with ≤ runs },
     ghost few: { runs ≤ 1000000 },
+    ghost incidents_fit: { incidents_kept incidents ≤ runs },
 }
 
 impl SettingFigures {
@@ -77,6 +84,7 @@ impl SettingFigures {
             squares: 0,
             sent: 0,
             member_ticks: 0,
+            incidents: SettingIncidents::new(),
         }
     }
 
@@ -141,6 +149,7 @@ impl SettingFigures {
             deaths_low: deaths_low(setting.deaths, setting.squares, setting.runs),
             deaths_high: deaths_high(setting.deaths, setting.squares, setting.runs),
             messages: message_rate(setting.sent, setting.member_ticks),
+            incidents: incidents_of(&setting.incidents),
         })
     }
 
@@ -160,6 +169,7 @@ impl SettingFigures {
         ensures squares { self.new.squares ≡ self.old.squares + false_deaths note.now * false_deaths note.now }
         ensures sent { self.new.sent ≡ self.old.sent + note.now.sent }
         ensures member_ticks { self.new.member_ticks ≡ self.old.member_ticks + note.now.member_ticks }
+        ensures incidents { (runs : List ACount) → AreIncidentsOf self.old.incidents runs → AreIncidentsOf self.new.incidents (runs ++ option_to_list note.now.incidents) }
     {
         self.runs += 1;
         self.crashes += note.crashes().len() as u128;
@@ -174,7 +184,30 @@ impl SettingFigures {
         self.squares += square(deaths);
         self.sent += u128::from(note.sent());
         self.member_ticks += u128::from(note.member_ticks());
+        self.incidents = incidents_with(self.incidents, note.incidents());
     }
+}
+
+/// The incidents with those of one run more, where it has them.
+fn incidents_with(incidents: SettingIncidents, run: Option<RunCounts>) -> SettingIncidents
+    requires { incidents_kept incidents < 1000000 }
+    ensures all { (runs : List ACount) → AreIncidentsOf incidents runs → AreIncidentsOf result (runs ++ option_to_list run) }
+    ensures few { incidents_kept result ≤ incidents_kept incidents + 1 }
+{
+    match run {
+        Some(counts) => incidents.with(&counts),
+        None => incidents,
+    }
+}
+
+/// The incidents as the line of a setting has them, where there are any.
+fn incidents_of(incidents: &SettingIncidents) -> Option<IncidentSummary>
+    ensures { (runs : List ACount) → AreIncidentsOf incidents.now runs → AreIncidents result runs }
+{
+    if incidents.runs() == 0 {
+        return None;
+    }
+    Some(incidents.summary())
 }
 
 /// Messages a member and 1,000 ticks, in hundredths, where the runs last at all.

@@ -1,6 +1,7 @@
 //! The summary of a setting: what is printed of it.
 
 use crate::histogram::Histogram;
+use incident_figures::IncidentSummary;
 
 /// The figures of a setting: of runs of one scenario that differ in their seed alone. Times are in
 /// ticks since the crash, by the nearest rank over all crashes of all runs, of which one that was
@@ -45,6 +46,8 @@ pub struct SettingSummary {
     pub thrown_out: u128,
     /// How often a member took for alive again one that it held to have failed, in all runs.
     pub revived: u128,
+    /// The incidents of the runs, where their version counts them.
+    pub incidents: Option<IncidentSummary>,
     /// In how many runs members had a false death.
     pub runs_with: u64,
     /// The lower end of the 95 % interval of the share of such runs, by Wilson, in thousandths.

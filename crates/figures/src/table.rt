@@ -5,6 +5,7 @@ ghost use Rattle.trace.specs.Sinks.{AppendsBeginning, failures_of_write};
 ghost use Rattle.figures.specs.Lines.{header_line, run_line};
 ghost use Rattle.figures.specs.Notes.{note_cell};
 
+use crate::column_set::ColumnSet;
 use crate::lines::{header_text, run_text};
 use crate::notes::RunMetadata;
 use crate::run::RunFigures;
@@ -13,42 +14,41 @@ use std::alloc::Global;
 use trace::{Sink, WriteError, put_all};
 
 /// Puts the first line of a table of runs: the keys that are set for them, the seed, and the names
-/// of the figures, among them `revived` where the table has it. Where memory is refused nothing is put, and where
-/// the sink stops it has got a beginning of the line.
+/// of the figures in these columns. Where memory is refused nothing is put, and where the sink stops it has got a
+/// beginning of the line.
 pub fn write_header<S: Sink>(
     alloc: Global,
     keys: &[&str],
-    revived: bool,
+    columns: ColumnSet,
     sink: &mut S,
 ) -> Result<(), WriteError>
     requires { S.failed sink.old < 2 ^ 63 }
-    ensures whole { OnOk result (Appends (S.held sink.old) (S.held sink.new) (header_line revived (map (λ key. key.now) keys.now))) }
-    ensures part { OnErr result (AppendsBeginning (S.held sink.old) (S.held sink.new) (header_line revived (map (λ key. key.now) keys.now))) }
+    ensures whole { OnOk result (Appends (S.held sink.old) (S.held sink.new) (header_line columns (map (λ key. key.now) keys.now))) }
+    ensures part { OnErr result (AppendsBeginning (S.held sink.old) (S.held sink.new) (header_line columns (map (λ key. key.now) keys.now))) }
     ensures memory { IfErr result (λ error. error ≡ WriteError.Memory → Keeps (S.held sink.old) (S.held sink.new)) }
     ensures failures { S.failed sink.new ≡ S.failed sink.old + failures_of_write result }
 {
-    let text = header_text(alloc, keys, revived)?;
+    let text = header_text(alloc, keys, columns)?;
     put_text(text.as_slice(), sink)
 }
 
-/// Puts the line of a run: the values that the keys had, its seed, and its figures, among them how
-/// often members were taken for alive again where the table has that column. Where memory is
-/// refused nothing is put, and where the sink stops it has got a beginning of the line.
+/// Puts the line of a run: the values that the keys had, its seed, and its figures in these columns.
+/// Where memory is refused nothing is put, and where the sink stops it has got a beginning of the line.
 pub fn write_run<S: Sink>(
     alloc: Global,
     values: &[&str],
     seed: u64,
     figures: &RunFigures,
-    revived: bool,
+    columns: ColumnSet,
     sink: &mut S,
 ) -> Result<(), WriteError>
     requires { S.failed sink.old < 2 ^ 63 }
-    ensures whole { OnOk result (Appends (S.held sink.old) (S.held sink.new) (run_line revived (map (λ value. value.now) values.now) seed figures.now)) }
-    ensures part { OnErr result (AppendsBeginning (S.held sink.old) (S.held sink.new) (run_line revived (map (λ value. value.now) values.now) seed figures.now)) }
+    ensures whole { OnOk result (Appends (S.held sink.old) (S.held sink.new) (run_line columns (map (λ value. value.now) values.now) seed figures.now)) }
+    ensures part { OnErr result (AppendsBeginning (S.held sink.old) (S.held sink.new) (run_line columns (map (λ value. value.now) values.now) seed figures.now)) }
     ensures memory { IfErr result (λ error. error ≡ WriteError.Memory → Keeps (S.held sink.old) (S.held sink.new)) }
     ensures failures { S.failed sink.new ≡ S.failed sink.old + failures_of_write result }
 {
-    let text = run_text(alloc, values, seed, figures, revived)?;
+    let text = run_text(alloc, values, seed, figures, columns)?;
     put_text(text.as_slice(), sink)
 }
 

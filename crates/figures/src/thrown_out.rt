@@ -1,26 +1,24 @@
 //! Members that were confirmed to have failed though they had not departed.
 ghost use Rattle.std.specs.Prelude.{◌≡◌, ◌<◌, ◌||◌, ℕ, Bool, false, true, All, IfOk, IfSome, length, count_by, slice_index_or};
-ghost use Rattle.std.specs.List.{list_any};
-ghost use Rattle.trace.specs.Text.{NamesMembers};
-ghost use Rattle.figures.specs.Figures.{is_of, thrown_out};
+ghost use Rattle.std.specs.List.{list_any, range_with_len};
+ghost use Rattle.scenario.specs.Setup.{member_count};
+ghost use Rattle.figures.specs.Figures.{is_of, is_thrown_out};
 
 use base::Memory;
-use reports::{FalsePositive, Tallies};
+use reports::FalsePositive;
 use scenario::Scenario;
 use std::alloc::Global;
-use trace::What;
 
-/// How many members had a false death. It takes a byte for each member.
+/// How many members the false confirmations of a run are about. It takes a byte for each member.
 pub(crate) fn thrown_out(
     alloc: Global,
-    tallies: &Tallies,
+    claims: &[FalsePositive],
     scenario: &Scenario,
 ) -> Result<usize, Memory>
-    requires { All (NamesMembers scenario.now) tallies.now }
-    ensures { IfOk result (λ count. count ≡ thrown_out scenario.now tallies.now) }
+    requires { All (λ claim. IfSome claim.about (λ member. member < member_count scenario.now)) claims.now }
+    ensures { IfOk result (λ count. count ≡ count_by (is_thrown_out claims.now) (range_with_len 0 (member_count scenario.now))) }
 {
     let mut are_out = vec![in alloc; false; scenario.members()]?;
-    let claims = tallies.false_positives(What::Confirm);
     mark_each(&mut are_out, claims);
     Ok(count_marked(&are_out))
 }

@@ -4,7 +4,7 @@ use Rattle.std.specs.List.{list_any}
 use Rattle.std.proofs.lemmas.Str.Pattern.{IsSplitOnceResult, split_after}
 use Rattle.sweep_plan.proofs.Words.{unlike, lacks_from_test}
 use Rattle.goals.specs.declared.statistic.Statistic.{Statistic}
-use Rattle.goals.specs.declared.statistic.Statistic.TheVariants.{Out, SuspectP50, ConfirmP50, ConfirmP99, ConfirmGreatest, LastP50, LastGreatest, FalseSuspect, ThrownOut, Messages}
+use Rattle.goals.specs.declared.statistic.Statistic.TheVariants.{Out, SuspectP50, ConfirmP50, ConfirmP99, ConfirmGreatest, LastP50, LastGreatest, FalseSuspect, ThrownOut, Messages, Alarms, Deaths, DeathsWell, DeathsDay}
 use Rattle.goals.specs.declared.want.Want.{Want}
 use Rattle.goals.specs.Statistics.{word_of}
 use Rattle.goals.specs.Words.{IsNumber, IsWantWord}
@@ -20,6 +20,10 @@ no_sign LastGreatest = refl
 no_sign FalseSuspect = refl
 no_sign ThrownOut = refl
 no_sign Messages = refl
+no_sign Alarms = refl
+no_sign Deaths = refl
+no_sign DeathsWell = refl
+no_sign DeathsDay = refl
 
 -- it is a number, where the word is split there
 pub number_behind : (word : List ℕ) (want : Want) → IsWantWord word want → (parted : Option (Bor (List ℕ) × Bor (List ℕ))) (front number : Bor (List ℕ)) → parted ≡ Some (front, number)

@@ -1,10 +1,12 @@
 -- What is wanted of a setting, whether it is met, and which setting is best.
-use Rattle.std.specs.Prelude.{◌≡◌, ◌≤◌, ◌<◌, ◌^◌, ℕ, ◌*◌, ◌/◌, Bool, true, false, not, ◌&&◌, ◌||◌, nat_le, List, [], ◌∷◌, ◌-◌, Option, Some, None, slice_get, if◌then◌else◌}
+use Rattle.std.specs.Prelude.{◌≡◌, ◌≤◌, ◌<◌, ◌^◌, ℕ, ◌*◌, ◌/◌, Bool, true, false, not, ◌&&◌, ◌||◌, nat_le, nat_lt, List, [], ◌∷◌, ◌-◌, Option, Some, None, slice_get, if◌then◌else◌}
 use Rattle.std.specs.List.{list_any}
 use Rattle.std.specs.Option.{option_map, option_map_or}
+use Rattle.incident_figures.specs.declared.setting.DayRates.{DayRates}
+use Rattle.incident_figures.specs.declared.setting.IncidentSummary.{IncidentSummary}
 use Rattle.figures.specs.declared.summary.SettingSummary.{SettingSummary}
 use Rattle.goals.specs.declared.statistic.Statistic.{Statistic}
-use Rattle.goals.specs.declared.statistic.Statistic.TheVariants.{Out}
+use Rattle.goals.specs.declared.statistic.Statistic.TheVariants.{Out, DeathsDay}
 use Rattle.goals.specs.declared.want.Want.{Want}
 use Rattle.goals.specs.Statistics.{figure_of, parts_of}
 use Rattle.goals.specs.Bounds.{is_up_to, is_past, runs_that_tell}
@@ -23,14 +25,29 @@ IsBounded want = want.most < 2 ^ 100
 abbrev pub is_figure_up_to : Statistic → ℕ → SettingSummary → Bool
 is_figure_up_to statistic most setting = option_map_or (λ figure. nat_le figure (most * parts_of statistic / 1000000)) (figure_of statistic setting) false
 
--- the setting shows that the statistic is at most the bound: of `out` its whole interval, else the figure itself
+-- the false deaths of a day, with their interval in hundredths, where they are known
+abbrev pub day_in : Option IncidentSummary → Option DayRates
+day_in (Some incidents) = incidents.day
+day_in None = None
+
+-- the whole interval is up to a bound in millionths; where there is none it is past any
+abbrev pub is_day_up_to : ℕ → SettingSummary → Bool
+is_day_up_to most setting = option_map_or (λ day. nat_le day.high (most * 100 / 1000000)) (day_in setting.incidents) false
+
+-- it is past the bound
+abbrev pub is_day_past : ℕ → SettingSummary → Bool
+is_day_past most setting = option_map_or (λ day. nat_lt (most * 100 / 1000000) day.low) (day_in setting.incidents) true
+
+-- the setting shows that the statistic is at most the bound: of `out` and of `deaths_day` its whole interval, else the figure itself
 abbrev pub shows : Statistic → ℕ → SettingSummary → Bool
 shows Out most setting = is_up_to most setting.runs_with setting.runs
+shows DeathsDay most setting = is_day_up_to most setting
 shows statistic most setting = is_figure_up_to statistic most setting
 
 -- the setting shows that it is more
 abbrev pub refutes : Statistic → ℕ → SettingSummary → Bool
 refutes Out most setting = is_past most setting.runs_with setting.runs
+refutes DeathsDay most setting = is_day_past most setting
 refutes statistic most setting = not (is_figure_up_to statistic most setting)
 
 -- the setting shows that it meets all that is wanted
@@ -41,12 +58,17 @@ meets wants setting = not (list_any (λ want. not (shows want.statistic want.mos
 abbrev pub may_meet : List Want → SettingSummary → Bool
 may_meet wants setting = not (meets wants setting) && not (list_any (λ want. refutes want.statistic want.most setting) wants)
 
--- How many more runs would show it, if the share of runs with a false death stays: for the first that is wanted and not shown.
+-- how many more runs would show it, if the share of runs with a false death stays; of `deaths_day` it isn't said
+abbrev pub more_of : Statistic → ℕ → SettingSummary → Option ℕ
+more_of DeathsDay most setting = None
+more_of _ most setting = option_map (λ runs. runs - setting.runs) (runs_that_tell most setting.runs_with setting.runs)
+
+-- that of the first that is wanted and not shown
 abbrev pub more_runs : List Want → SettingSummary → Option ℕ
 more_runs [] setting = None
 more_runs (want ∷ wants) setting =
     if shows want.statistic want.most setting then more_runs wants setting
-    else option_map (λ runs. runs - setting.runs) (runs_that_tell want.most setting.runs_with setting.runs)
+    else more_of want.statistic want.most setting
 
 -- one setting is better than another: it confirms sooner by the median, or as soon with fewer messages
 abbrev pub is_sooner : SettingSummary → SettingSummary → Bool

@@ -4,11 +4,11 @@ ghost use Rattle.std.specs.List.{list_any};
 ghost use Rattle.std.specs.Option.{option_map};
 ghost use Rattle.goals.specs.Bounds.{runs_that_tell};
 ghost use Rattle.goals.specs.Front.{has_crash};
-ghost use Rattle.goals.specs.Wants.{HasFewRuns, IsBestOf, IsBounded, is_best, is_better, is_safer, is_sooner, may_meet, meets, more_runs, refutes};
+ghost use Rattle.goals.specs.Wants.{HasFewRuns, IsBestOf, IsBounded, is_best, is_better, is_safer, is_sooner, may_meet, meets, more_of, more_runs, refutes};
 
 use crate::bounds::runs_that_tell;
 use crate::front::{has_crash, is_no_more_often, no_later};
-use crate::statistic::ticks;
+use crate::statistic::{Statistic, ticks};
 use crate::want::{Want, refutes, shows};
 use figures::SettingSummary;
 
@@ -58,14 +58,25 @@ pub fn more_runs(wants: &[Want], setting: &SettingSummary) -> Option<u128>
 {
     for want in wants {
         if !shows(want.statistic, want.most, setting) {
-            return more_of(want.most, setting);
+            return more_of(want.statistic, want.most, setting);
         }
     }
     None
 }
 
+/// How many more runs would show a statistic of a setting, if the share of runs with a false death stays.
+fn more_of(statistic: Statistic, most: u128, setting: &SettingSummary) -> Option<u128>
+    requires { HasFewRuns setting.now }
+    ensures { result ≡ more_of statistic most setting.now }
+{
+    match statistic {
+        Statistic::DeathsDay => None,
+        _ => more_of_share(most, setting),
+    }
+}
+
 /// How many more runs put a share beyond the interval of a setting.
-fn more_of(share: u128, setting: &SettingSummary) -> Option<u128>
+fn more_of_share(share: u128, setting: &SettingSummary) -> Option<u128>
     requires { HasFewRuns setting.now }
     ensures { result ≡ option_map (λ runs. runs - setting.now.runs) (runs_that_tell share setting.now.runs_with setting.now.runs) }
 {

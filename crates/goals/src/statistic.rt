@@ -1,12 +1,14 @@
 //! The statistics of a setting of which something may be wanted.
 ghost use Rattle.std.specs.Prelude.{◌≡◌, ◌≤◌, ◌++◌, IfSome, IsNone, codes};
+ghost use Rattle.std.specs.Option.{option_map};
 ghost use Rattle.goals.specs.Statistics.{word_of, figure_of, parts_of};
 ghost use Rattle.goals.specs.declared.statistic.Statistic.{Statistic as AnyStatistic};
 
 use figures::SettingSummary;
+use incident_figures::IncidentSummary;
 
 /// A statistic of a setting, with the name of its column among the lines of settings; `out` is the share of the runs with
-/// a false death, from 0 to 1.
+/// a false death, from 0 to 1. Only settings of version 4 have the last four.
 #[derive(Clone, Copy, Debug, PartialEq, Eq)]
 pub enum Statistic {
     Out,
@@ -19,6 +21,10 @@ pub enum Statistic {
     FalseSuspect,
     ThrownOut,
     Messages,
+    Alarms,
+    Deaths,
+    DeathsWell,
+    DeathsDay,
 }
 
 impl Statistic {
@@ -38,11 +44,15 @@ impl Statistic {
             "false_suspect<" => Some(Statistic::FalseSuspect),
             "thrown_out<" => Some(Statistic::ThrownOut),
             "messages<" => Some(Statistic::Messages),
+            "alarms<" => Some(Statistic::Alarms),
+            "deaths<" => Some(Statistic::Deaths),
+            "deaths_well<" => Some(Statistic::DeathsWell),
+            "deaths_day<" => Some(Statistic::DeathsDay),
             _ => None,
         }
     }
 
-    /// The figure of a setting: times in ticks and members as they are, rates in hundredths. `out` has none.
+    /// The figure of a setting: times in ticks and members as they are, rates in hundredths. `out` and `deaths_day` have none.
     pub(crate) fn figure(self, setting: &SettingSummary) -> Option<u128>
         ensures { result ≡ figure_of self setting.now }
     {
@@ -57,6 +67,10 @@ impl Statistic {
             Statistic::FalseSuspect => Some(setting.false_suspect),
             Statistic::ThrownOut => Some(setting.thrown_out),
             Statistic::Messages => setting.messages,
+            Statistic::Alarms => alarms(setting.incidents),
+            Statistic::Deaths => deaths(setting.incidents),
+            Statistic::DeathsWell => deaths_well(setting.incidents),
+            Statistic::DeathsDay => None,
         }
     }
 
@@ -66,9 +80,39 @@ impl Statistic {
         ensures few { result ≤ 100 }
     {
         match self {
-            Statistic::FalseSuspect | Statistic::Messages => 100,
+            Statistic::FalseSuspect | Statistic::Messages | Statistic::Alarms => 100,
             _ => 1,
         }
+    }
+}
+
+/// False alarms a run, where incidents are counted.
+fn alarms(incidents: Option<IncidentSummary>) -> Option<u128>
+    ensures { result ≡ option_map (λ incidents. incidents.alarms) incidents }
+{
+    match incidents {
+        Some(told) => Some(told.alarms),
+        None => None,
+    }
+}
+
+/// False deaths, likewise.
+fn deaths(incidents: Option<IncidentSummary>) -> Option<u128>
+    ensures { result ≡ option_map (λ incidents. incidents.deaths) incidents }
+{
+    match incidents {
+        Some(told) => Some(told.deaths),
+        None => None,
+    }
+}
+
+/// Those of members that were well, likewise.
+fn deaths_well(incidents: Option<IncidentSummary>) -> Option<u128>
+    ensures { result ≡ option_map (λ incidents. incidents.deaths_well) incidents }
+{
+    match incidents {
+        Some(told) => Some(told.deaths_well),
+        None => None,
     }
 }
 

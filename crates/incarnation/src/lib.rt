@@ -4,7 +4,7 @@
 ghost use Rattle.std.specs.Prelude.{ℕ, ◌≡◌, ◌≢◌, ◌+◌, ◌<◌, ◌↔◌, ◌⊎◌, IsTrue, true};
 ghost use Rattle.base.specs.declared.profile.Profile.{Profile as AnyProfile};
 ghost use Rattle.incarnation.specs.declared.Claim.{Claim as AnyClaim};
-ghost use Rattle.incarnation.specs.Overrides.{Overrides, OverridesForGood, OverridesUntilRefuted};
+ghost use Rattle.incarnation.specs.Overrides.{Overrides, OverridesForGood, OverridesUntilRefuted, is_up};
 ghost use Rattle.incarnation.specs.Refutations.{does_refute};
 
 use base::{MemberId, Profile};
@@ -18,6 +18,10 @@ pub enum Claim {
     Suspect,
     /// It is down: for good, or by memberlist's rules until it refutes that.
     Confirm,
+    /// It has left, by its own word: down until it is up again (memberlist 0.5.0's rules).
+    Left,
+    /// It is about to leave (Serf's word). No member holds that of another: it only passes it on.
+    Intent,
 }
 
 /// A claim as it travels: of whom, with which incarnation number, and who made it.
@@ -46,8 +50,8 @@ fn overrides_for_good(new: (Claim, u64), old: (Claim, u64)) -> bool
     ensures { IsTrue result ↔ OverridesForGood new old }
 {
     match (new.0, old.0) {
-        (_, Claim::Confirm) => false,
-        (Claim::Confirm, _) => true,
+        (Claim::Intent, _) | (_, Claim::Intent | Claim::Confirm | Claim::Left) => false,
+        (Claim::Confirm | Claim::Left, _) => true,
         (Claim::Suspect, Claim::Alive) => new.1 >= old.1,
         _ => new.1 > old.1,
     }
@@ -58,8 +62,9 @@ fn overrides_until_refuted(new: (Claim, u64), old: (Claim, u64)) -> bool
     ensures { IsTrue result ↔ OverridesUntilRefuted new old }
 {
     match (new.0, old.0) {
+        (Claim::Intent, _) | (_, Claim::Intent) => false,
         (Claim::Alive, _) => new.1 > old.1,
-        (_, Claim::Alive) | (Claim::Confirm, Claim::Suspect) => new.1 >= old.1,
+        (_, Claim::Alive) | (Claim::Confirm | Claim::Left, Claim::Suspect) => new.1 >= old.1,
         _ => false,
     }
 }
@@ -70,10 +75,12 @@ pub fn refutes(profile: Profile, own: u64, claim: Claim, inc: u64) -> bool
     ensures { result ≡ does_refute profile own claim inc }
 {
     match (profile, claim) {
-        (_, Claim::Alive) => false,
+        (_, Claim::Intent) => false,
         (Profile::Papers, Claim::Suspect) => inc == own,
-        (Profile::Papers, Claim::Confirm) => false,
-        (Profile::Memberlist | Profile::Hashicorp, Claim::Suspect | Claim::Confirm) => inc >= own,
+        (Profile::Papers, _) => false,
+        (Profile::Memberlist, Claim::Alive) => false,
+        (Profile::Hashicorp, Claim::Alive) => inc > own,
+        (Profile::Memberlist | Profile::Hashicorp, _) => inc >= own,
     }
 }
 
@@ -89,9 +96,9 @@ pub fn overriding_is_transitive()
     ensures { (a b c : AnyClaim × ℕ) → OverridesForGood a b → OverridesForGood b c → OverridesForGood a c }
 {}
 
-/// By the papers' rules, of two claims that differ, neither of them Confirm, one overrides the other.
+/// By the papers' rules, of two claims that differ, each of them Alive or Suspect, one overrides the other.
 pub fn overriding_is_total_below_confirm()
-    ensures { (a b : AnyClaim × ℕ) → a ≢ b → a.0 ≢ Claim.Confirm → b.0 ≢ Claim.Confirm
+    ensures { (a b : AnyClaim × ℕ) → a ≢ b → is_up a.0 ≡ true → is_up b.0 ≡ true
         → OverridesForGood a b ⊎ OverridesForGood b a }
 {}
 

@@ -1,5 +1,5 @@
 -- What putting shards together, or making a page of them, has done once it ends, and why it wasn't done.
-use Rattle.std.specs.Prelude.{◌≡◌, ◌⊎◌, ℕ, Bool, List, [], Option, Some, None, Vec, false, get_or, slice_get}
+use Rattle.std.specs.Prelude.{◌≡◌, ◌⊎◌, ℕ, List, [], Option, Some, None, Vec, false, get_or, slice_get}
 use Rattle.std.specs.Borrow.{Bor}
 use Rattle.std.specs.Io.KnownBytes.{Appends, Keeps}
 use Rattle.std.specs.List.{AllZip}
@@ -8,6 +8,7 @@ use Rattle.clap.specs.Words.{Text}
 use Rattle.base.specs.declared.fault.Fault.TheVariants as cause
 use Rattle.trace.specs.Sinks.{AppendsBeginning}
 use Rattle.sweep_plan.specs.Sweep.{Sweep}
+use Rattle.figures.specs.declared.column_set.ColumnSet.{ColumnSet}
 use Rattle.figures.specs.declared.summary.SettingSummary.{SettingSummary}
 use Rattle.sweep_output.specs.Telling.{IsSweepPage, TellsSettings}
 use Rattle.files.specs.Files.{Making, Holds, HoldsNow, KeepsOthers, KeepsAllOthers, CannotMake, CannotMakeSecond, AreThreeFiles}
@@ -41,10 +42,10 @@ abbrev pub HoldTexts : Shelf → List (Bor Text) → List (Vec ℕ Global) → T
 HoldTexts before names texts = AllZip (λ name held. Holds (before name.now) held.items) names texts
 
 -- the texts of the files are the shards of this sweep, and its settings came to this; the table of the whole was appended
-pub record GathersSettings (before : Shelf) (names : List (Bor Text)) (old new : Option (List ℕ)) (plan : Sweep) (revived : Bool) (settings : List SettingSummary) : Type 0 where
+pub record GathersSettings (before : Shelf) (names : List (Bor Text)) (old new : Option (List ℕ)) (plan : Sweep) (columns : ColumnSet) (settings : List SettingSummary) : Type 0 where
   pub texts : List (Vec ℕ Global)
   pub held : HoldTexts before names texts
-  pub joined : Joins texts old new plan revived settings
+  pub joined : Joins texts old new plan columns settings
 
 -- the file of this name, which isn't the source, holds this, and no other file has changed
 pub record Stores (before after : Shelf) (making : Making) (source name : Text) (text : List ℕ) : Type 0 where
@@ -81,11 +82,11 @@ StoresAsked (Some page) release before after making join plan settings table = S
 -- the shards in the files were put together: their table was stored, with a page where one is asked for, and this is the text of the settings
 pub record JoinsAll (release : List ℕ) (before after : Shelf) (making : Making) (join : JoinWords) (lines : List ℕ) : Type 0 where
   pub plan : Sweep
-  pub revived : Bool
+  pub columns : ColumnSet
   pub settings : List SettingSummary
   pub table : List ℕ
-  pub gathered : GathersSettings before join.files.items (Some []) (Some table) plan revived settings
-  pub text : TellsSettings join.jsonl revived plan join.wants.items settings lines
+  pub gathered : GathersSettings before join.files.items (Some []) (Some table) plan columns settings
+  pub text : TellsSettings join.jsonl columns plan join.wants.items settings lines
   pub stored : StoresAsked join.page release before after making join plan settings table
 
 -- shards that the words ask to join were
@@ -104,9 +105,9 @@ StoresPage release before after making page plan settings = (shown : List ℕ) �
 -- the shards in the files were put together, and a page of the settings was stored; their table was not
 pub record PagesAll (release : List ℕ) (before after : Shelf) (making : Making) (page : PageWords) : Type 0 where
   pub plan : Sweep
-  pub revived : Bool
+  pub columns : ColumnSet
   pub settings : List SettingSummary
-  pub gathered : GathersSettings before page.files.items None None plan revived settings
+  pub gathered : GathersSettings before page.files.items None None plan columns settings
   pub stored : StoresPage release before after making page plan settings
 
 -- the page that the words ask for was made
@@ -194,10 +195,10 @@ FailsToStoreAsked (Some page) Refused release before after making join plan sett
 pub record StoresNone (Refused : Type 0) (before after : Shelf) (making : Making) (join : JoinWords) (failure : Failure) : Type 0 where
   pub release : List ℕ
   pub plan : Sweep
-  pub revived : Bool
+  pub columns : ColumnSet
   pub settings : List SettingSummary
   pub table : List ℕ
-  pub gathered : GathersSettings before join.files.items (Some []) (Some table) plan revived settings
+  pub gathered : GathersSettings before join.files.items (Some []) (Some table) plan columns settings
   pub failed : IsWant before after failure ⊎ FailsToStoreAsked join.page Refused release before after making join plan settings table failure
 
 -- why shards were not put together: the first cause
@@ -219,9 +220,9 @@ FailsToStorePage Refused release before after making page plan settings failure 
 pub record PagesNone (Refused : Type 0) (before after : Shelf) (making : Making) (page : PageWords) (failure : Failure) : Type 0 where
   pub release : List ℕ
   pub plan : Sweep
-  pub revived : Bool
+  pub columns : ColumnSet
   pub settings : List SettingSummary
-  pub gathered : GathersSettings before page.files.items None None plan revived settings
+  pub gathered : GathersSettings before page.files.items None None plan columns settings
   pub failed : FailsToStorePage Refused release before after making page plan settings failure
 
 -- why no page was made of shards: the first cause

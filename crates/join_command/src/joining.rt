@@ -51,7 +51,7 @@ fn gather_whole<'a, F: Files>(
 ) -> Result<Whole, Failure<'a>>
     ensures gathered { IfOk result
         (λ whole. GathersSettings (F.known files.old) words.now.files.items (Some []) (Some whole.table.items)
-        whole.joined.plan whole.joined.revived whole.joined.settings.items) }
+        whole.joined.plan whole.joined.columns whole.joined.settings.items) }
     ensures few { IfOk result (λ whole. All HasFewRuns whole.joined.settings.items) }
     ensures failed { IfErr result (FailsToGather (F.known files.old) words.now.files.items words.now.table) }
     ensures same { F.known files.new ≡ F.known files.old }
@@ -82,7 +82,7 @@ fn text_of_settings(
     requires few { All HasFewRuns joined.now.settings.items }
     requires all { length joined.now.settings.items ≡ setting_count joined.now.plan.swept_keys }
     ensures text { IfOk result
-        (λ lines. TellsSettings words.now.jsonl joined.now.revived joined.now.plan words.now.wants.items joined.now.settings.items (string_bytes lines)) }
+        (λ lines. TellsSettings words.now.jsonl joined.now.columns joined.now.plan words.now.wants.items joined.now.settings.items (string_bytes lines)) }
     ensures refused { IfErr result (λ failure. failure ≡ Failure.Memory) }
 {
     match settings_printed(
@@ -90,7 +90,7 @@ fn text_of_settings(
         &joined.plan,
         words.wants.as_slice(),
         words.jsonl,
-        joined.revived,
+        joined.columns,
         joined.settings.as_slice(),
     ) {
         Ok(lines) => Ok(lines),

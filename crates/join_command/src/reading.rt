@@ -23,7 +23,7 @@ pub(crate) fn gather<'a, F: Files, S: Sink>(
 ) -> Result<Joined, Failure<'a>>
     requires countable { S.failed table.old < 2 ^ 63 }
     ensures gathered { IfOk result
-        (λ joined. GathersSettings (F.known files.old) names.now (S.held table.old) (S.held table.new) joined.plan joined.revived joined.settings.items) }
+        (λ joined. GathersSettings (F.known files.old) names.now (S.held table.old) (S.held table.new) joined.plan joined.columns joined.settings.items) }
     ensures few { IfOk result (λ joined. All HasFewRuns joined.settings.items) }
     ensures failed { IfErr result (FailsToGather (F.known files.old) names.now otherwise.entry) }
     ensures same { F.known files.new ≡ F.known files.old }
@@ -66,7 +66,7 @@ fn join_texts<'a, S: Sink>(
 ) -> Result<Joined, Failure<'a>>
     requires countable { S.failed table.old < 2 ^ 63 }
     ensures joined { IfOk result
-        (λ joined. Joins texts.now (S.held table.old) (S.held table.new) joined.plan joined.revived joined.settings.items) }
+        (λ joined. Joins texts.now (S.held table.old) (S.held table.new) joined.plan joined.columns joined.settings.items) }
     ensures few { IfOk result (λ joined. All HasFewRuns joined.settings.items) }
     ensures refused { IfErr result (RefusesShards names.now otherwise.entry texts.now) }
 {

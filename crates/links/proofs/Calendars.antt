@@ -1,11 +1,13 @@
 -- What the calendars of slow times and cuts deny isn't so.
-use Rattle.std.proofs.Common.{◌≡◌, ℕ, Bool, true, false, ◌&&◌, ◌||◌, nat_eq, nat_le, nat_lt, ◌≤◌, ◌<◌, subst, arith, List, [], ◌∷◌, cond, Option, Some, None, refl, sym, ap, ◌∙◌}
+use Rattle.std.proofs.Common.{◌≡◌, ℕ, Bool, true, false, ◌&&◌, ◌||◌, nat_eq, nat_le, nat_lt, ◌≤◌, ◌<◌, subst, arith, List, [], ◌∷◌, cond, max, Option, Some, None, refl, sym, ap, ◌∙◌}
 use Rattle.std.specs.Option.{option_map_or, unwrap_or, option_and_then}
 use Rattle.std.specs.List.{find, list_any, slice_get}
 use Rattle.std.specs.Map.{lookup}
 use Rattle.std.specs.BTreeMap.{is_at}
 use Rattle.std.proofs.lemmas.Bool.{false≢true, and_parts, eqb-true, leb-true, ltb-true}
-use Rattle.scenario.specs.Setup.{is_slow, cuts_off}
+use Rattle.schema.specs.declared.schema.Version.{Version}
+use Rattle.schema.specs.declared.schema.Version.TheVariants.{One, Two, Three, Four}
+use Rattle.scenario.specs.Setup.{is_slow, first_extra, greatest_extra, extra_by, cuts_off}
 use Rattle.scenario.specs.Spells.{is_in_any}
 use Rattle.scenario.specs.Calendar.{Stretches, may_be_in}
 use Rattle.scenario.specs.declared.settings.Slow.{Slow}
@@ -25,11 +27,27 @@ none_found : {E : Type 0} (p : E → Bool) (es : List E) → list_any p es ≡ f
 none_found p [] is = refl
 none_found p (e ∷ es) is = let both = neither (p e) (list_any p es) is in ap (λ b. cond b (Some e) (find p es)) both.0 ∙ none_found p es both.1
 
--- no slow time is denied
-pub not_slow : (calendar : Stretches) (es : List Slow) (m t extra : ℕ) → ((m t : ℕ) → list_any (is_slow m t) es ≡ true → may_be_in calendar m t ≡ true)
-    → extra ≡ option_map_or (λ e. e.extra) (find (is_slow m t) es) 0 → may_be_in calendar m t ≡ false → extra ≡ 0
-not_slow calendar es m t extra noted is denied =
-    is ∙ ap (λ o. option_map_or (λ (e : Slow). e.extra) o 0) (none_found (is_slow m t) es (not_any (list_any (is_slow m t) es) (may_be_in calendar m t) (noted m t) denied))
+-- where no entry is of the moment, the greatest extra is none
+none_greatest : (es : List Slow) (m t : ℕ) → list_any (is_slow m t) es ≡ false → greatest_extra es m t ≡ 0
+none_greatest [] m t is = refl
+none_greatest (e ∷ es) m t is =
+    let both = neither (is_slow m t e) (list_any (is_slow m t) es) is in
+    ap (λ b. cond b (max e.extra (greatest_extra es m t)) (greatest_extra es m t)) both.0 ∙ none_greatest es m t both.1
+
+none_first : (es : List Slow) (m t : ℕ) → list_any (is_slow m t) es ≡ false → first_extra es m t ≡ 0
+none_first es m t is = ap (λ o. option_map_or (λ (e : Slow). e.extra) o 0) (none_found (is_slow m t) es is)
+
+-- so it is by either rule
+none_by : (v : Version) (es : List Slow) (m t : ℕ) → list_any (is_slow m t) es ≡ false → extra_by v es m t ≡ 0
+none_by One es m t is = none_first es m t is
+none_by Two es m t is = none_first es m t is
+none_by Three es m t is = none_first es m t is
+none_by Four es m t is = none_greatest es m t is
+
+-- no slow time is denied, by the first entry's extra or by the greatest
+pub not_slow : (calendar : Stretches) (v : Version) (es : List Slow) (m t extra : ℕ) → ((m t : ℕ) → list_any (is_slow m t) es ≡ true → may_be_in calendar m t ≡ true)
+    → extra ≡ extra_by v es m t → may_be_in calendar m t ≡ false → extra ≡ 0
+not_slow calendar v es m t extra noted is denied = is ∙ none_by v es m t (not_any (list_any (is_slow m t) es) (may_be_in calendar m t) (noted m t) denied)
 
 -- nor any cut
 pub not_cut : (calendar : Stretches) (cs : List Cut) (table : List ((ℕ × ℕ) × List Spell)) (from to t : ℕ)

@@ -6,4 +6,6 @@ pub mod Search
 pub mod Cuts
 pub mod Tries
 pub mod SlowOnes
+mod Greatest
+mod Falling
 pub mod Calendars

@@ -17,7 +17,6 @@ use Rattle.scenario.specs.declared.settings.Slow.{Slow}
 use Rattle.scenario.specs.declared.settings.Cut.{Cut}
 use Rattle.links.specs.Entries.{pair_cmp, link_of_pair, spans_in, slow_spans, extra_in, outages_in, outages_of_pair}
 use Rattle.links.specs.declared.spans.times.SlowSpan.{SlowSpan}
-use Rattle.links.proofs.Maps.{extra_is}
 
 -- the numbers of the groups of the first members
 abbrev pub groups_below : List Group → ℕ → List ℕ
@@ -49,10 +48,6 @@ pub routes_of_all : (s : Setup) (ps : List Path) (routes : ℕ → ℕ → Optio
     → ((l : Link) (from to : ℕ) → unwrap_or (routes from to) l ≡ last_link l (map (λ p. p.link) (filter (leads from to) ps)))
     → (l : Link) (from to : ℕ) → unwrap_or (routes from to) l ≡ last_link l (map (λ p. p.link) (filter (leads from to) s.paths))
 routes_of_all s ps routes same last l from to = last l from to ∙ ap (λ (qs : List Path). last_link l (map (λ (p : Path). p.link) (filter (leads from to) qs))) same
-
-pub spans_of_all : (s : Setup) (es : List Slow) (spans : List (List SlowSpan)) → es ≡ s.slows → ((m : ℕ) → spans_in spans m ≡ slow_spans m es)
-    → (m : ℕ) → spans_in spans m ≡ slow_spans m s.slows
-spans_of_all s es spans same kept m = kept m ∙ ap (slow_spans m) same
 
 pub outages_of_all : (s : Setup) (cs : List Cut) (outages : List ((ℕ × ℕ) × List Spell)) → cs ≡ s.cuts → ((from to t : ℕ) → is_in_any (outages_in outages from to) t ≡ list_any (cuts_off from to t) cs)
     → (from to t : ℕ) → is_in_any (outages_in outages from to) t ≡ list_any (cuts_off from to t) s.cuts
@@ -109,9 +104,6 @@ module _ (s : Setup) (groups : List ℕ) (link : Link) (routes : ℕ → ℕ →
   pub links_sound : IsSound s → (i j : ℕ) → IsSoundLink (link_of_pair groups link routes i j)
   links_sound sound i j = sound_by sound i j (cases_lt i (member_count s)) (cases_lt j (member_count s))
 
-module _ (s : Setup) (spans : List (List SlowSpan)) (kept : (m : ℕ) → spans_in spans m ≡ slow_spans m s.slows) where
-  pub extras_are : (m t : ℕ) → extra_in (spans_in spans m) t ≡ extra_of s m t
-  extras_are m t = ap (λ xs. extra_in xs t) (kept m) ∙ extra_is m t s.slows
-
+module _ (s : Setup) (spans : List (List SlowSpan)) (extras_are : (m t : ℕ) → extra_in (spans_in spans m) t ≡ extra_of s m t) where
   pub extras_small : IsSound s → (m t : ℕ) → extra_in (spans_in spans m) t ≤ 2 ^ 24
   extras_small sound m t = subst (λ n. n ≤ 2 ^ 24) (sym (extras_are m t)) (sound.extras m t)

@@ -13,7 +13,7 @@ ghost use Rattle.links.specs.Least.{IsDelayOfAPair, IsNoGreater};
 use crate::least::least_delay;
 use crate::outages::{calendar_of_cuts, number_of_pair, outages_of};
 use crate::routes::routes_of;
-use crate::spans::{calendar_of_slows, spans_of};
+use crate::spans::{calendar_of_slows, times_of};
 use crate::table::Links;
 use base::{MemberId, Memory, Moment};
 use scenario::{Link, Scenario, Spells};
@@ -31,7 +31,7 @@ impl Links {
             groups: groups_of(alloc, scenario)?,
             link: scenario.link(),
             routes: routes_of(alloc, scenario.paths())?,
-            spans: spans_of(alloc, scenario.slows())?,
+            spans: times_of(alloc, scenario)?,
             outages: outages_of(alloc, scenario.cuts())?,
             slow_calendar: calendar_of_slows(alloc, end, scenario.slows())?,
             cut_calendar: calendar_of_cuts(alloc, end, scenario.cuts())?,

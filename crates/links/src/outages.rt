@@ -83,7 +83,7 @@ pub(crate) fn calendar_of_cuts(alloc: Global, end: Moment, cuts: &[Cut]) -> Resu
     let mut calendar = Calendar::new(alloc, end, cuts.len())?;
     for cut in cuts {
         let pair = number_of_pair(cut.from, cut.to);
-        calendar.note(pair, cut.at.ticks(), cut.until.ticks());
+        calendar.mark(pair, cut.at.ticks(), cut.until.ticks());
     }
     Ok(calendar)
 }

@@ -1,20 +1,45 @@
 //! When each member is slow and by how many ticks: the scenario's `[[slow]]` entries, gathered by member.
-ghost use Rattle.std.specs.Prelude.{◌≡◌, ℕ, ◌<◌, ◌++◌, true, cond, nat_eq, [], ◌∷◌, IfOk, OnOk, vec_len};
+ghost use Rattle.std.specs.Prelude.{◌≡◌, ℕ, ◌<◌, ◌≤◌, ◌++◌, true, cond, length, nat_eq, [], ◌∷◌, slice_index_or, IfOk, OnOk, vec_len};
 ghost use Rattle.std.specs.List.{list_any};
-ghost use Rattle.scenario.specs.Setup.{is_slow};
+ghost use Rattle.std.specs.List.Sorted.{IsPermutation};
+ghost use Rattle.scenario.specs.Setup.{is_slow, extra_of};
 ghost use Rattle.scenario.specs.Calendar.{may_be_in};
-ghost use Rattle.links.specs.Entries.{spans_in, span_of, slow_spans};
+ghost use Rattle.scenario.specs.declared.settings.Slow.{Slow as ASlow};
+ghost use Rattle.links.specs.Entries.{extra_in, spans_in, span_of, slow_spans};
 
 mod times;
 
 use base::{Memory, Moment};
-use scenario::{Calendar, Slow};
+use scenario::{Calendar, Scenario, Slow};
 use std::alloc::Global;
 pub(crate) use times::{SlowSpan, SlowTimes};
 
-/// Each slow member's times, in the order of the text, by the member's number. Members past the last slow one
+/// Each slow member's times by its number, in such an order that the first that covers a moment says by how much the member
+/// is slow: in version 4 those that say the most come first.
+pub(crate) fn times_of(alloc: Global, scenario: &Scenario) -> Result<Vec<SlowTimes>, Memory>
+    ensures { IfOk result (λ spans. (m t : ℕ) → extra_in (spans_in spans.items m) t ≡ extra_of scenario.now m t) }
+{
+    if scenario.is_fourth() {
+        let falling = by_extra(alloc, scenario.slows())?;
+        return spans_of(alloc, falling.as_slice());
+    }
+    spans_of(alloc, scenario.slows())
+}
+
+/// The entries that say more before those that say less.
+fn by_extra(alloc: Global, slows: &[Slow]) -> Result<Vec<Slow>, Memory>
+    ensures same { IfOk result (λ falling. IsPermutation slows.now falling.items) }
+    ensures falling { IfOk result (λ falling. (i j : ℕ) (d : ASlow) → i ≤ j → j < length falling.items
+        → (slice_index_or falling.items j d).extra ≤ (slice_index_or falling.items i d).extra) }
+{
+    let mut falling = Vec::from_slice(alloc, slows)?;
+    falling.sort_by(|first, second| second.extra.cmp(&first.extra))?;
+    Ok(falling)
+}
+
+/// Each slow member's times, in the order of the entries, by the member's number. Members past the last slow one
 /// have no place.
-pub(crate) fn spans_of(alloc: Global, slows: &[Slow]) -> Result<Vec<SlowTimes>, Memory>
+fn spans_of(alloc: Global, slows: &[Slow]) -> Result<Vec<SlowTimes>, Memory>
     ensures { IfOk result (λ spans. (member : ℕ) → spans_in spans.items member ≡ slow_spans member slows.now) }
 {
     let mut spans = Vec::new(alloc);
@@ -70,7 +95,7 @@ pub(crate) fn calendar_of_slows(
 {
     let mut calendar = Calendar::new(alloc, end, slows.len())?;
     for slow in slows {
-        calendar.note(slow.member.index(), slow.from.ticks(), slow.until.ticks());
+        calendar.mark(slow.member.index(), slow.from.ticks(), slow.until.ticks());
     }
     Ok(calendar)
 }

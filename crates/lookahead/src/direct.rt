@@ -20,7 +20,7 @@ pub(crate) fn direct_lengths(
     links: &Links,
     twins: &[bool],
 ) -> Result<Lengths, Memory>
-    requires few { length division.now.part_of ≤ 4096 }
+    requires few { length division.now.part_of ≤ 16384 }
     requires parts { division.now.parts ≤ 64 }
     requires marks { length twins.now ≡ length division.now.part_of }
     ensures { IfOk result (λ lengths. (s : Setup) → BelongTo links.now division.now twins.now s
@@ -43,7 +43,7 @@ fn take_links_from(
     twins: &[bool],
     from: usize,
 )
-    requires few { length division.now.part_of ≤ 4096 }
+    requires few { length division.now.part_of ≤ 16384 }
     requires marks { length twins.now ≡ length division.now.part_of }
     requires parts { division.now.parts ≤ 64 }
     requires from { from < length division.now.part_of }
@@ -60,7 +60,7 @@ fn take_links_from(
 
 /// Takes in the delay of the link from one member to another, where they are in different parts.
 fn take_link(lengths: &mut Lengths, division: &Division, links: &Links, from: usize, to: usize)
-    requires few { length division.now.part_of ≤ 4096 }
+    requires few { length division.now.part_of ≤ 16384 }
     requires parts { division.now.parts ≤ 64 }
     requires from { from < length division.now.part_of }
     requires to { to < length division.now.part_of }

@@ -19,7 +19,7 @@ pub(crate) fn twins_before(
     requires { length division.now.part_of ≡ member_count scenario.now }
     ensures twins { IfOk result (λ marks. (m : ℕ) → slice_index_or marks.items m false ≡ true → HasTwinBefore scenario.now division.now m) }
     ensures one_each { IfOk result (λ marks. length marks.items ≡ length division.now.part_of) }
-    ensures few { IfOk result (λ marks. length marks.items ≤ 4096) }
+    ensures few { IfOk result (λ marks. length marks.items ≤ 16384) }
 {
     let mut marks = Vec::new(alloc);
     for member in 0..scenario.members() {
@@ -30,7 +30,7 @@ pub(crate) fn twins_before(
 
 /// Whether a member before this one has its part, and all from there on its group.
 fn has_twin_before(scenario: &Scenario, division: &Division, member: usize) -> bool
-    requires few { length division.now.part_of ≤ 4096 }
+    requires few { length division.now.part_of ≤ 16384 }
     requires one_each { length division.now.part_of ≡ member_count scenario.now }
     requires member { member < length division.now.part_of }
     ensures { OnTrue result (HasTwinBefore scenario.now division.now member) }

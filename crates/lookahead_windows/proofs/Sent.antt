@@ -1,5 +1,5 @@
 -- A part, its events and rows may go to another thread, and a scenario and its links may be seen by several.
-use denote.Param.Send.{IsSend, IsSync, AllSend, recorded_send, struct_send, sendable}
+use denote.Param.Send.{IsSend, IsSync, AllSend, AllSync, recorded_send, recorded_sync, struct_send, struct_sync, view_sync, sendable}
 use denote.Struct.Struct.{Struct}
 use denote.Struct.Declared as declared
 use denote.Struct.Declared.{Declared, shape}
@@ -13,6 +13,12 @@ use Rattle.scenario.specs.contracts.settings.Slow as slow
 use Rattle.scenario.specs.contracts.settings.Crash as crash
 use Rattle.scenario.specs.contracts.settings.Leave as leave
 use Rattle.scenario.specs.contracts.settings.Cut as cut
+use Rattle.scenario.specs.contracts.settings.Restart as restart
+use Rattle.scenario.specs.contracts.settings.Pause as pause
+use Rattle.scenario.specs.contracts.script.ScriptEvent as script_event
+use Rattle.scenario.specs.contracts.spells.Spells as spells
+use Rattle.scenario.specs.contracts.calendar.Calendar as calendar
+use Rattle.scenario.specs.contracts.scenario.Contents as contents
 use Rattle.scenario.specs.contracts.scenario.Scenario as scenario
 use Rattle.scenario.specs.contracts.division.Division as division
 use Rattle.links.specs.contracts.table.Links as links
@@ -22,6 +28,8 @@ use Rattle.probing.specs.contracts.Rota as rota
 use Rattle.suspicion.specs.contracts.suspicions.Suspicions as suspicions
 use Rattle.lifeguard.specs.contracts.relays.Relays as relays
 use Rattle.streams.specs.contracts.Stream as stream
+use Rattle.broadcast_queue.specs.contracts.BroadcastQueue as queue
+use Rattle.lives.specs.contracts.life.Life as life
 use Rattle.member.specs.contracts.member.Member as member
 use Rattle.member.specs.contracts.updates.Updates as updates
 use Rattle.member.specs.contracts.event.Event as event
@@ -32,6 +40,9 @@ use Rattle.windows.specs.contracts.part.Done as done
 -- a struct may go where its fields may: for those that `search` can't take apart
 pub declared_send : (T : Declared) → AllSend (shape T).fields → IsSend (declared.row T)
 declared_send T all = recorded_send (Struct (shape T)) T.D T.to T.to_one (struct_send (shape T) all)
+
+pub declared_sync : (T : Declared) → AllSync (shape T).fields → IsSync (declared.row T)
+declared_sync T all = recorded_sync (Struct (shape T)) T.D T.to T.to_one (struct_sync (shape T) all)
 
 pub group_sync : IsSync group.the_row
 group_sync = search (crosses, sendable) depth 60 fits 20000
@@ -51,8 +62,98 @@ leave_sync = search (crosses, sendable) depth 60 fits 20000
 pub cut_sync : IsSync cut.the_row
 cut_sync = search (crosses, sendable) depth 60 fits 20000
 
+pub restart_sync : IsSync restart.the_row
+restart_sync = search (crosses, sendable) depth 60 fits 20000
+
+pub pause_sync : IsSync pause.the_row
+pause_sync = search (crosses, sendable) depth 60 fits 20000
+
+pub script_event_sync : IsSync script_event.the_row
+script_event_sync = search (crosses, sendable) depth 60 fits 20000
+
+pub spells_sync : IsSync spells.the_row
+spells_sync = search (crosses, sendable) depth 60 fits 20000
+
+pub calendar_sync : IsSync calendar.the_row
+calendar_sync = search (crosses, sendable) depth 60 fits 20000
+
+contents_fields : AllSync (shape contents.the_type).fields
+contents_fields = (
+  search (crosses, sendable) depth 60 fits 20000,
+  (
+    search (crosses, sendable) depth 60 fits 20000,
+    (
+      search (crosses, sendable) depth 60 fits 20000,
+      (
+        search (crosses, sendable) depth 60 fits 20000,
+        (
+          search (crosses, sendable) depth 60 fits 20000,
+          (
+            search (crosses, sendable) depth 60 fits 20000,
+            (
+              search (crosses, sendable) depth 60 fits 20000,
+              (
+                search (group_sync, crosses, sendable) depth 60 fits 20000,
+                (
+                  search (path_sync, crosses, sendable) depth 60 fits 20000,
+                  (
+                    search (slow_sync, crosses, sendable) depth 60 fits 20000,
+                    (
+                      search (crash_sync, crosses, sendable) depth 60 fits 20000,
+                      (
+                        search (leave_sync, crosses, sendable) depth 60 fits 20000,
+                        (
+                          search (cut_sync, crosses, sendable) depth 60 fits 20000,
+                          (
+                            search (crosses, sendable) depth 60 fits 20000,
+                            (
+                              search (crosses, sendable) depth 60 fits 20000,
+                              (
+                                search (pause_sync, crosses, sendable) depth 60 fits 20000,
+                                (
+                                  search (restart_sync, crosses, sendable) depth 60 fits 20000,
+                                  (
+                                    search (pause_sync, crosses, sendable) depth 60 fits 20000,
+                                    (
+                                      search (crosses, sendable) depth 60 fits 20000,
+                                      (
+                                        search (crosses, sendable) depth 60 fits 20000,
+                                        (
+                                          search (crosses, sendable) depth 60 fits 20000,
+                                          (search (crosses, sendable) depth 60 fits 20000, tt),
+                                        ),
+                                      ),
+                                    ),
+                                  ),
+                                ),
+                              ),
+                            ),
+                          ),
+                        ),
+                      ),
+                    ),
+                  ),
+                ),
+              ),
+            ),
+          ),
+        ),
+      ),
+    ),
+  ),
+)
+
+pub contents_sync : IsSync contents.the_row
+contents_sync = declared_sync contents.the_type contents_fields
+
+calendar_field : IsSync (calendar.the_field).row
+calendar_field = search (crosses, sendable) depth 60 fits 20000
+
+contents_field : IsSync (contents.the_field).row
+contents_field = struct_sync (shape contents.the_type) contents_fields
+
 pub scenario_sync : IsSync scenario.the_row
-scenario_sync = search (crosses, group_sync, path_sync, slow_sync, crash_sync, leave_sync, cut_sync, sendable) depth 60 fits 20000
+scenario_sync = search (contents_field, spells_sync, calendar_field, script_event_sync, crosses, sendable) depth 60 fits 20000
 
 pub division_sync : IsSync division.the_row
 division_sync = search (crosses, sendable) depth 60 fits 20000
@@ -78,8 +179,68 @@ relays_send = search (over.crosses, crosses, sendable) depth 60 fits 20000
 pub stream_send : IsSend stream.the_row
 stream_send = search (crosses, sendable) depth 60 fits 20000
 
+pub queue_send : IsSend queue.the_row
+queue_send = search (crosses, sendable) depth 60 fits 20000
+
+pub life_send : IsSend (life.the_field).row
+life_send = search (buffer_send, queue_send, crosses, sendable) depth 60 fits 20000
+
+member_fields : AllSend (shape member.the_type).fields
+member_fields = (
+  search (crosses, sendable) depth 60 fits 20000,
+  (
+    search (crosses, sendable) depth 60 fits 20000,
+    (
+      search (crosses, sendable) depth 60 fits 20000,
+      (
+        search (crosses, sendable) depth 60 fits 20000,
+        (
+          search (crosses, sendable) depth 60 fits 20000,
+          (
+            search (crosses, sendable) depth 60 fits 20000,
+            (
+              search (crosses, sendable) depth 60 fits 20000,
+              (
+                search (crosses, sendable) depth 60 fits 20000,
+                (
+                  stream_send,
+                  (
+                    rota_send,
+                    (
+                      search (crosses, sendable) depth 60 fits 20000,
+                      (
+                        buffer_send,
+                        (
+                          suspicions_send,
+                          (
+                            table_send,
+                            (
+                              search (crosses, sendable) depth 60 fits 20000,
+                              (
+                                relays_send,
+                                (
+                                  search (crosses, sendable) depth 60 fits 20000,
+                                  (life_send, tt),
+                                ),
+                              ),
+                            ),
+                          ),
+                        ),
+                      ),
+                    ),
+                  ),
+                ),
+              ),
+            ),
+          ),
+        ),
+      ),
+    ),
+  ),
+)
+
 pub member_send : IsSend member.the_row
-member_send = search (table_send, buffer_send, rota_send, suspicions_send, relays_send, stream_send, crosses, sendable) depth 60 fits 20000
+member_send = declared_send member.the_type member_fields
 
 pub part_send : (Q : RattleType) → IsSend Q → IsSend (part.the_field Q).row
 part_send Q s = search (member_send, crosses, sendable) depth 60 fits 20000

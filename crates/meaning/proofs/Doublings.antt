@@ -1,4 +1,4 @@
--- Of the sizes 32, 64, .. and 2,048 as many are below a number of members as 32 has to be doubled until it isn't.
+-- Of the sizes 32, 64, .. and 8,192 as many are below a number of members as 32 has to be doubled until it isn't.
 use Rattle.std.proofs.Common.{◌≡◌, ℕ, zero, suc, ◌+◌, ◌*◌, ◌^◌, ◌≤◌, Bool, false, cond, nat_lt, [], ◌∷◌, refl, sym, ap, subst, ◌∙◌, arith}
 use Rattle.std.specs.List.{count_by, range_with_len}
 use Rattle.std.proofs.lemmas.Bool.{le-ltb}
@@ -34,18 +34,18 @@ below_power (suc m) =
     let same : m + 1 ≡ suc m = omega arith in
     subst (λ k. k ≤ 32 * 2 ^ k) same (omega (arith, below_power m, pow_pos m, pow_more 2 m))
 
-pub sizes_below : (n : ℕ) → n ≤ 4096 → count_by (λ size. nat_lt size n) (32 ∷ 64 ∷ 128 ∷ 256 ∷ 512 ∷ 1024 ∷ 2048 ∷ []) ≡ doublings_to n
+pub sizes_below : (n : ℕ) → n ≤ 16384 → count_by (λ size. nat_lt size n) (32 ∷ 64 ∷ 128 ∷ 256 ∷ 512 ∷ 1024 ∷ 2048 ∷ 4096 ∷ 8192 ∷ []) ≡ doublings_to n
 sizes_below n few =
-    let first : count_by p (range_with_len 0 (7 + n)) ≡ count_by p (range_with_len 0 7) = longer p 0 7 n at_seven in
-    let second : count_by p (range_with_len 0 (n + 7)) ≡ count_by p (range_with_len 0 n) = longer p 0 n 7 at_n in
-    let same : 7 + n ≡ n + 7 = omega arith in
+    let first : count_by p (range_with_len 0 (9 + n)) ≡ count_by p (range_with_len 0 9) = longer p 0 9 n at_nine in
+    let second : count_by p (range_with_len 0 (n + 9)) ≡ count_by p (range_with_len 0 n) = longer p 0 n 9 at_n in
+    let same : 9 + n ≡ n + 9 = omega arith in
     sym first ∙ ap (λ len. count_by p (range_with_len 0 len)) same ∙ second
   where
     p : ℕ → Bool
     p m = nat_lt (32 * 2 ^ m) n
 
-    at_seven : (m : ℕ) → 0 + 7 ≤ m → p m ≡ false
-    at_seven m from = let up : 7 ≤ m = omega (arith, from) in let powers : 2 ^ 7 ≤ 2 ^ m = pow_mono up in le-ltb (32 * 2 ^ m) n (omega (arith, few, powers))
+    at_nine : (m : ℕ) → 0 + 9 ≤ m → p m ≡ false
+    at_nine m from = let up : 9 ≤ m = omega (arith, from) in let powers : 2 ^ 9 ≤ 2 ^ m = pow_mono up in le-ltb (32 * 2 ^ m) n (omega (arith, few, powers))
 
     at_n : (m : ℕ) → 0 + n ≤ m → p m ≡ false
     at_n m from = le-ltb (32 * 2 ^ m) n (omega (arith, from, below_power m))

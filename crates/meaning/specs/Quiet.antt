@@ -34,9 +34,9 @@ starts_of s m = if nat_le (start_of s m) s.end then 1 else 0
 abbrev pub starts_below : Setup → ℕ → ℕ
 starts_below s k = sum (map (starts_of s) (range_with_len 0 k))
 
--- the bytes of a member's name; none has more than 21
+-- the bytes of a member's name; none has more than 38
 abbrev pub name_bytes : Setup → ℕ → ℕ
-name_bytes s m = min (length (name_of s m)) 21
+name_bytes s m = min (length (name_of s m)) 38
 
 -- the bytes of the names of the first k members
 abbrev pub names_below : Setup → ℕ → ℕ

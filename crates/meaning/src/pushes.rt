@@ -11,7 +11,7 @@ use scenario::Scenario;
 /// confirmed; 0 where nobody pushes.
 pub fn push_period(scenario: &Scenario) -> u64
     ensures value { result ≡ push_period scenario.now }
-    ensures short { result ≤ 2 ^ 24 * 8 }
+    ensures short { result ≤ 2 ^ 24 * 10 }
 {
     match scenario.gossip() {
         Some(gossip) => gossip.push * (1 + doublings_to(scenario.members())),
@@ -42,11 +42,11 @@ pub(crate) fn half_push(scenario: &Scenario) -> u64
 /// How often 32 is doubled until it isn't below a number of members.
 #[tactic(auto, using(crate::proofs::Doublings::sizes_below))]
 fn doublings_to(members: usize) -> u64
-    requires { members ≤ 4096 }
+    requires { members ≤ 16384 }
     ensures value { result ≡ doublings_to members }
-    ensures few { result ≤ 7 }
+    ensures few { result ≤ 9 }
 {
-    below(&[32, 64, 128, 256, 512, 1024, 2048], members) as u64
+    below(&[32, 64, 128, 256, 512, 1024, 2048, 4096, 8192], members) as u64
 }
 
 /// How many of these sizes are below a number of members.

@@ -56,7 +56,7 @@ fn messages_an_exchange(scenario: &Scenario) -> u64
 fn messages(scenario: &Scenario, starts: u64) -> u64
     requires { starts ≡ starts_below scenario.now (member_count scenario.now) }
     ensures value { result ≡ quiet_messages scenario.now }
-    ensures few { result ≤ 2 ^ 55 }
+    ensures few { result ≤ 2 ^ 56 + 2 ^ 15 }
 {
     if starts <= 1 {
         0
@@ -68,7 +68,7 @@ fn messages(scenario: &Scenario, starts: u64) -> u64
 /// How many messages the probes and pushes of all members take.
 fn messages_of_all(scenario: &Scenario) -> u64
     ensures value { result ≡ messages_below scenario.now (member_count scenario.now) }
-    ensures few { result ≤ 2 ^ 55 }
+    ensures few { result ≤ 2 ^ 56 + 2 ^ 15 }
 {
     let mut sum = 0;
     for member in 0..scenario.members() {
@@ -81,7 +81,7 @@ fn messages_of_all(scenario: &Scenario) -> u64
 fn messages_of(scenario: &Scenario, member: MemberId) -> u64
     requires { member < member_count scenario.now }
     ensures value { result ≡ messages_of scenario.now member }
-    ensures few { result ≤ 2 ^ 43 }
+    ensures few { result ≤ 2 ^ 42 + 2 }
 {
     let end = scenario.end().ticks();
     let answered = end.saturating_sub(scenario.link().delay);
@@ -153,7 +153,7 @@ fn starts_of(scenario: &Scenario, member: MemberId) -> u64
 /// About how many bytes a row of the trace has.
 fn row_bytes(scenario: &Scenario) -> u64
     ensures value { result ≡ row_bytes scenario.now }
-    ensures few { result ≤ 87 }
+    ensures few { result ≤ 138 }
 {
     24 + 3 * average_name(scenario)
 }
@@ -161,7 +161,7 @@ fn row_bytes(scenario: &Scenario) -> u64
 /// How many bytes a member's name has on the average, rounded down.
 fn average_name(scenario: &Scenario) -> u64
     ensures value { result ≡ names_below scenario.now (member_count scenario.now) / member_count scenario.now }
-    ensures few { result ≤ 21 }
+    ensures few { result ≤ 38 }
 {
     let names = name_bytes(scenario);
     names / scenario.members() as u64
@@ -170,11 +170,11 @@ fn average_name(scenario: &Scenario) -> u64
 /// How many bytes the names of all members have together.
 fn name_bytes(scenario: &Scenario) -> u64
     ensures value { result ≡ names_below scenario.now (member_count scenario.now) }
-    ensures few { result ≤ 21 * member_count scenario.now }
+    ensures few { result ≤ 38 * member_count scenario.now }
 {
     let mut sum = 0;
     for member in 0..scenario.members() {
-        sum += scenario.name(MemberId(member as u16)).len().min(21) as u64;
+        sum += scenario.name(MemberId(member as u16)).len().min(38) as u64;
     }
     sum
 }

@@ -1,5 +1,5 @@
 -- What a scenario means, as JSON. A member of an object stands behind those that were put before it; where it is in the text goes by its key.
-use Rattle.std.specs.Prelude.{ℕ, Bool, ◌+◌, nat_eq, if◌then◌else◌, List, [], ◌∷◌, codes, flat_map, Option}
+use Rattle.std.specs.Prelude.{ℕ, Bool, ◌+◌, ◌==◌, nat_eq, if◌then◌else◌, List, [], ◌∷◌, codes, flat_map, Option}
 use Rattle.std.specs.List.{range_with_len}
 use Rattle.std.specs.Option.{option_map_or}
 use Rattle.base.specs.declared.profile.Profile.{Profile}
@@ -10,6 +10,9 @@ use Rattle.scenario.specs.declared.settings.Link.{Link}
 use Rattle.scenario.specs.declared.settings.Path.{Path}
 use Rattle.scenario.specs.declared.settings.Gossip.{Gossip}
 use Rattle.scenario.specs.declared.settings.StreamTimes.{StreamTimes}
+use Rattle.scenario.specs.declared.settings.Queue.{Queue}
+use Rattle.scenario.specs.declared.settings.DialTimes.{DialTimes}
+use Rattle.scenario.specs.declared.settings.Serf.{Serf}
 use Rattle.serde_json.specs.Data.{Data, null, boolean, number, unsigned, string, array, object, put, no_members}
 use Rattle.serde_json.specs.View.{items_of}
 use Rattle.suspicion.specs.Times.{most_accusers, min_timeout, timeout}
@@ -99,11 +102,30 @@ called_with least suspicions health nack fallback stream =
     object (put (codes "stream") stream (put (codes "fallback") (boolean fallback) (put (codes "nack_delay") (whole nack) (put (codes "health") health
     (put (codes "suspicions") suspicions (put (codes "least_suspicion") (whole least) no_members))))))
 
--- members call by memberlist's rules alone
+-- how long a dial may take, and how long who starts again waits before the next one
+unfoldable pub dial_data : DialTimes → Data
+dial_data t = object (put (codes "retry") (whole t.retry) (put (codes "limit") (whole t.limit) no_members))
+
+-- how members leave and reconnect as Serf's do
+unfoldable pub serf_data : Serf → Data
+serf_data f = object (put (codes "linger") (whole f.linger) (put (codes "reap") (whole f.reap) (put (codes "reconnect") (whole f.reconnect) no_members)))
+
+-- null where they don't
+abbrev pub serf_or_null : Option Serf → Data
+serf_or_null serf = option_map_or serf_data serf null
+
+-- the same, how long a dial may take, and what Serf's members do
+unfoldable pub dialed_with : ℕ → Data → Data → ℕ → Bool → Data → Data → Data → Data
+dialed_with least suspicions health nack fallback stream dial serf =
+    object (put (codes "serf") serf (put (codes "dial") dial (put (codes "stream") stream (put (codes "fallback") (boolean fallback) (put (codes "nack_delay") (whole nack)
+    (put (codes "health") health (put (codes "suspicions") suspicions (put (codes "least_suspicion") (whole least) no_members))))))))
+
+-- members call by memberlist's rules alone; dials have times of their own since version 4
 abbrev pub times_by : Profile → ℕ → ℕ → Setup → Data
 times_by Papers least nack s = times_with least (suspicions_data s) (health_data s) nack
 times_by Memberlist least nack s = called_with least (suspicions_data s) (health_data s) nack s.swim.fallback (stream_data s.stream)
-times_by Hashicorp least nack s = called_with least (suspicions_data s) (health_data s) nack s.swim.fallback (stream_data s.stream)
+times_by Hashicorp least nack s =
+    dialed_with least (suspicions_data s) (health_data s) nack s.swim.fallback (stream_data s.stream) (dial_data s.dial) (serf_or_null s.serf)
 
 -- the times of the protocol among all members
 abbrev pub times_data : Setup → Data
@@ -123,9 +145,29 @@ unfoldable pub gossiped_data : ℕ → ℕ → Gossip → Data
 gossiped_data limit carry g =
     object (put (codes "gossip") (gossip_data g) (put (codes "carry") (whole carry) (put (codes "limit") (whole limit) no_members)))
 
+-- how packets are filled from a queue
+unfoldable pub queue_data : Queue → Data
+queue_data q = object (put (codes "meta") (whole q.meta) (put (codes "packet") (whole q.packet) no_members))
+
+-- what a packet holds: so many bytes, or where these are 0 so many updates
+abbrev pub room_key : ℕ → List ℕ
+room_key packet = if packet == 0 then codes "carry" else codes "packet"
+
+abbrev pub room_of : ℕ → ℕ → ℕ
+room_of carry packet = if packet == 0 then carry else packet
+
+-- how members gossip, what a packet holds, and how it is filled
+unfoldable pub queued_data : ℕ → ℕ → Gossip → Queue → Data
+queued_data limit carry g q =
+    object (put (room_key q.packet) (whole (room_of carry q.packet)) (put (codes "queue") (queue_data q) (put (codes "gossip") (gossip_data g) (put (codes "limit") (whole limit) no_members))))
+
+-- the same, where packets are filled from one
+abbrev pub gossiped_by : ℕ → ℕ → Option Queue → Gossip → Data
+gossiped_by limit carry queue g = option_map_or (queued_data limit carry g) queue (gossiped_data limit carry g)
+
 -- how far an update spreads
 abbrev pub news_data : Setup → Data
-news_data s = option_map_or (gossiped_data (message_limit s) s.swim.carry) s.gossip (ridden_data (message_limit s) s.swim.carry)
+news_data s = option_map_or (gossiped_by (message_limit s) s.swim.carry s.queue) s.gossip (ridden_data (message_limit s) s.swim.carry)
 
 -- what a quiet run costs
 unfoldable pub quiet_data : Setup → Data

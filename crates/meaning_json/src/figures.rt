@@ -4,7 +4,7 @@ ghost use Rattle.serde_json.specs.View.{view};
 ghost use Rattle.scenario.specs.Setup.{member_count};
 ghost use Rattle.meaning.specs.Each.{made_at};
 ghost use Rattle.meaning.specs.Groups.{groups_of};
-ghost use Rattle.meaning_json.specs.Figures.{whole_or_null, link_data, contact_data, group_data, group_item, groups_data, path_data, path_item, paths_data, suspicion_item, suspicions_data, pace_data, pace_item, health_data, times_data, times_with, called_with, stream_data, news_data, ridden_data, gossip_data, gossiped_data, quiet_data};
+ghost use Rattle.meaning_json.specs.Figures.{whole_or_null, link_data, contact_data, group_data, group_item, groups_data, path_data, path_item, paths_data, suspicion_item, suspicions_data, pace_data, pace_item, health_data, times_data, times_with, called_with, stream_data, dial_data, dialed_with, serf_data, serf_or_null, news_data, ridden_data, gossip_data, gossiped_by, gossiped_data, queue_data, queued_data, room_key, room_of, quiet_data};
 
 use crate::lists::{list_of, push_value};
 use crate::members::{put_number, put_text};
@@ -14,7 +14,7 @@ use meaning::{
     message_limit, most_accusers, nack_delay, pace_with, suspicion_time, worst_health,
 };
 use meaning_text::{name_of_group, size_of_group};
-use scenario::{Gossip, Link, Path, Scenario, StreamTimes};
+use scenario::{DialTimes, Gossip, Link, Path, Queue, Scenario, Serf, StreamTimes};
 use serde_json::{Map, Value, put};
 use std::alloc::{AllocError, Global};
 
@@ -102,8 +102,8 @@ fn group_value(
     Ok(Value::Object(members))
 }
 
-/// Whom the members of a group ask to let them join; null where they ask nobody.
-fn contact_value(
+/// Whom the members of a group, or one that starts again, ask to let them join; null where they ask nobody.
+pub(crate) fn contact_value(
     alloc: Global,
     scenario: &Scenario,
     contact: Option<MemberId>,
@@ -191,10 +191,19 @@ pub(crate) fn times_value(alloc: Global, scenario: &Scenario) -> Result<Value, A
     let nack = nack_delay(scenario);
     match scenario.profile() {
         Profile::Papers => times_with(alloc, least, suspicions, health, nack),
-        Profile::Memberlist | Profile::Hashicorp => {
+        Profile::Memberlist => {
             let fallback = scenario.swim().fallback;
             let stream = stream_value(alloc, scenario.stream())?;
             called_with(alloc, least, suspicions, health, nack, fallback, stream)
+        }
+        Profile::Hashicorp => {
+            let fallback = scenario.swim().fallback;
+            let stream = stream_value(alloc, scenario.stream())?;
+            let dial = dial_value(alloc, scenario.dial())?;
+            let serf = serf_or_null(alloc, scenario.serf())?;
+            dialed_with(
+                alloc, least, suspicions, health, nack, fallback, stream, dial, serf,
+            )
         }
     }
 }
@@ -238,6 +247,66 @@ fn called_with(
     put_number(&mut members, alloc, "least_suspicion", least)?;
     put_number(&mut members, alloc, "nack_delay", nack)?;
     put(&mut members, alloc, "fallback", Value::Bool(fallback))?;
+    Ok(Value::Object(members))
+}
+
+/// The same, how long a dial may take, and what Serf's members do.
+#[tactic(auto, unfolding(crate::specs::Figures::dialed_with))]
+fn dialed_with(
+    alloc: Global,
+    least: u64,
+    suspicions: Value,
+    health: Value,
+    nack: u64,
+    fallback: bool,
+    stream: Value,
+    dial: Value,
+    serf: Value,
+) -> Result<Value, AllocError>
+    ensures { IfOk result (λ v. view v ≡ dialed_with least (view suspicions) (view health) nack fallback (view stream) (view dial) (view serf)) }
+{
+    let mut members = Map::new(alloc);
+    put(&mut members, alloc, "suspicions", suspicions)?;
+    put(&mut members, alloc, "health", health)?;
+    put(&mut members, alloc, "stream", stream)?;
+    put(&mut members, alloc, "dial", dial)?;
+    put(&mut members, alloc, "serf", serf)?;
+    put_number(&mut members, alloc, "least_suspicion", least)?;
+    put_number(&mut members, alloc, "nack_delay", nack)?;
+    put(&mut members, alloc, "fallback", Value::Bool(fallback))?;
+    Ok(Value::Object(members))
+}
+
+/// How long a dial may take, and how long who starts again waits before the next one.
+#[tactic(auto, unfolding(crate::specs::Figures::dial_data))]
+fn dial_value(alloc: Global, dial: DialTimes) -> Result<Value, AllocError>
+    ensures { IfOk result (λ v. view v ≡ dial_data dial) }
+{
+    let mut members = Map::new(alloc);
+    put_number(&mut members, alloc, "limit", dial.limit)?;
+    put_number(&mut members, alloc, "retry", dial.retry)?;
+    Ok(Value::Object(members))
+}
+
+/// How members leave and reconnect as Serf's do, or null where they don't.
+fn serf_or_null(alloc: Global, serf: Option<Serf>) -> Result<Value, AllocError>
+    ensures { IfOk result (λ v. view v ≡ serf_or_null serf) }
+{
+    match serf {
+        Some(serf) => serf_value(alloc, serf),
+        None => Ok(Value::Null),
+    }
+}
+
+/// How members leave and reconnect as Serf's do.
+#[tactic(auto, unfolding(crate::specs::Figures::serf_data))]
+fn serf_value(alloc: Global, serf: Serf) -> Result<Value, AllocError>
+    ensures { IfOk result (λ v. view v ≡ serf_data serf) }
+{
+    let mut members = Map::new(alloc);
+    put_number(&mut members, alloc, "reconnect", serf.reconnect)?;
+    put_number(&mut members, alloc, "reap", serf.reap)?;
+    put_number(&mut members, alloc, "linger", serf.linger)?;
     Ok(Value::Object(members))
 }
 
@@ -318,9 +387,73 @@ pub(crate) fn news_value(alloc: Global, scenario: &Scenario) -> Result<Value, Al
     let limit = message_limit(scenario);
     let carry = scenario.swim().carry;
     match scenario.gossip() {
-        Some(gossip) => gossiped_value(alloc, limit, carry, gossip),
+        Some(gossip) => gossiped_by(alloc, limit, carry, scenario.queue(), gossip),
         None => ridden_value(alloc, limit, carry),
     }
+}
+
+/// How far an update spreads among members that gossip, and where they fill packets from a queue how.
+fn gossiped_by(
+    alloc: Global,
+    limit: u64,
+    carry: u64,
+    queue: Option<Queue>,
+    gossip: Gossip,
+) -> Result<Value, AllocError>
+    ensures { IfOk result (λ v. view v ≡ gossiped_by limit carry queue gossip) }
+{
+    match queue {
+        Some(queue) => queued_value(alloc, limit, carry, gossip, queue),
+        None => gossiped_value(alloc, limit, carry, gossip),
+    }
+}
+
+/// How members gossip, what a packet holds, and how it is filled.
+#[tactic(auto, unfolding(crate::specs::Figures::queued_data))]
+fn queued_value(
+    alloc: Global,
+    limit: u64,
+    carry: u64,
+    gossip: Gossip,
+    queue: Queue,
+) -> Result<Value, AllocError>
+    ensures { IfOk result (λ v. view v ≡ queued_data limit carry gossip queue) }
+{
+    let key = room_key(queue.packet);
+    let room = room_of(carry, queue.packet);
+    let gossip = gossip_value(alloc, gossip)?;
+    let queue = queue_value(alloc, queue)?;
+    let mut members = Map::new(alloc);
+    put(&mut members, alloc, "gossip", gossip)?;
+    put(&mut members, alloc, "queue", queue)?;
+    put_number(&mut members, alloc, "limit", limit)?;
+    put_number(&mut members, alloc, key, room)?;
+    Ok(Value::Object(members))
+}
+
+/// The key of what a packet holds: its bytes, or where these are 0 its updates.
+fn room_key(packet: u64) -> &'static str
+    ensures { result.now ≡ room_key packet }
+{
+    if packet == 0 { "carry" } else { "packet" }
+}
+
+/// What a packet holds.
+fn room_of(carry: u64, packet: u64) -> u64
+    ensures { result ≡ room_of carry packet }
+{
+    if packet == 0 { carry } else { packet }
+}
+
+/// How packets are filled from a queue.
+#[tactic(auto, unfolding(crate::specs::Figures::queue_data))]
+fn queue_value(alloc: Global, queue: Queue) -> Result<Value, AllocError>
+    ensures { IfOk result (λ v. view v ≡ queue_data queue) }
+{
+    let mut members = Map::new(alloc);
+    put_number(&mut members, alloc, "packet", queue.packet)?;
+    put_number(&mut members, alloc, "meta", queue.meta)?;
+    Ok(Value::Object(members))
 }
 
 /// On how many messages of a member its news rides at the most, and how many ride on one.

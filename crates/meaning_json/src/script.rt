@@ -1,16 +1,17 @@
-//! The script up to the end of the run as a JSON value: crashes, leaves, slow times, cuts and pauses.
+//! The script up to the end of the run as a JSON value: crashes, leaves, restarts, slow times, cuts, pauses and blocks.
 ghost use Rattle.std.specs.Prelude.{◌≡◌, ◌++◌, ◌<◌, IfOk, OnOk, flat_map, map};
 ghost use Rattle.serde_json.specs.View.{view};
 ghost use Rattle.scenario.specs.Setup.{member_count};
 ghost use Rattle.meaning.specs.Groups.{groups_of};
 ghost use Rattle.meaning_json.specs.Figures.{list_of};
-ghost use Rattle.meaning_json.specs.Script.{departure_data, departure_item, crash_item, crashes_data, leave_item, slow_data, slow_item, cut_data, cut_item, pause_data, pause_item, script_with, paused_with, script_data};
+ghost use Rattle.meaning_json.specs.Script.{departure_data, departure_item, crash_item, crash_items, crashes_data, leave_item, restart_data, restart_item, slow_data, slow_item, cut_data, cut_item, pause_data, pause_item, pauses_data, blocks_data, restarts_data, script_with, paused_with, restarted_with, script_data};
 
+use crate::figures::contact_value;
 use crate::lists::{list_of, push_value};
 use crate::members::{put_number, put_text};
 use base::{MemberId, Moment, Profile};
 use meaning::{group_name, member_name};
-use scenario::{Cut, Leave, Pause, Scenario, Slow};
+use scenario::{Cut, Leave, Pause, Restart, Scenario, ScriptEvent, ScriptKind, Slow};
 use serde_json::{Map, Value, put};
 use std::alloc::{AllocError, Global};
 
@@ -30,11 +31,32 @@ pub(crate) fn script_value(
     let cuts = cuts_value(alloc, scenario, groups, scenario.cuts())?;
     match scenario.profile() {
         Profile::Papers => script_with(alloc, crashes, leaves, slows, cuts),
-        Profile::Memberlist | Profile::Hashicorp => {
+        Profile::Memberlist => {
             let pauses = pauses_value(alloc, scenario, scenario.pauses())?;
             paused_with(alloc, crashes, leaves, slows, cuts, pauses)
         }
+        Profile::Hashicorp => restarted_value(alloc, scenario, crashes, leaves, slows, cuts),
     }
+}
+
+/// The script with its restarts, pauses and blocks, where the rest of it is given.
+fn restarted_value(
+    alloc: Global,
+    scenario: &Scenario,
+    crashes: Value,
+    leaves: Value,
+    slows: Value,
+    cuts: Value,
+) -> Result<Value, AllocError>
+    ensures { IfOk result (λ v. view v
+        ≡ restarted_with (view crashes) (view leaves) (restarts_data scenario.now) (view slows) (view cuts) (pauses_data scenario.now) (blocks_data scenario.now)) }
+{
+    let restarts = restarts_value(alloc, scenario, scenario.restarts())?;
+    let pauses = pauses_value(alloc, scenario, scenario.pauses())?;
+    let blocks = pauses_value(alloc, scenario, scenario.blocks())?;
+    restarted_with(
+        alloc, crashes, leaves, restarts, slows, cuts, pauses, blocks,
+    )
 }
 
 /// Crashes, leaves, slow times and cuts.
@@ -77,31 +99,91 @@ fn paused_with(
     Ok(Value::Object(members))
 }
 
+/// The same, restarts and blocks.
+#[tactic(auto, unfolding(crate::specs::Script::restarted_with))]
+fn restarted_with(
+    alloc: Global,
+    crashes: Value,
+    leaves: Value,
+    restarts: Value,
+    slows: Value,
+    cuts: Value,
+    pauses: Value,
+    blocks: Value,
+) -> Result<Value, AllocError>
+    ensures { IfOk result (λ v. view v
+        ≡ restarted_with (view crashes) (view leaves) (view restarts) (view slows) (view cuts) (view pauses) (view blocks)) }
+{
+    let mut members = Map::new(alloc);
+    put(&mut members, alloc, "crashes", crashes)?;
+    put(&mut members, alloc, "leaves", leaves)?;
+    put(&mut members, alloc, "restarts", restarts)?;
+    put(&mut members, alloc, "slows", slows)?;
+    put(&mut members, alloc, "cuts", cuts)?;
+    put(&mut members, alloc, "pauses", pauses)?;
+    put(&mut members, alloc, "blocks", blocks)?;
+    Ok(Value::Object(members))
+}
+
 /// The crashes.
 fn crashes_value(alloc: Global, scenario: &Scenario) -> Result<Value, AllocError>
     ensures { IfOk result (λ v. view v ≡ crashes_data scenario.now) }
 {
     let mut values = Vec::new(alloc);
     for member in 0..scenario.members() {
-        push_crash(alloc, &mut values, scenario, member)?;
+        push_crashes_of(alloc, &mut values, scenario, member)?;
     }
     Ok(list_of(values))
 }
 
-/// Appends the crash of a member, if it crashes by the end.
-fn push_crash(
+/// Appends the crashes of a member.
+fn push_crashes_of(
     alloc: Global,
     values: &mut Vec<Value>,
     scenario: &Scenario,
     member: usize,
 ) -> Result<(), AllocError>
     requires { member < member_count scenario.now }
-    ensures { OnOk result (map view values.new.items ≡ map view values.old.items ++ crash_item scenario.now member) }
+    ensures { OnOk result (map view values.new.items ≡ map view values.old.items ++ crash_items scenario.now member) }
 {
     let _few = scenario.members();
-    match scenario.crash(MemberId(member as u16)) {
-        Some(at) => push_departure(alloc, values, scenario, member, at),
-        None => Ok(()),
+    push_crashes_among(
+        alloc,
+        values,
+        scenario,
+        scenario.script(MemberId(member as u16)),
+    )
+}
+
+/// Appends the crashes among what happens to a member.
+fn push_crashes_among(
+    alloc: Global,
+    values: &mut Vec<Value>,
+    scenario: &Scenario,
+    events: &[ScriptEvent],
+) -> Result<(), AllocError>
+    ensures { OnOk result (map view values.new.items ≡ map view values.old.items ++ flat_map (crash_item scenario.now) events.now) }
+{
+    for event in events {
+        push_crash(alloc, values, scenario, event)?;
+    }
+    Ok(())
+}
+
+/// Appends what happens to a member, if it is a crash by the end.
+fn push_crash(
+    alloc: Global,
+    values: &mut Vec<Value>,
+    scenario: &Scenario,
+    event: &ScriptEvent,
+) -> Result<(), AllocError>
+    ensures { OnOk result (map view values.new.items ≡ map view values.old.items ++ crash_item scenario.now event.now) }
+{
+    match event.kind {
+        ScriptKind::Crash => {
+            push_departure(alloc, values, scenario, event.member.index(), event.at)
+        }
+        ScriptKind::Leave | ScriptKind::Restart(_) => Ok(()),
     }
 }
 
@@ -147,6 +229,51 @@ fn departure_value(
     let mut members = Map::new(alloc);
     put_text(&mut members, alloc, "member", name)?;
     put_number(&mut members, alloc, "at", at.ticks())?;
+    Ok(Value::Object(members))
+}
+
+/// The restarts.
+fn restarts_value(
+    alloc: Global,
+    scenario: &Scenario,
+    restarts: &[Restart],
+) -> Result<Value, AllocError>
+    ensures { IfOk result (λ v. view v ≡ list_of (flat_map (restart_item scenario.now) restarts.now)) }
+{
+    let mut values = Vec::new(alloc);
+    for restart in restarts {
+        push_restart(alloc, &mut values, scenario, restart)?;
+    }
+    Ok(list_of(values))
+}
+
+/// Appends a restart, if it is by the end.
+fn push_restart(
+    alloc: Global,
+    values: &mut Vec<Value>,
+    scenario: &Scenario,
+    restart: &Restart,
+) -> Result<(), AllocError>
+    ensures { OnOk result (map view values.new.items ≡ map view values.old.items ++ restart_item scenario.now restart.now) }
+{
+    if restart.at.ticks() <= scenario.end().ticks() {
+        push_value(values, restart_value(alloc, scenario, restart)?)
+    } else {
+        Ok(())
+    }
+}
+
+/// Who starts again when, and whom it asks to let it join.
+#[tactic(auto, unfolding(crate::specs::Script::restart_data))]
+fn restart_value(alloc: Global, scenario: &Scenario, restart: &Restart) -> Result<Value, AllocError>
+    ensures { IfOk result (λ v. view v ≡ restart_data scenario.now restart.now) }
+{
+    let name = member_name(scenario, restart.member.index());
+    let contact = contact_value(alloc, scenario, restart.contact)?;
+    let mut members = Map::new(alloc);
+    put_text(&mut members, alloc, "member", name)?;
+    put_number(&mut members, alloc, "at", restart.at.ticks())?;
+    put(&mut members, alloc, "contact", contact)?;
     Ok(Value::Object(members))
 }
 
@@ -251,7 +378,7 @@ fn cut_value(
     Ok(Value::Object(members))
 }
 
-/// The pauses.
+/// The pauses, or the blocks.
 fn pauses_value(alloc: Global, scenario: &Scenario, pauses: &[Pause]) -> Result<Value, AllocError>
     ensures { IfOk result (λ v. view v ≡ list_of (flat_map (pause_item scenario.now) pauses.now)) }
 {
@@ -262,7 +389,7 @@ fn pauses_value(alloc: Global, scenario: &Scenario, pauses: &[Pause]) -> Result<
     Ok(list_of(values))
 }
 
-/// Appends a pause, if it begins by the end.
+/// Appends a pause, or a block, if it begins by the end.
 fn push_pause(
     alloc: Global,
     values: &mut Vec<Value>,
@@ -278,7 +405,7 @@ fn push_pause(
     }
 }
 
-/// Who is paused when.
+/// Who is paused, or blocked, when.
 #[tactic(auto, unfolding(crate::specs::Script::pause_data))]
 fn pause_value(alloc: Global, scenario: &Scenario, pause: &Pause) -> Result<Value, AllocError>
     ensures { IfOk result (λ v. view v ≡ pause_data scenario.now pause.now) }

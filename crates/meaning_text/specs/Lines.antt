@@ -1,11 +1,11 @@
 -- What a scenario means, in lines.
-use Rattle.std.specs.Prelude.{ℕ, Bool, ◌+◌, ◌*◌, nat_eq, nat_le, if◌then◌else◌, List, [], ◌∷◌, ◌++◌, codes, decimal, flat_map, Option, Some, None}
+use Rattle.std.specs.Prelude.{ℕ, Bool, ◌+◌, ◌*◌, ◌==◌, nat_eq, nat_le, if◌then◌else◌, List, [], ◌∷◌, ◌++◌, codes, decimal, flat_map, Option, Some, None}
 use Rattle.std.specs.List.{range_with_len}
 use Rattle.std.specs.Option.{option_map_or}
 use Rattle.base.specs.declared.profile.Profile.{Profile}
 use Rattle.base.specs.declared.profile.Profile.TheVariants.{Papers, Memberlist, Hashicorp}
 use Rattle.scenario.specs.Profile.{profile_of}
-use Rattle.scenario.specs.Setup.{Setup, member_count, name_of, group_at, start_of, contact_of, crash_of}
+use Rattle.scenario.specs.Setup.{Setup, member_count, name_of, group_at, start_of, contact_of, script_of}
 use Rattle.scenario.specs.declared.settings.Link.{Link}
 use Rattle.scenario.specs.declared.settings.Path.{Path}
 use Rattle.scenario.specs.declared.settings.Slow.{Slow}
@@ -13,7 +13,14 @@ use Rattle.scenario.specs.declared.settings.Leave.{Leave}
 use Rattle.scenario.specs.declared.settings.Cut.{Cut}
 use Rattle.scenario.specs.declared.settings.Gossip.{Gossip}
 use Rattle.scenario.specs.declared.settings.StreamTimes.{StreamTimes}
+use Rattle.scenario.specs.declared.settings.Queue.{Queue}
+use Rattle.scenario.specs.declared.settings.DialTimes.{DialTimes}
+use Rattle.scenario.specs.declared.settings.Serf.{Serf}
 use Rattle.scenario.specs.declared.settings.Pause.{Pause}
+use Rattle.scenario.specs.declared.settings.Restart.{Restart}
+use Rattle.scenario.specs.declared.script.ScriptKind.{ScriptKind}
+use Rattle.scenario.specs.declared.script.ScriptKind.TheVariants as kind
+use Rattle.scenario.specs.declared.script.ScriptEvent.{ScriptEvent}
 use Rattle.suspicion.specs.Times.{most_accusers, min_timeout, timeout}
 use Rattle.suspicion.specs.Settings.{terms_of}
 use Rattle.lifeguard.specs.NackDelay.{nack_delay_of}
@@ -97,13 +104,21 @@ health_lines s = flat_map (health_line s) (range_with_len 0 (worst_health s + 1)
 unfoldable pub nack_line : Setup → List ℕ
 nack_line s = count_line (codes "nack") (nack_delay_of s.lifeguard.nack_percent s.swim.timeout)
 
--- how far an update spreads, in these numbers
-unfoldable pub news_words : ℕ → ℕ → ℕ → List ℕ
-news_words limit all carry = line (codes "news" ∷ codes "messages" ∷ decimal limit ∷ codes "all" ∷ decimal all ∷ codes "carry" ∷ decimal carry ∷ [])
+-- how far an update spreads, in these numbers, the last of which has this word
+unfoldable pub news_words : ℕ → ℕ → List ℕ → ℕ → List ℕ
+news_words limit all word room = line (codes "news" ∷ codes "messages" ∷ decimal limit ∷ codes "all" ∷ decimal all ∷ word ∷ decimal room ∷ [])
 
--- on how many messages of a member its news rides at the most, on how many of all members, and how many ride on one
+-- a packet of a queue has so many bytes, or a message so many updates
+abbrev pub news_by : ℕ → ℕ → ℕ → ℕ → List ℕ
+news_by limit all carry packet = if packet == 0 then news_words limit all (codes "carry") carry else news_words limit all (codes "packet") packet
+
+-- the bytes of a packet; 0 where messages aren't filled by bytes
+abbrev pub packet_of : Setup → ℕ
+packet_of s = option_map_or (λ (q : Queue). q.packet) s.queue 0
+
+-- on how many messages of a member its news rides at the most, on how many of all members, and how many ride on one, or how large one is
 unfoldable pub news_line : Setup → List ℕ
-news_line s = news_words (message_limit s) (message_limit s * member_count s) s.swim.carry
+news_line s = news_by (message_limit s) (message_limit s * member_count s) s.swim.carry (packet_of s)
 
 -- how members gossip
 unfoldable pub gossip_text : Gossip → List ℕ
@@ -114,6 +129,14 @@ gossip_text g =
 abbrev pub gossip_line : Setup → List ℕ
 gossip_line s = option_map_or gossip_text s.gossip []
 
+-- how packets are filled from a queue
+unfoldable pub queue_text : Queue → List ℕ
+queue_text q = line (codes "queue" ∷ codes "packet" ∷ decimal q.packet ∷ codes "meta" ∷ decimal q.meta ∷ [])
+
+-- the same, where there is one
+abbrev pub queue_line : Setup → List ℕ
+queue_line s = option_map_or queue_text s.queue []
+
 -- whether a ping that goes unanswered is followed by a call
 unfoldable pub fallback_line : Bool → List ℕ
 fallback_line is_on = line (codes "fallback" ∷ (if is_on then codes "on" else codes "off") ∷ [])
@@ -122,11 +145,30 @@ fallback_line is_on = line (codes "fallback" ∷ (if is_on then codes "on" else 
 unfoldable pub stream_line : StreamTimes → List ℕ
 stream_line t = line (codes "stream" ∷ codes "connect" ∷ decimal t.connect ∷ codes "again" ∷ decimal t.again ∷ [])
 
+-- how long a dial may take, and how long who starts again waits before the next one
+unfoldable pub dial_line : DialTimes → List ℕ
+dial_line t = line (codes "dial" ∷ codes "limit" ∷ decimal t.limit ∷ codes "retry" ∷ decimal t.retry ∷ [])
+
+-- how members leave and reconnect as Serf's do
+unfoldable pub serf_text : Serf → List ℕ
+serf_text f = line (codes "serf" ∷ codes "reconnect" ∷ decimal f.reconnect ∷ codes "reap" ∷ decimal f.reap ∷ codes "linger" ∷ decimal f.linger ∷ [])
+
+-- the same, where they do
+abbrev pub serf_line : Setup → List ℕ
+serf_line s = option_map_or serf_text s.serf []
+
 -- members call by memberlist's rules alone
+unfoldable pub memberlist_lines : Setup → List ℕ
+memberlist_lines s = fallback_line s.swim.fallback ++ stream_line s.stream
+
+-- dials have times of their own since version 4
+unfoldable pub hashicorp_lines : Setup → List ℕ
+hashicorp_lines s = memberlist_lines s ++ dial_line s.dial ++ serf_line s
+
 abbrev pub call_lines_by : Profile → Setup → List ℕ
 call_lines_by Papers s = []
-call_lines_by Memberlist s = fallback_line s.swim.fallback ++ stream_line s.stream
-call_lines_by Hashicorp s = fallback_line s.swim.fallback ++ stream_line s.stream
+call_lines_by Memberlist s = memberlist_lines s
+call_lines_by Hashicorp s = hashicorp_lines s
 
 abbrev pub call_lines : Setup → List ℕ
 call_lines s = call_lines_by (profile_of s) s
@@ -139,12 +181,33 @@ departure_text s word m at = line (word ∷ name_of s m ∷ decimal at ∷ [])
 abbrev pub departure_line : Setup → List ℕ → ℕ → ℕ → List ℕ
 departure_line s word m at = if nat_le at s.end then departure_text s word m at else []
 
--- the crash of a member, if it crashes
-abbrev pub crash_line : Setup → ℕ → List ℕ
-crash_line s m = option_map_or (departure_line s (codes "crash") m) (crash_of s m) []
+-- who crashes and when, where that is what happens
+abbrev pub crash_by : ScriptKind → Setup → ℕ → ℕ → List ℕ
+crash_by kind.Crash s m at = departure_line s (codes "crash") m at
+crash_by kind.Leave s m at = []
+crash_by (kind.Restart contact) s m at = []
+
+abbrev pub crash_line : Setup → ScriptEvent → List ℕ
+crash_line s e = crash_by e.kind s e.member e.at
+
+-- the crashes of a member, in the order of moments
+abbrev pub crash_lines : Setup → ℕ → List ℕ
+crash_lines s m = flat_map (crash_line s) (script_of s m)
 
 abbrev pub leave_line : Setup → Leave → List ℕ
 leave_line s l = departure_line s (codes "leave") l.member l.at
+
+-- who starts again and when
+unfoldable pub restart_words : Setup → Restart → List ℕ
+restart_words s r = codes "restart " ++ name_of s r.member ++ codes " " ++ decimal r.at
+
+-- its line
+unfoldable pub restart_text : Setup → Restart → List ℕ
+restart_text s r = restart_words s r ++ contact_text s r.contact ++ codes "\n"
+
+-- who starts again by the end
+abbrev pub restart_line : Setup → Restart → List ℕ
+restart_line s r = if nat_le r.at s.end then restart_text s r else []
 
 -- who is slow when, and by how much
 unfoldable pub slow_text : Setup → Slow → List ℕ
@@ -160,18 +223,18 @@ cut_text s c = line (codes "cut" ∷ group_name s c.from ∷ group_name s c.to �
 abbrev pub cut_line : Setup → Cut → List ℕ
 cut_line s c = if nat_le c.at s.end then cut_text s c else []
 
--- who is paused when
-unfoldable pub pause_text : Setup → Pause → List ℕ
-pause_text s p = line (codes "pause" ∷ name_of s p.member ∷ codes "from" ∷ decimal p.from ∷ codes "until" ∷ decimal p.until ∷ [])
+-- who is paused, or blocked, when
+unfoldable pub pause_text : Setup → List ℕ → Pause → List ℕ
+pause_text s word p = line (word ∷ name_of s p.member ∷ codes "from" ∷ decimal p.from ∷ codes "until" ∷ decimal p.until ∷ [])
 
-abbrev pub pause_line : Setup → Pause → List ℕ
-pause_line s p = if nat_le p.from s.end then pause_text s p else []
+abbrev pub pause_line : Setup → List ℕ → Pause → List ℕ
+pause_line s word p = if nat_le p.from s.end then pause_text s word p else []
 
 -- what of the script happens up to the end
 unfoldable pub script_lines : Setup → List ℕ
 script_lines s =
-    flat_map (crash_line s) (range_with_len 0 (member_count s)) ++ flat_map (leave_line s) s.leaves ++ flat_map (slow_line s) s.slows ++ flat_map (cut_line s) s.cuts
-    ++ flat_map (pause_line s) s.pauses
+    flat_map (crash_lines s) (range_with_len 0 (member_count s)) ++ flat_map (leave_line s) s.leaves ++ flat_map (restart_line s) s.restarts
+    ++ flat_map (slow_line s) s.slows ++ flat_map (cut_line s) s.cuts ++ flat_map (pause_line s (codes "pause")) s.pauses ++ flat_map (pause_line s (codes "block")) s.blocks
 
 -- how many messages a quiet cluster sends in a period, and in a thousand ticks
 unfoldable pub rate_line : Quiet → List ℕ
@@ -190,7 +253,7 @@ cluster_lines s window trip = member_lines s ++ link_line s ++ path_lines s ++ t
 
 -- the times of the protocol among all members
 unfoldable pub time_lines : Setup → List ℕ
-time_lines s = suspicion_line s ++ accusers_lines s ++ health_lines s ++ nack_line s ++ news_line s ++ gossip_line s ++ call_lines s
+time_lines s = suspicion_line s ++ accusers_lines s ++ health_lines s ++ nack_line s ++ news_line s ++ gossip_line s ++ queue_line s ++ call_lines s
 
 -- all of them, but for the warnings
 unfoldable pub figure_lines : Setup → Option ℕ → ℕ → List ℕ

@@ -8,7 +8,9 @@ use crate::calls::push_calls;
 use crate::groups::push_members;
 use crate::paths::{push_link, push_paths, push_trips};
 use crate::script::push_script;
-use crate::times::{push_accusers, push_gossip, push_health, push_nack, push_news, push_suspicion};
+use crate::times::{
+    push_accusers, push_gossip, push_health, push_nack, push_news, push_queue, push_suspicion,
+};
 use meaning::{Quiet, cost_of_quiet};
 use scenario::Scenario;
 use std::alloc::AllocError;
@@ -60,6 +62,7 @@ fn push_times(text: &mut String, scenario: &Scenario) -> Result<(), AllocError>
     push_nack(text, scenario)?;
     push_news(text, scenario)?;
     push_gossip(text, scenario)?;
+    push_queue(text, scenario)?;
     push_calls(text, scenario)
 }
 

@@ -115,9 +115,9 @@ pub fn size_of_group(scenario: &Scenario, groups: &[usize], member: usize) -> us
     size_of(groups, number)
 }
 
-/// Appends whom the members of a group ask to let them join, if they ask somebody.
+/// Appends whom the members of a group, or one that starts again, ask to let them join, if they ask somebody.
 #[tactic(auto, unfolding(crate::specs::Lines::contact_text))]
-fn push_contact(
+pub(crate) fn push_contact(
     text: &mut String,
     scenario: &Scenario,
     contact: Option<MemberId>,

@@ -1,14 +1,15 @@
-//! The lines on what happens up to the end of the run: crashes, leaves, slow times, cuts and pauses.
+//! The lines on what happens up to the end of the run: crashes, leaves, restarts, slow times, cuts, pauses and blocks.
 ghost use Rattle.std.specs.Prelude.{◌≡◌, ◌++◌, ◌<◌, OnOk, flat_map};
 ghost use Rattle.std.specs.List.{range_with_len};
 ghost use Rattle.std.specs.String.{string_bytes};
 ghost use Rattle.scenario.specs.Setup.{member_count};
 ghost use Rattle.meaning.specs.Groups.{groups_of};
-ghost use Rattle.meaning_text.specs.Lines.{departure_text, departure_line, crash_line, leave_line, slow_text, slow_line, cut_text, cut_line, pause_text, pause_line, script_lines};
+ghost use Rattle.meaning_text.specs.Lines.{departure_text, departure_line, crash_line, crash_lines, leave_line, restart_words, restart_text, restart_line, slow_text, slow_line, cut_text, cut_line, pause_text, pause_line, script_lines};
 
+use crate::groups::push_contact;
 use base::{MemberId, Moment};
 use meaning::{group_name, member_name};
-use scenario::{Cut, Leave, Pause, Scenario, Slow};
+use scenario::{Cut, Leave, Pause, Restart, Scenario, ScriptEvent, ScriptKind, Slow};
 use std::alloc::AllocError;
 
 /// Appends what of the script happens up to the end: crashes by the members' numbers, the rest in the
@@ -24,31 +25,56 @@ pub(crate) fn push_script(
 {
     push_crashes(text, scenario)?;
     push_leaves(text, scenario, scenario.leaves())?;
+    push_restarts(text, scenario, scenario.restarts())?;
     push_slows(text, scenario, scenario.slows())?;
     push_cuts(text, scenario, groups, scenario.cuts())?;
-    push_pauses(text, scenario, scenario.pauses())
+    push_pauses(text, scenario, "pause", scenario.pauses())?;
+    push_pauses(text, scenario, "block", scenario.blocks())
 }
 
 /// Appends the crashes.
 fn push_crashes(text: &mut String, scenario: &Scenario) -> Result<(), AllocError>
     ensures { OnOk result (string_bytes text.new
-        ≡ string_bytes text.old ++ flat_map (crash_line scenario.now) (range_with_len 0 (member_count scenario.now))) }
+        ≡ string_bytes text.old ++ flat_map (crash_lines scenario.now) (range_with_len 0 (member_count scenario.now))) }
 {
     for member in 0..scenario.members() {
-        push_crash(text, scenario, member)?;
+        push_crashes_of(text, scenario, member)?;
     }
     Ok(())
 }
 
-/// Appends the crash of a member, if it crashes by the end.
-fn push_crash(text: &mut String, scenario: &Scenario, member: usize) -> Result<(), AllocError>
+/// Appends the crashes of a member.
+fn push_crashes_of(text: &mut String, scenario: &Scenario, member: usize) -> Result<(), AllocError>
     requires { member < member_count scenario.now }
-    ensures { OnOk result (string_bytes text.new ≡ string_bytes text.old ++ crash_line scenario.now member) }
+    ensures { OnOk result (string_bytes text.new ≡ string_bytes text.old ++ crash_lines scenario.now member) }
 {
     let _few = scenario.members();
-    match scenario.crash(MemberId(member as u16)) {
-        Some(at) => push_departure(text, scenario, "crash", member, at),
-        None => Ok(()),
+    push_crashes_among(text, scenario, scenario.script(MemberId(member as u16)))
+}
+
+/// Appends the crashes among what happens to a member.
+fn push_crashes_among(
+    text: &mut String,
+    scenario: &Scenario,
+    events: &[ScriptEvent],
+) -> Result<(), AllocError>
+    ensures { OnOk result (string_bytes text.new ≡ string_bytes text.old ++ flat_map (crash_line scenario.now) events.now) }
+{
+    for event in events {
+        push_crash(text, scenario, event)?;
+    }
+    Ok(())
+}
+
+/// Appends what happens to a member, if it is a crash by the end.
+fn push_crash(text: &mut String, scenario: &Scenario, event: &ScriptEvent) -> Result<(), AllocError>
+    ensures { OnOk result (string_bytes text.new ≡ string_bytes text.old ++ crash_line scenario.now event.now) }
+{
+    match event.kind {
+        ScriptKind::Crash => {
+            push_departure(text, scenario, "crash", event.member.index(), event.at)
+        }
+        ScriptKind::Leave | ScriptKind::Restart(_) => Ok(()),
     }
 }
 
@@ -100,6 +126,59 @@ fn push_departure_text(
     let name = member_name(scenario, member);
     let ticks = at.ticks();
     writeln!(text, "{word} {name} {ticks}")
+}
+
+/// Appends the restarts.
+fn push_restarts(
+    text: &mut String,
+    scenario: &Scenario,
+    restarts: &[Restart],
+) -> Result<(), AllocError>
+    ensures { OnOk result (string_bytes text.new ≡ string_bytes text.old ++ flat_map (restart_line scenario.now) restarts.now) }
+{
+    for restart in restarts {
+        push_restart(text, scenario, restart)?;
+    }
+    Ok(())
+}
+
+/// Appends a restart, if it is by the end.
+fn push_restart(text: &mut String, scenario: &Scenario, restart: &Restart) -> Result<(), AllocError>
+    ensures { OnOk result (string_bytes text.new ≡ string_bytes text.old ++ restart_line scenario.now restart.now) }
+{
+    if restart.at.ticks() <= scenario.end().ticks() {
+        push_restart_text(text, scenario, restart)
+    } else {
+        Ok(())
+    }
+}
+
+/// Appends who starts again and when, and whom it asks to let it join.
+#[tactic(auto, unfolding(crate::specs::Lines::restart_text))]
+fn push_restart_text(
+    text: &mut String,
+    scenario: &Scenario,
+    restart: &Restart,
+) -> Result<(), AllocError>
+    ensures { OnOk result (string_bytes text.new ≡ string_bytes text.old ++ restart_text scenario.now restart.now) }
+{
+    push_restart_words(text, scenario, restart)?;
+    push_contact(text, scenario, restart.contact)?;
+    text.push_str("\n")
+}
+
+/// Appends who starts again and when.
+#[tactic(auto, unfolding(crate::specs::Lines::restart_words))]
+fn push_restart_words(
+    text: &mut String,
+    scenario: &Scenario,
+    restart: &Restart,
+) -> Result<(), AllocError>
+    ensures { OnOk result (string_bytes text.new ≡ string_bytes text.old ++ restart_words scenario.now restart.now) }
+{
+    let name = member_name(scenario, restart.member.index());
+    let at = restart.at.ticks();
+    write!(text, "restart {name} {at}")
 }
 
 /// Appends the slow times.
@@ -186,34 +265,49 @@ fn push_cut_text(
     writeln!(text, "cut {from} {to} from {at} until {until}")
 }
 
-/// Appends the pauses.
-fn push_pauses(text: &mut String, scenario: &Scenario, pauses: &[Pause]) -> Result<(), AllocError>
-    ensures { OnOk result (string_bytes text.new ≡ string_bytes text.old ++ flat_map (pause_line scenario.now) pauses.now) }
+/// Appends the pauses, or the blocks, each with this word.
+fn push_pauses(
+    text: &mut String,
+    scenario: &Scenario,
+    word: &str,
+    pauses: &[Pause],
+) -> Result<(), AllocError>
+    ensures { OnOk result (string_bytes text.new ≡ string_bytes text.old ++ flat_map (pause_line scenario.now word.now) pauses.now) }
 {
     for pause in pauses {
-        push_pause(text, scenario, pause)?;
+        push_pause(text, scenario, word, pause)?;
     }
     Ok(())
 }
 
-/// Appends a pause, if it begins by the end.
-fn push_pause(text: &mut String, scenario: &Scenario, pause: &Pause) -> Result<(), AllocError>
-    ensures { OnOk result (string_bytes text.new ≡ string_bytes text.old ++ pause_line scenario.now pause.now) }
+/// Appends a pause, or a block, if it begins by the end.
+fn push_pause(
+    text: &mut String,
+    scenario: &Scenario,
+    word: &str,
+    pause: &Pause,
+) -> Result<(), AllocError>
+    ensures { OnOk result (string_bytes text.new ≡ string_bytes text.old ++ pause_line scenario.now word.now pause.now) }
 {
     if pause.from.ticks() <= scenario.end().ticks() {
-        push_pause_text(text, scenario, pause)
+        push_pause_text(text, scenario, word, pause)
     } else {
         Ok(())
     }
 }
 
-/// Appends who is paused when.
+/// Appends who is paused, or blocked, when.
 #[tactic(auto, unfolding(crate::specs::Lines::pause_text))]
-fn push_pause_text(text: &mut String, scenario: &Scenario, pause: &Pause) -> Result<(), AllocError>
-    ensures { OnOk result (string_bytes text.new ≡ string_bytes text.old ++ pause_text scenario.now pause.now) }
+fn push_pause_text(
+    text: &mut String,
+    scenario: &Scenario,
+    word: &str,
+    pause: &Pause,
+) -> Result<(), AllocError>
+    ensures { OnOk result (string_bytes text.new ≡ string_bytes text.old ++ pause_text scenario.now word.now pause.now) }
 {
     let name = member_name(scenario, pause.member.index());
     let from = pause.from.ticks();
     let until = pause.until.ticks();
-    writeln!(text, "pause {name} from {from} until {until}")
+    writeln!(text, "{word} {name} from {from} until {until}")
 }

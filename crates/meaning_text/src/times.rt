@@ -1,17 +1,17 @@
 //! The lines on the protocol's times: suspicions (LHA-Suspicion), period, timeout and nacks (LHA-Probe),
-//! how far an update spreads, and gossip (memberlist's rules).
+//! how far an update spreads, gossip and its queue (memberlist's rules).
 ghost use Rattle.std.specs.Prelude.{◌≡◌, ◌++◌, ◌*◌, ◌≤◌, OnOk};
 ghost use Rattle.std.specs.String.{string_bytes};
 ghost use Rattle.scenario.specs.Setup.{member_count};
 ghost use Rattle.meaning.specs.News.{message_limit};
-ghost use Rattle.meaning_text.specs.Lines.{suspicion_line, bounds_line, accusers_line, accusers_lines, health_line, health_lines, nack_line, news_line, news_words, gossip_line, gossip_text};
+ghost use Rattle.meaning_text.specs.Lines.{suspicion_line, bounds_line, accusers_line, accusers_lines, health_line, health_lines, nack_line, news_by, news_line, news_words, packet_of, gossip_line, gossip_text, queue_line, queue_text};
 
 use crate::groups::push_count;
 use meaning::{
     Pace, least_suspicion, message_limit, most_accusers, nack_delay, pace_with, suspicion_time,
     worst_health,
 };
-use scenario::{Gossip, Scenario};
+use scenario::{Gossip, Queue, Scenario};
 use std::alloc::AllocError;
 
 /// Appends the least and the greatest time of a suspicion.
@@ -88,20 +88,51 @@ pub(crate) fn push_nack(text: &mut String, scenario: &Scenario) -> Result<(), Al
 pub(crate) fn push_news(text: &mut String, scenario: &Scenario) -> Result<(), AllocError>
     ensures { OnOk result (string_bytes text.new ≡ string_bytes text.old ++ news_line scenario.now) }
 {
+    let limit = message_limit(scenario);
+    let all = messages_of_all(scenario);
     let carry = scenario.swim().carry;
-    push_news_words(
-        text,
-        message_limit(scenario),
-        messages_of_all(scenario),
-        carry,
-    )
+    push_news_by(text, limit, all, carry, packet_of(scenario))
+}
+
+/// Appends how far an update spreads: how many updates ride on a message, or how many bytes it has where
+/// `packet` isn't 0.
+fn push_news_by(
+    text: &mut String,
+    limit: u64,
+    all: u64,
+    carry: u64,
+    packet: u64,
+) -> Result<(), AllocError>
+    ensures { OnOk result (string_bytes text.new ≡ string_bytes text.old ++ news_by limit all carry packet) }
+{
+    if packet == 0 {
+        push_news_words(text, limit, all, "carry", carry)
+    } else {
+        push_news_words(text, limit, all, "packet", packet)
+    }
 }
 
 /// Appends how far an update spreads, in these numbers.
-fn push_news_words(text: &mut String, limit: u64, all: u64, carry: u64) -> Result<(), AllocError>
-    ensures { OnOk result (string_bytes text.new ≡ string_bytes text.old ++ news_words limit all carry) }
+fn push_news_words(
+    text: &mut String,
+    limit: u64,
+    all: u64,
+    word: &str,
+    room: u64,
+) -> Result<(), AllocError>
+    ensures { OnOk result (string_bytes text.new ≡ string_bytes text.old ++ news_words limit all word.now room) }
 {
-    writeln!(text, "news messages {limit} all {all} carry {carry}")
+    writeln!(text, "news messages {limit} all {all} {word} {room}")
+}
+
+/// How many bytes a packet has; 0 where messages aren't filled by bytes.
+fn packet_of(scenario: &Scenario) -> u64
+    ensures { result ≡ packet_of scenario.now }
+{
+    match scenario.queue() {
+        Some(queue) => queue.packet,
+        None => 0,
+    }
 }
 
 /// On how many messages of all members together an update rides at the most.
@@ -136,4 +167,23 @@ fn push_gossip_text(text: &mut String, gossip: Gossip) -> Result<(), AllocError>
         text,
         "gossip interval {interval} nodes {nodes} dead {dead} push {push}"
     )
+}
+
+/// Appends how packets are filled from a queue, where there is one.
+pub(crate) fn push_queue(text: &mut String, scenario: &Scenario) -> Result<(), AllocError>
+    ensures { OnOk result (string_bytes text.new ≡ string_bytes text.old ++ queue_line scenario.now) }
+{
+    match scenario.queue() {
+        Some(queue) => push_queue_text(text, queue),
+        None => Ok(()),
+    }
+}
+
+/// Appends how packets are filled from a queue.
+#[tactic(auto, unfolding(crate::specs::Lines::queue_text))]
+fn push_queue_text(text: &mut String, queue: Queue) -> Result<(), AllocError>
+    ensures { OnOk result (string_bytes text.new ≡ string_bytes text.old ++ queue_text queue) }
+{
+    let Queue { packet, meta } = queue;
+    writeln!(text, "queue packet {packet} meta {meta}")
 }

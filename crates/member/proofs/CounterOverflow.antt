@@ -1,15 +1,17 @@
 -- What a counter at its limit makes of the definitions, whose numbers have none.
-use Rattle.std.proofs.Common.{◌≡◌, ℕ, ◌+◌, ◌≤◌, ◌^◌, Bool, true, false, cond, nat_eq, List, [], ◌∷◌, length, Option, Some, None, Result, Ok, Err, IsErrAnd, inl, inr, sym, ap, ◌∙◌, subst, arith}
+use Rattle.std.proofs.Common.{◌≡◌, ℕ, ◌+◌, ◌<◌, ◌≤◌, ◌^◌, Bool, true, false, cond, max, nat_eq, nat_lt, List, [], ◌∷◌, length, Option, Some, None, Result, Ok, Err, IsErrAnd, inl, inr, sym, ap, ◌∙◌, subst, arith}
 use Rattle.std.specs.Result.{IsErrOf}
 use Rattle.std.specs.Option.{option_map_or}
 use Rattle.std.specs.FinMap.{get}
-use Rattle.std.proofs.lemmas.Bool.{false≢true, eqb-true, leb-true}
+use Rattle.std.proofs.lemmas.Bool.{false≢true, and_parts, eqb-true, leb-true, ltb-true}
 use Rattle.base.specs.declared.key.Key.{Key}
 use Rattle.base.specs.declared.profile.Profile.{Profile}
 use Rattle.base.specs.declared.profile.Profile.TheVariants.{Papers, Memberlist, Hashicorp}
 use Rattle.scenario.specs.Setup.{Setup, contact_of}
 use Rattle.scenario.specs.Profile.{profile_of}
 use Rattle.scenario.specs.declared.settings.Gossip as settings
+use Rattle.scenario.specs.declared.settings.Queue.{Queue}
+use Rattle.scenario.specs.declared.settings.Serf.{Serf}
 use Rattle.streams.specs.Draw.{Words}
 use Rattle.trace.specs.declared.row.What.{What}
 use Rattle.member.specs.declared.event_kind.EventKind.{EventKind}
@@ -24,19 +26,24 @@ use Rattle.member.specs.declared.step_error.StepError.TheVariants.{CounterOverfl
 use Rattle.member.specs.Makes.{Makes}
 use Rattle.member.specs.State.{State, is_probed}
 use Rattle.member.specs.Effects.{Effect, on_state, with_row, with_number, with_event, with_timer}
-use Rattle.member.specs.Send.{posted, sent, sent_off, sent_to_each, ping_sent, ping_req_sent, ack_sent, join_sent, join_sent_to, welcome_sent, bye_sent, carried, gossip_sent, call_sent, push_sent}
+use Rattle.member.specs.Send.{posted, sent, sent_off, sent_to_each, ping_sent, ping_req_sent, ack_sent, join_sent, join_sent_to, welcome_sent, bye_sent, riding, gossip_sent, pings_ack_sent, call_sent, push_sent, pull_sent}
+use Rattle.member.specs.declared.riding.Bearer.{Bearer}
+use Rattle.member.specs.declared.riding.Bearer.TheVariants as bearer
+use Rattle.member.specs.Riding.{room_of, without_claims, without_both, without_riding_by, put_up}
+use Rattle.member.specs.Intents.{regard_kept, regards_kept, is_known_intent}
 use Rattle.incarnation.specs.declared.Claim.{Claim}
-use Rattle.incarnation.specs.declared.Claim.TheVariants.{Alive, Suspect, Confirm}
+use Rattle.incarnation.specs.declared.Claim.TheVariants.{Alive, Suspect, Confirm, Left, Intent}
 use Rattle.incarnation.specs.declared.Update.{Update}
 use Rattle.incarnation.specs.Refutations.{does_refute}
 use Rattle.lifeguard.specs.Health.{LocalHealth, scaled}
 use Rattle.suspicion.specs.declared.suspicions.Accused.{Accused}
-use Rattle.membership.specs.Table.{is_confirm, does_override}
+use Rattle.membership.specs.Table.{is_alive, is_confirm, is_intent, does_override}
 use Rattle.suspicion.specs.Suspicions.{is_over_of}
 use Rattle.member.specs.LateAccusations.{death_of, accused_confirmed, accusation_answered, prompt_accusation_heard, accusation_by}
-use Rattle.member.specs.LoneBuddy.{lone_buddy_of, plain_ping_sent, ping_with_lone, probe_ping_sent}
-use Rattle.member.specs.SingleBeat.{is_in_step, deadline_between_beats, both_timers_set, single_probe_begun, single_target_probed, turn_probed, next_single_probed, next_if_waiting, next_of_beat, single_beat_taken, single_answered}
-use Rattle.member.specs.Apply.{gossip_set, with_put, passed_on, with_health, refuted, heard_dead, is_own_death, own_applied, with_told, with_claim, claim_kept, with_turn_of, newcomer_kept, claim_kept_by, without_suspicion, alive_heard, suspect_heard, death_kept, confirm_heard, claim_heard, news_heard, accusation_counted, accusation_heard, is_repeated, is_heeded, other_applied, applied, all_applied}
+use Rattle.member.specs.Blocks.{departs_at}
+use Rattle.member.specs.LoneBuddy.{plain_ping_sent, ping_with_lone, probe_ping_sent}
+use Rattle.member.specs.SingleBeat.{is_in_step, deadline_between_beats, both_timers_set, single_probe_begun, blocked_probe_begun, departing_probe_begun, single_target_probed, turn_probed, next_single_probed, next_if_waiting, next_of_beat, single_beat_taken}
+use Rattle.member.specs.Apply.{gossip_set, with_put, passed_on, with_health, refuted, heard_dead, is_own_death, is_refuted, own_applied, with_told, with_claim, claim_kept, with_turn_of, newcomer_kept, claim_kept_by, without_suspicion, alive_heard, suspect_heard, death_kept, confirm_heard, left_heard, claim_heard, news_heard, accusation_counted, accusation_heard, is_repeated, is_heeded, other_applied, claim_applied, intent_applied, applied, all_applied}
 use Rattle.lifeguard.specs.declared.probe.Probe.{Probe}
 use Rattle.lifeguard.specs.Probe.{fresh_probe, timed_probe}
 use Rattle.member.specs.Step.{suspected, probe_failed, probe_ended, probe_begun, target_probed, next_probed, with_relay, ack_taken, push_begun, even_push_begun, push_begun_by, first_push_set, first_period_set, suspected_at, timed_probe_failed, probe_settled, needs_timer, deadline_set, probe_timers_set, timed_probe_begun, timed_target_probed, next_timed_probed, waiting_probed, has_time, probed_in_turn, timed_answered, timed_ack_taken, called, gossip_set_again, merged}
@@ -87,7 +94,7 @@ kept_number : (t : State) → IsOverflowed t → IsOverflowed (with_number t)
 unfolding with_number
 kept_number t overflow = elim overflow [ inl h ↦ inl (omega arith) | inr h ↦ inr h ]
 
-kept_choice : (b : Bool) (o p : Effect) → IsOverflowed o.state → IsOverflowed p.state → IsOverflowed (cond b o p).state
+pub kept_choice : (b : Bool) (o p : Effect) → IsOverflowed o.state → IsOverflowed p.state → IsOverflowed (cond b o p).state
 kept_choice true o p a b = a
 kept_choice false o p a b = b
 
@@ -109,17 +116,32 @@ kept_posted s k tells to value content arrival o overflow = kept_sent_off s k to
 pub kept_sent : (s : Setup) (k : Key) (tells : What) (to value : ℕ) (content : EventKind) (o : Effect) → IsOverflowed o.state → IsOverflowed (sent s k tells to value content o).state
 kept_sent s k tells to value content o overflow = kept_posted s k tells to value content _ o overflow
 
+-- what rides on a message raises no counter
+kept_claims : (s : Setup) (queue : Option Queue) (room : ℕ) (t : State) → IsOverflowed t → IsOverflowed (without_claims s queue room t)
+kept_claims s None room t overflow = overflow
+kept_claims s (Some q) room t overflow = overflow
+
+kept_riding : (profile : Profile) (s : Setup) (me : ℕ) (bearer : Bearer) (t : State) → IsOverflowed t → IsOverflowed (without_riding_by profile s me bearer t)
+unfolding without_both
+kept_riding Papers s me bearer t overflow = overflow
+kept_riding Memberlist s me bearer t overflow = overflow
+kept_riding Hashicorp s me bearer t overflow = kept_claims s s.queue (room_of s me bearer s.queue) t overflow
+
 pub kept_ping : (s : Setup) (k : Key) (to initiator seq : ℕ) (o : Effect) → IsOverflowed o.state → IsOverflowed (ping_sent s k to initiator seq o).state
 unfolding ping_sent
 kept_ping s k to initiator seq o overflow = kept_sent s k _ _ _ _ _ overflow
 
 pub kept_ping_req : (s : Setup) (k : Key) (target seq to : ℕ) (o : Effect) → IsOverflowed o.state → IsOverflowed (ping_req_sent s k target seq to o).state
 unfolding ping_req_sent
-kept_ping_req s k target seq to o overflow = kept_sent s k _ _ _ _ _ overflow
+kept_ping_req s k target seq to o overflow = kept_sent s k _ _ _ _ _ (kept_riding (profile_of s) s k.to (bearer.PingReq target) o.state overflow)
 
 pub kept_ack : (s : Setup) (k : Key) (to initiator seq : ℕ) (o : Effect) → IsOverflowed o.state → IsOverflowed (ack_sent s k to initiator seq o).state
 unfolding ack_sent
-kept_ack s k to initiator seq o overflow = kept_sent s k _ _ _ _ _ overflow
+kept_ack s k to initiator seq o overflow = kept_sent s k _ _ _ _ _ (kept_riding (profile_of s) s k.to bearer.Ack o.state overflow)
+
+pub kept_pings_ack : (s : Setup) (k : Key) (to initiator seq : ℕ) (o : Effect) → IsOverflowed o.state → IsOverflowed (pings_ack_sent s k to initiator seq o).state
+unfolding pings_ack_sent
+kept_pings_ack s k to initiator seq o overflow = kept_sent s k _ _ _ _ _ (kept_riding (profile_of s) s k.to bearer.PingsAck o.state overflow)
 
 kept_join_to : (s : Setup) (k : Key) (contact : Option ℕ) (o : Effect) → IsOverflowed o.state → IsOverflowed (join_sent_to s k contact o).state
 kept_join_to s k None o overflow = overflow
@@ -139,7 +161,9 @@ kept_bye s k to o overflow = kept_sent s k _ _ _ _ _ overflow
 
 pub kept_gossip : (s : Setup) (k : Key) (to : ℕ) (o : Effect) → IsOverflowed o.state → IsOverflowed (gossip_sent s k to o).state
 unfolding gossip_sent
-kept_gossip s k to o overflow = kept_choice (nat_eq (length (carried s None o.state)) 0) _ _ overflow (kept_sent s k _ _ _ _ _ overflow)
+kept_gossip s k to o overflow =
+    let left = kept_riding (profile_of s) s k.to bearer.Gossip o.state overflow in
+    kept_choice (nat_eq (length (riding s k bearer.Gossip o)) 0) _ _ left (kept_sent s k _ _ _ _ _ left)
 
 pub kept_call : (s : Setup) (k : Key) (to seq : ℕ) (o : Effect) → IsOverflowed o.state → IsOverflowed (call_sent s k to seq o).state
 unfolding call_sent
@@ -148,6 +172,10 @@ kept_call s k to seq o overflow = kept_posted s k _ _ _ _ _ _ overflow
 pub kept_push : (s : Setup) (k : Key) (to : ℕ) (o : Effect) → IsOverflowed o.state → IsOverflowed (push_sent s k to o).state
 unfolding push_sent
 kept_push s k to o overflow = kept_posted s k _ _ _ _ _ _ overflow
+
+pub kept_pull : (s : Setup) (k : Key) (to : ℕ) (o : Effect) → IsOverflowed o.state → IsOverflowed (pull_sent s k to o).state
+unfolding pull_sent
+kept_pull s k to o overflow = kept_posted s k _ _ _ _ _ _ overflow
 
 -- messages one after another: a counter that overflowed before one of them still does after it
 pub kept_each : (send : ℕ → Effect → Effect) → ((to : ℕ) (o : Effect) → IsOverflowed o.state → IsOverflowed (send to o).state) → (others : List ℕ) (o : Effect) → IsOverflowed o.state
@@ -162,9 +190,13 @@ pub kept_gossip_set : (s : Setup) (k : Key) (gossip : Option settings.Gossip) (o
 kept_gossip_set s k None o overflow = overflow
 kept_gossip_set s k (Some gossip) o overflow = kept_choice o.state.gossips _ _ overflow (kept_event s k _ _ _ _ overflow)
 
+kept_put_up : (s : Setup) (queue : Option Queue) (u : Update) (t : State) → IsOverflowed t → IsOverflowed (put_up s queue u t)
+kept_put_up s None u t overflow = overflow
+kept_put_up s (Some q) u t overflow = overflow
+
 pub kept_put : (s : Setup) (k : Key) (u : Update) (o : Effect) → IsOverflowed o.state → IsOverflowed (with_put s k u o).state
 unfolding with_put
-kept_put s k u o overflow = kept_gossip_set s k s.gossip _ overflow
+kept_put s k u o overflow = kept_gossip_set s k s.gossip (on_state (put_up s s.queue u) o) (kept_put_up s s.queue u o.state overflow)
 
 pub kept_passed_on : (s : Setup) (k : Key) (telling : Announce) (u : Update) (o : Effect) → IsOverflowed o.state → IsOverflowed (passed_on s k telling u o).state
 unfolding passed_on
@@ -195,23 +227,34 @@ pub refutes_over : (profile : Profile) (own : ℕ) (claim : Claim) (number : ℕ
 refutes_over Papers own Alive number refutes = absurd (false≢true refutes)
 refutes_over Papers own Suspect number refutes = let same = eqb-true number own refutes in omega arith
 refutes_over Papers own Confirm number refutes = absurd (false≢true refutes)
+refutes_over Papers own Left number refutes = absurd (false≢true refutes)
+refutes_over Papers own Intent number refutes = absurd (false≢true refutes)
 refutes_over Memberlist own Alive number refutes = absurd (false≢true refutes)
 refutes_over Memberlist own Suspect number refutes = leb-true own number refutes
 refutes_over Memberlist own Confirm number refutes = leb-true own number refutes
-refutes_over Hashicorp own Alive number refutes = absurd (false≢true refutes)
+refutes_over Memberlist own Left number refutes = leb-true own number refutes
+refutes_over Memberlist own Intent number refutes = absurd (false≢true refutes)
+refutes_over Hashicorp own Alive number refutes = let over : own < number = ltb-true own number refutes in omega arith
 refutes_over Hashicorp own Suspect number refutes = leb-true own number refutes
 refutes_over Hashicorp own Confirm number refutes = leb-true own number refutes
+refutes_over Hashicorp own Left number refutes = leb-true own number refutes
+refutes_over Hashicorp own Intent number refutes = absurd (false≢true refutes)
+
+pub refuted_over : (profile : Profile) (t : State) (claim : Claim) (number : ℕ) → is_refuted profile t claim number ≡ true → t.incarnation ≤ number
+refuted_over Papers t claim number refutes = refutes_over Papers t.incarnation claim number refutes
+refuted_over Memberlist t claim number refutes = refutes_over Memberlist t.incarnation claim number refutes
+refuted_over Hashicorp t claim number refutes = refutes_over Hashicorp t.incarnation claim number (and_parts _ _ refutes).1
 
 kept_own : (s : Setup) (k : Key) (claim : Claim) (number : ℕ) (o : Effect) → IsOverflowed o.state → IsOverflowed (own_applied s k claim number o).state
 kept_own s k claim number o overflow =
-    kept_test (does_refute (profile_of s) o.state.incarnation claim number) _ _
-    (λ refutes. kept_refuted s k number o (refutes_over (profile_of s) o.state.incarnation claim number refutes) overflow)
+    kept_test (is_refuted (profile_of s) o.state claim number) _ _
+    (λ refutes. kept_refuted s k number o (refuted_over (profile_of s) o.state claim number refutes) overflow)
     (kept_choice (is_own_death (profile_of s) claim o.state.heard_dead) _ _ (kept_dead k number o overflow) overflow)
 
 kept_told : (telling : Announce) (k : Key) (tells : What) (subject value : ℕ) (o : Effect) → IsOverflowed o.state → IsOverflowed (with_told telling k tells subject value o).state
 kept_told telling k tells subject value o overflow = kept_choice (is_aloud telling) _ _ (kept_row k _ _ _ _ _ overflow) overflow
 
-kept_state : (b : Bool) (t v : State) → IsOverflowed t → IsOverflowed v → IsOverflowed (cond b t v)
+pub kept_state : (b : Bool) (t v : State) → IsOverflowed t → IsOverflowed v → IsOverflowed (cond b t v)
 kept_state true t v a b = a
 kept_state false t v a b = b
 
@@ -238,14 +281,26 @@ kept_death Memberlist subject now t overflow = overflow
 kept_death Hashicorp subject now t overflow = overflow
 
 pub kept_claim_heard : (s : Setup) (telling : Announce) (k : Key) (u : Update) (claim : Claim) (o : Effect) → IsOverflowed o.state → IsOverflowed (claim_heard s telling k u claim o).state
-unfolding alive_heard suspect_heard confirm_heard
+unfolding alive_heard suspect_heard confirm_heard left_heard
 kept_claim_heard s telling k u Alive o overflow = kept_told telling k _ _ _ _ overflow
 kept_claim_heard s telling k u Suspect o overflow = kept_event s k _ _ _ _ (kept_told telling k _ _ _ _ overflow)
 kept_claim_heard s telling k u Confirm o overflow = kept_told telling k _ _ _ _ (kept_death (profile_of s) u.subject k.at (without_suspicion u.subject o.state) overflow)
+kept_claim_heard s telling k u Left o overflow = kept_told telling k _ _ _ _ (kept_death (profile_of s) u.subject k.at (without_suspicion u.subject o.state) overflow)
+kept_claim_heard s telling k u Intent o overflow = overflow
+
+kept_regard : (now : ℕ) (u : Update) (t : State) → IsOverflowed t → IsOverflowed (regard_kept now u t)
+kept_regard now u t overflow = kept_state (is_alive u.claim) _ _ overflow (kept_state (is_confirm u.claim) _ _ overflow overflow)
+
+pub kept_regards : (serf : Option Serf) (now : ℕ) (u : Update) (t : State) → IsOverflowed t → IsOverflowed (regards_kept serf now u t)
+kept_regards None now u t overflow = overflow
+kept_regards (Some serf) now u t overflow = kept_regard now u t overflow
 
 pub kept_news : (s : Setup) (telling : Announce) (k : Key) (u : Update) (o : Effect) → IsOverflowed o.state → IsOverflowed (news_heard s telling k u o).state
 unfolding news_heard
-kept_news s telling k u o overflow = kept_passed_on s k telling u _ (kept_claim_heard s telling k u u.claim _ (kept_claim_by (profile_of s) u o.state overflow))
+kept_news s telling k u o overflow =
+    let kept = on_state (claim_kept_by (profile_of s) u) o in
+    kept_passed_on s k telling u _
+    (kept_claim_heard s telling k u u.claim (on_state (regards_kept s.serf k.at u) kept) (kept_regards s.serf k.at u kept.state (kept_claim_by (profile_of s) u o.state overflow)))
 
 kept_counted : (s : Setup) (telling : Announce) (k : Key) (u : Update) (accused : Option Accused) (o : Effect) → IsOverflowed o.state → IsOverflowed (accusation_counted s telling k u accused o).state
 kept_counted s telling k u None o overflow = overflow
@@ -282,10 +337,19 @@ kept_other s telling k u (Some held) o overflow =
     kept_choice (does_override (profile_of s) (u.claim, u.inc) held) _ _ (kept_news s telling k u o overflow)
     (kept_choice (is_repeated (profile_of s) u held) _ _ (kept_accusation_by (profile_of s) s telling k u held.1 o overflow) overflow)
 
+kept_claim_applied : (s : Setup) (telling : Announce) (k : Key) (u : Update) (o : Effect) → IsOverflowed o.state → IsOverflowed (claim_applied s telling k u o).state
+unfolding claim_applied
+kept_claim_applied s telling k u o overflow =
+    kept_choice (nat_eq u.subject k.to) _ _ (kept_own s k u.claim u.inc o overflow) (kept_other s telling k u (get o.state.table u.subject) o overflow)
+
+kept_intent : (s : Setup) (k : Key) (u : Update) (serf : Option Serf) (o : Effect) → IsOverflowed o.state → IsOverflowed (intent_applied s k u serf o).state
+kept_intent s k u None o overflow = overflow
+kept_intent s k u (Some serf) o overflow = kept_choice (is_known_intent k.to u.subject o.state) _ _ overflow (kept_gossip_set s k s.gossip _ overflow)
+
 pub kept_applied : (s : Setup) (telling : Announce) (k : Key) (u : Update) (o : Effect) → IsOverflowed o.state → IsOverflowed (applied s telling k u o).state
 unfolding applied
 kept_applied s telling k u o overflow =
-    kept_choice (nat_eq u.subject k.to) _ _ (kept_own s k u.claim u.inc o overflow) (kept_other s telling k u (get o.state.table u.subject) o overflow)
+    kept_choice (is_intent u.claim) _ _ (kept_intent s k u s.serf o overflow) (kept_claim_applied s telling k u o overflow)
 
 pub kept_all : (s : Setup) (telling : Announce) (k : Key) (us : List Update) (o : Effect) → IsOverflowed o.state → IsOverflowed (all_applied s telling k us o).state
 unfolding all_applied
@@ -441,7 +505,7 @@ kept_gossip_set_again s k o overflow = kept_choice _ _ _ overflow (kept_gossip_s
 
 pub kept_plain_ping : (s : Setup) (k : Key) (to initiator seq : ℕ) (o : Effect) → IsOverflowed o.state → IsOverflowed (plain_ping_sent s k to initiator seq o).state
 unfolding plain_ping_sent
-kept_plain_ping s k to initiator seq o overflow = kept_sent s k _ _ _ _ _ overflow
+kept_plain_ping s k to initiator seq o overflow = kept_sent s k _ _ _ _ _ (kept_riding (profile_of s) s k.to (bearer.Ping to) o.state overflow)
 
 kept_lone : (s : Setup) (k : Key) (to seq : ℕ) (buddy : Option Update) (o : Effect) → IsOverflowed o.state → IsOverflowed (ping_with_lone s k to seq buddy o).state
 kept_lone s k to seq None o overflow = kept_plain_ping s k to k.to seq o overflow
@@ -469,9 +533,27 @@ kept_single_begun s k target o overflow =
     (kept_probe_ping s k _ _ _
     (kept_more o.state (Some (timed_probe (o.state.sequence + 1) target (option_map_or (λ held. held.1) (get o.state.table target) 0) (k.at + scaled o.state.health s.swim.period))) overflow))
 
+-- a probe whose ping departs later
+pub overflow_blocked_probe : (s : Setup) (k : Key) (target departs : ℕ) (o : Effect) → 2 ^ 63 ≤ o.state.sequence → IsOverflowed (blocked_probe_begun s k target departs o).state
+unfolding blocked_probe_begun
+overflow_blocked_probe s k target departs o h = kept_event s k _ _ _ _ (kept_event s k _ _ _ _ (kept_probe_ping s k _ _ _ (inr (inl (omega arith)))))
+
+kept_blocked_begun : (s : Setup) (k : Key) (target departs : ℕ) (o : Effect) → IsOverflowed o.state → IsOverflowed (blocked_probe_begun s k target departs o).state
+unfolding blocked_probe_begun
+kept_blocked_begun s k target departs o overflow =
+    let deadline = max (k.at + scaled o.state.health s.swim.period) departs in
+    kept_event s k _ _ _ _
+    (kept_event s k _ _ _ _
+    (kept_probe_ping s k _ _ _
+    (kept_more o.state (Some (timed_probe (o.state.sequence + 1) target (option_map_or (λ held. held.1) (get o.state.table target) 0) deadline)) overflow)))
+
+kept_departing : (s : Setup) (k : Key) (target departs : ℕ) (o : Effect) → IsOverflowed o.state → IsOverflowed (departing_probe_begun s k target departs o).state
+kept_departing s k target departs o overflow =
+    kept_choice (nat_lt k.at departs) _ _ (kept_blocked_begun s k target departs o overflow) (kept_single_begun s k target o overflow)
+
 kept_single_target : (s : Setup) (k : Key) (target : Option ℕ) (o : Effect) → IsOverflowed o.state → IsOverflowed (single_target_probed s k target o).state
 kept_single_target s k None o overflow = overflow
-kept_single_target s k (Some target) o overflow = kept_single_begun s k target o overflow
+kept_single_target s k (Some target) o overflow = kept_departing s k target (departs_at s k) o overflow
 
 pub kept_turn_probed : (s : Setup) (k : Key) (o : Effect) → IsOverflowed o.state → IsOverflowed (turn_probed s k o).state
 unfolding turn_probed
@@ -500,3 +582,33 @@ overflow_single_pinged s k target deadline o p at is overflow =
     kept_both_timers s k _ _ _ _
     (subst (λ (q : Probe). IsOverflowed (probe_ping_sent s k target (o.state.sequence + 1) (on_state (λ t. record t { sequence = o.state.sequence + 1; probe = Some q }) o)).state)
     (is ∙ ap (timed_probe (o.state.sequence + 1) target (option_map_or (λ held. held.1) (get o.state.table target) 0)) at) overflow)
+
+-- the same of a probe whose ping departs later
+pub overflow_blocked_pinged : (s : Setup) (k : Key) (target departs deadline : ℕ) (o : Effect) (p : Probe) → deadline ≡ max (k.at + scaled o.state.health s.swim.period) departs
+    → p ≡ timed_probe (o.state.sequence + 1) target (option_map_or (λ held. held.1) (get o.state.table target) 0) deadline
+    → IsOverflowed (probe_ping_sent s k target (o.state.sequence + 1) (on_state (λ t. record t { sequence = o.state.sequence + 1; probe = Some p }) o)).state
+    → IsOverflowed (blocked_probe_begun s k target departs o).state
+unfolding blocked_probe_begun
+overflow_blocked_pinged s k target departs deadline o p at is overflow =
+    kept_event s k _ _ _ _
+    (kept_event s k _ _ _ _
+    (subst (λ (q : Probe). IsOverflowed (probe_ping_sent s k target (o.state.sequence + 1) (on_state (λ t. record t { sequence = o.state.sequence + 1; probe = Some q }) o)).state)
+    (is ∙ ap (timed_probe (o.state.sequence + 1) target (option_map_or (λ held. held.1) (get o.state.table target) 0)) at) overflow))
+
+-- whatever the event is, it raises the same counter
+event_any : (s : Setup) (k : Key) (at to : ℕ) (content : EventKind) (at' to' : ℕ) (content' : EventKind) (o : Effect) → IsOverflowed (with_event s k at to content o).state
+    → IsOverflowed (with_event s k at' to' content' o).state
+unfolding with_event
+event_any s k at to content at' to' content' o overflow = overflow
+
+-- the same of its first timer
+pub overflow_blocked_timer : (s : Setup) (k : Key) (target departs deadline at : ℕ) (content : EventKind) (o sent : Effect) (p : Probe) → deadline ≡ max (k.at + scaled o.state.health s.swim.period) departs
+    → p ≡ timed_probe (o.state.sequence + 1) target (option_map_or (λ held. held.1) (get o.state.table target) 0) deadline
+    → sent ≡ probe_ping_sent s k target (o.state.sequence + 1) (on_state (λ t. record t { sequence = o.state.sequence + 1; probe = Some p }) o)
+    → IsOverflowed (with_event s k at k.to content sent).state → IsOverflowed (blocked_probe_begun s k target departs o).state
+unfolding blocked_probe_begun
+overflow_blocked_timer s k target departs deadline at content o sent p limit is made overflow =
+    let pinged : Probe → Effect = λ q. probe_ping_sent s k target (o.state.sequence + 1) (on_state (λ t. record t { sequence = o.state.sequence + 1; probe = Some q }) o) in
+    let wanted = is ∙ ap (timed_probe (o.state.sequence + 1) target (option_map_or (λ held. held.1) (get o.state.table target) 0)) limit in
+    kept_event s k _ _ _ _
+    (event_any s k at k.to content _ _ _ _ (subst (λ (e : Effect). IsOverflowed (with_event s k at k.to content e).state) (made ∙ ap pinged wanted) overflow))

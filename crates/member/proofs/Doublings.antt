@@ -25,13 +25,13 @@ counted p (suc c) a (suc len) passed others few =
     let here : ◌≡◌ {A = ℕ} (cond (p a) 1 0) 1 = ap (λ (b : Bool). cond {A = ℕ} b 1 0) (passed a (omega arith) (omega arith)) in
     omega (arith, count_by-cons p a (range_with_len (a + 1) len), rest, here)
 
-pub doublings_are : (n d : ℕ) → d ≤ 7 → n ≤ 32 * 2 ^ d → (0 < d → 32 * 2 ^ (d - 1) < n) → doublings_to n ≡ d
+pub doublings_are : (n d : ℕ) → d ≤ 9 → n ≤ 32 * 2 ^ d → (0 < d → 32 * 2 ^ (d - 1) < n) → doublings_to n ≡ d
 doublings_are n d small reached before = counted (λ m. nat_lt (32 * 2 ^ m) n) d 0 n passed others few
   where
     few : d ≤ n
     few = by_size d before small
       where
-        by_size : (d : ℕ) → (0 < d → 32 * 2 ^ (d - 1) < n) → d ≤ 7 → d ≤ n
+        by_size : (d : ℕ) → (0 < d → 32 * 2 ^ (d - 1) < n) → d ≤ 9 → d ≤ n
         by_size zero before small = omega arith
         by_size (suc d) before small = let some : 0 < suc d = omega arith in let more = before some in let one = pow_pos (suc d - 1) in omega (arith, more, one, small)
 
@@ -56,21 +56,21 @@ count_few p (suc c) a (suc len) others =
     let rest = count_few p c (a + 1) len (λ m from. others m (omega (arith, from))) in
     omega (arith, count_by-cons p a (range_with_len (a + 1) len), rest, at_most_one (p a))
 
--- seven doublings reach 4,096 members
-pub few_doublings : (n : ℕ) → n ≤ 4096 → doublings_to n ≤ 7
-few_doublings n few = count_few (λ m. nat_lt (32 * 2 ^ m) n) 7 0 n (λ m from. le-ltb (32 * 2 ^ m) n (omega (arith, few, pow_mono from)))
+-- nine doublings reach 16,384 members
+pub few_doublings : (n : ℕ) → n ≤ 16384 → doublings_to n ≤ 9
+few_doublings n few = count_few (λ m. nat_lt (32 * 2 ^ m) n) 9 0 n (λ m from. le-ltb (32 * 2 ^ m) n (omega (arith, few, pow_mono from)))
 
 -- one doubling more
 pub doubled : (reached d : ℕ) → reached ≡ 32 * 2 ^ d → reached * 2 ≡ 32 * 2 ^ (d + 1)
 doubled reached d is = omega (arith, is, pow_more 2 d)
 
--- who isn't at 4,096 yet has room for one more
-pub room : (reached d n : ℕ) → reached ≡ 32 * 2 ^ d → reached < n → n ≤ 4096 → d < 7
+-- who isn't at 16,384 yet has room for one more
+pub room : (reached d n : ℕ) → reached ≡ 32 * 2 ^ d → reached < n → n ≤ 16384 → d < 9
 room reached d n is below few = by_size d is
   where
-    by_size : (d : ℕ) → reached ≡ 32 * 2 ^ d → d < 7
-    by_size d is = at (nat_lt d 7) refl
+    by_size : (d : ℕ) → reached ≡ 32 * 2 ^ d → d < 9
+    by_size d is = at (nat_lt d 9) refl
       where
-        at : (b : Bool) → nat_lt d 7 ≡ b → d < 7
-        at true e = ltb-true d 7 e
-        at false e = let up : 7 ≤ d = ltb-false d 7 e in absurd (omega (arith, is, below, few, pow_mono up))
+        at : (b : Bool) → nat_lt d 9 ≡ b → d < 9
+        at true e = ltb-true d 9 e
+        at false e = let up : 9 ≤ d = ltb-false d 9 e in absurd (omega (arith, is, below, few, pow_mono up))

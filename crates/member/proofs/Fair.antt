@@ -1,11 +1,11 @@
 -- The events and the rows of a step, part by part.
-use Rattle.std.proofs.Common.{◌≡◌, ◌≢◌, ℕ, zero, suc, ◌+◌, ◌-◌, ◌*◌, ◌%◌, ◌^◌, ◌<◌, ◌≤◌, Bool, true, false, cond, not, nat_eq, nat_lt, ◌==◌, ◌&&◌, List, [], ◌∷◌, ◌++◌, map, length, Option, Some, None, ap, ◌∙◌, sym, subst, refl, arith}
-use Rattle.std.specs.Option.{option_map, IfSome}
+use Rattle.std.proofs.Common.{◌≡◌, ◌≢◌, ℕ, zero, suc, ◌+◌, ◌-◌, ◌*◌, ◌%◌, ◌^◌, ◌<◌, ◌≤◌, Bool, true, false, cond, not, max, min, nat_eq, nat_lt, nat_le, ◌==◌, ◌&&◌, List, [], ◌∷◌, ◌++◌, map, length, Option, Some, None, ap, ◌∙◌, sym, subst, refl, arith}
+use Rattle.std.specs.Option.{option_map, is_some, IfSome}
 use Rattle.std.specs.List.{AllByRecursion, range_with_len}
-use Rattle.std.specs.FinMap.{get}
+use Rattle.std.specs.FinMap.{get, contains_key}
 use Rattle.std.specs.FinSet as set
 use Rattle.std.proofs.Math.Nat.{mod-lt}
-use Rattle.std.proofs.lemmas.Bool.{eqb-false}
+use Rattle.std.proofs.lemmas.Bool.{eqb-false, ltb-true}
 use Rattle.std.proofs.lemmas.List.{map-append}
 use Rattle.std.proofs.lemmas.List.FromFn.{map-range_with_len_more}
 use Rattle.base.specs.declared.key.Key.{Key}
@@ -15,9 +15,11 @@ use Rattle.base.proofs.Rising.{all_append, all_weaker, rising_append}
 use Rattle.base.specs.Beats.{next_in_step}
 use Rattle.base.specs.declared.profile.Profile.{Profile}
 use Rattle.base.specs.declared.profile.Profile.TheVariants.{Papers, Memberlist, Hashicorp}
-use Rattle.scenario.specs.Setup.{Setup, IsSound, IsSoundGossip, member_count, link_between, contact_of, extra_of, start_of, is_cut, awake}
+use Rattle.scenario.specs.Setup.{Setup, IsSound, IsSoundGossip, IsSoundSerf, member_count, link_between, contact_of, extra_of, start_of, is_cut, awake}
 use Rattle.scenario.specs.Profile.{profile_of}
 use Rattle.scenario.specs.declared.settings.Gossip as settings
+use Rattle.scenario.specs.declared.settings.Queue.{Queue}
+use Rattle.scenario.specs.declared.settings.Serf.{Serf}
 use Rattle.scenario.proofs.Pauses.{is_awake_at}
 use Rattle.trace.specs.declared.row.Row.{Row}
 use Rattle.trace.specs.declared.row.What.{What}
@@ -26,7 +28,7 @@ use Rattle.links.specs.Arrival.{uncut_arrival_of, arrival_of}
 use Rattle.links.specs.Trips.{uncut_try_of, try_of, or_else, tried_of, trip_of, and_then, comes_of, call_of, answer_of, kept_arrival_of}
 use Rattle.links.proofs.Arrivals.{whether_cut}
 use Rattle.incarnation.specs.declared.Claim.{Claim}
-use Rattle.incarnation.specs.declared.Claim.TheVariants.{Alive, Suspect, Confirm}
+use Rattle.incarnation.specs.declared.Claim.TheVariants.{Alive, Suspect, Confirm, Left, Intent}
 use Rattle.incarnation.specs.declared.Update.{Update}
 use Rattle.lifeguard.specs.declared.probe.Probe.{Probe}
 use Rattle.lifeguard.specs.Health.{LocalHealth, scaled}
@@ -36,24 +38,42 @@ use Rattle.suspicion.specs.Suspicions.{HeldSuspicion, accused_of, answer_of as a
 use Rattle.probing.specs.ProbeOrder.{round_over, next_of}
 use Rattle.suspicion.proofs.Timeouts.{min-le-timeout}
 use Rattle.member.specs.declared.member.Phase.{Phase}
-use Rattle.member.specs.declared.member.Phase.TheVariants.{Waiting, Joining, Running}
+use Rattle.member.specs.declared.member.Phase.TheVariants.{Waiting, Joining, Running, Down}
 use Rattle.member.specs.declared.event_kind.EventKind.{EventKind}
-use Rattle.member.specs.declared.event_kind.EventKind.TheVariants.{Start, Crash, Leave, JoinTimer, PeriodTimer, TimeoutTimer, NackTimer, SuspicionTimer, Join, Welcome, Ping, PingReq, Ack, Nack, Bye, DeadlineTimer, GossipTimer, PushTimer, Call, Answer, Gossip, Push, Pull}
+use Rattle.member.specs.declared.event_kind.EventKind.TheVariants.{Start, Crash, Leave, Restart, SettingTimer, ConnectedTimer, ReconnectTimer, ExitTimer, JoinTimer, PeriodTimer, TimeoutTimer, NackTimer, SuspicionTimer, Join, Welcome, Ping, PingReq, Ack, Nack, Bye, DeadlineTimer, GossipTimer, PushTimer, Call, Answer, Gossip, Push, Pull}
 use Rattle.member.specs.declared.announce.Announce.{Announce}
 use Rattle.member.specs.declared.announce.Announce.TheVariants.{Aloud, Quietly}
 use Rattle.member.specs.Announce.{is_aloud}
 use Rattle.member.specs.State.{State, is_probed}
-use Rattle.incarnation.specs.Refutations.{does_refute}
-use Rattle.membership.specs.Table.{is_confirm, does_override, size_by, all_alive}
+use Rattle.membership.specs.Table.{is_alive, is_confirm, is_intent, does_override, size_by, live_count, all_alive}
+use Rattle.lives.specs.Lives.{does_stay, does_intend, does_say}
+use Rattle.lives.specs.Regards.{failed_among}
+use Rattle.lives.specs.declared.leaving.Leaving.TheVariants.{Says}
+use Rattle.trace.specs.declared.row.What.TheVariants as what
+use Rattle.links.specs.Dials.{up_to, dial_of}
+use Rattle.member.specs.declared.riding.Bearer.{Bearer}
+use Rattle.member.specs.declared.riding.Bearer.TheVariants as bearer
+use Rattle.member.specs.Blocks.{Way, departs_at, departs_by, on_its_way}
+use Rattle.member.specs.Riding.{room_of, without_claims, without_both, without_riding_by, put_up, is_claim_held, is_all_told}
+use Rattle.member.specs.Intents.{regards_kept, is_known_intent}
+use Rattle.member.specs.Connections.{with_words, dial_drawn, dial_done, dialed, push_dialed}
+use Rattle.member.specs.Beginnings.{contact_dialed, contact_asked, is_asked, contact_reached, setting_set, reconnect_set, own_beats_set, alone_begun, pushes_set, founders_reconnect_set, process_started, reborn, restarted}
+use Rattle.member.specs.DialedPushes.{push_opened, push_opened_to, dialed_push, dialed_push_due}
+use Rattle.member.specs.Merges.{is_left_and_not_up, leave_noted, entry_claim, entry_merged, table_merged, push_merged}
+use Rattle.member.specs.Leaves.{is_anybody_up, with_leaving, own_left, linger_of, lingered, left_said, leave_told, leave_begun, intent_sent, is_running, leave_gone_on, exited}
+use Rattle.member.specs.Reconnects.{failures_reaped, next_try_set, failed_dialed, any_tried, reconnect_due}
+use Rattle.member.specs.WholeGossip.{whole_gossip_due}
+use Rattle.member.specs.Processes.{is_of_former_life, pull_merged, start_handled, restart_handled}
+use Rattle.member.proofs.Ways.{free_later, departs_later, through_later, after, choice_later}
 use Rattle.member.specs.Effects.{Effect, on_state, unchanged, with_row, with_number, with_event, with_timer}
-use Rattle.member.specs.Send.{posted, sent, sent_off, sent_to_each, carried, gossip_sent, call_sent, answer_sent, push_sent, pull_sent, ping_sent, ping_req_sent, ack_sent, nack_sent, join_sent, join_sent_to, welcome_sent, bye_sent}
-use Rattle.member.specs.Apply.{gossip_set, with_put, passed_on, with_health, refuted, heard_dead, is_own_death, own_applied, with_told, with_claim, claim_kept, with_turn_of, newcomer_kept, claim_kept_by, without_suspicion, alive_heard, suspect_heard, death_kept, confirm_heard, claim_heard, news_heard, accusation_counted, accusation_heard, is_repeated, is_heeded, other_applied, applied, all_applied}
+use Rattle.member.specs.Send.{posted, sent, sent_off, sent_to_each, gossip_sent, call_sent, answer_sent, push_sent, pull_sent, ping_sent, ping_req_sent, ack_sent, nack_sent, join_sent, join_sent_to, welcome_sent, bye_sent, riding, without_riding, pings_ack_sent}
+use Rattle.member.specs.Apply.{gossip_set, with_put, passed_on, with_health, refuted, heard_dead, is_own_death, is_refuted, own_applied, with_told, with_claim, claim_kept, with_turn_of, newcomer_kept, claim_kept_by, without_suspicion, alive_heard, suspect_heard, death_kept, confirm_heard, left_heard, claim_heard, news_heard, accusation_counted, accusation_heard, is_repeated, is_heeded, other_applied, claim_applied, intent_applied, applied, all_applied}
 use Rattle.suspicion.specs.Suspicions.{is_over_of}
 use Rattle.member.specs.LateAccusations.{death_of, accusation_answered, prompt_accusation_heard, accusation_by}
 use Rattle.member.specs.LoneBuddy.{lone_buddy_of, plain_ping_sent, ping_with_lone, probe_ping_sent}
-use Rattle.member.specs.SingleBeat.{is_in_step, deadline_between_beats, single_probe_begun, single_target_probed, turn_probed, next_single_probed, next_if_waiting, single_beat_taken, single_beaten, single_deadline_over, single_answered}
+use Rattle.member.specs.SingleBeat.{is_in_step, deadline_between_beats, single_probe_begun, blocked_probe_begun, departing_probe_begun, single_target_probed, turn_probed, next_single_probed, next_if_waiting, single_beat_taken, single_beaten, single_deadline_over, single_answered}
 use Rattle.member.specs.LateAcks.{ping_answered, help_asked_for, ack_passed_on, single_ack_heard, help_over}
-use Rattle.member.specs.Step.{single_handled, push_begun, even_push_begun, push_begun_by, first_push_set, push_period, doublings_to, pushed, first_period_set, suspected_at, timed_probe_failed, probe_settled, needs_timer, deadline_set, timed_probe_begun, timed_target_probed, next_timed_probed, waiting_probed, has_time, period_beaten, is_under_way, probed_in_turn, deadline_over, timed_answered, timed_ack_heard, sampled_help, called, timed_out_timed, answer_heard, is_told_out, gossip_spread, gossip_set_again, gossip_due, merged, push_due, push_heard, timed_handled, handled_by, first_others, began, join_asked, joining_begun, started, crashed, join_handled, joined, suspected, probe_failed, probe_ended, probe_begun, target_probed, next_probed, period_begun, help_asked, timed_out, nack_heard, ping_heard, ping_req_heard, ack_taken, ack_heard, nack_due, confirmed, suspicion_over, withdrawn, byes_said, departed, plain_handled, handled, step}
+use Rattle.member.specs.Step.{process_handled, phase_handled, process_lived, single_handled, push_begun, even_push_begun, push_begun_by, first_push_set, push_period, doublings_to, pushed, first_period_set, suspected_at, timed_probe_failed, probe_settled, needs_timer, deadline_set, timed_probe_begun, timed_target_probed, next_timed_probed, waiting_probed, has_time, period_beaten, is_under_way, probed_in_turn, deadline_over, timed_answered, timed_ack_heard, sampled_help, called, timed_out_timed, answer_heard, is_told_out, gossip_spread, gossip_set_again, gossip_due, merged, push_due, push_heard, timed_handled, handled_by, first_others, began, join_asked, joining_begun, started, crashed, join_handled, joined, suspected, probe_failed, probe_ended, probe_begun, target_probed, next_probed, period_begun, help_asked, timed_out, nack_heard, ping_heard, ping_req_heard, ack_taken, ack_heard, nack_due, confirmed, suspicion_over, withdrawn, byes_said, departed, plain_handled, handled, step}
 use Rattle.member.specs.FirstRounds.{first_round}
 use Rattle.member.specs.Forgetting.{kept_for, is_long_dead, forgotten_if, all_forgotten, round_ended}
 use Rattle.member.specs.Places.{place_of}
@@ -151,6 +171,27 @@ module _ (s : Setup) where
       let jitter = below_of words (link.jitter + 1) in
       from_choice (is_cut s from to now) _ _ (now + link.delay) tt (comes_later from to now (now + link.delay) (now + link.delay + jitter.0) jitter.1 (omega arith))
 
+  up_later : (most d : ℕ) (p : Option ℕ × Words) → IsFrom d p → IsFrom d (up_to most p)
+  up_later most d (None, words) from = tt
+  up_later most d (Some at, words) from = choice_later (nat_le at most) at d from
+
+  -- a connection is there after the link's delay at the earliest
+  pub dial_later : (from to now limit : ℕ) (words : Words) → IsFrom (now + (link_between s from to).delay) (dial_of s from to now limit words)
+  unfolding dial_of
+  dial_later from to now limit words =
+      let d = now + (link_between s from to).delay in
+      let begun = trip_of s from to now s.stream.connect words in
+      up_later (now + limit) d (and_then (λ there. trip_of s to from there s.stream.connect) begun)
+      (from_next (λ there. trip_of s to from there s.stream.connect) begun d (trip_later from to now s.stream.connect words)
+      (λ there rest h. from_sooner d (there + (link_between s to from).delay) (trip_of s to from there s.stream.connect rest) (omega (arith, h)) (trip_later to from there s.stream.connect rest)))
+
+  -- what departs later, and waits until its receiver is free, comes later
+  way_later : (k : Key) (to d : ℕ) (way : Way) (words : Words) → ((now : ℕ) (rest : Words) → IsFrom (now + d) (way now rest)) → IsFrom (k.at + d) (on_its_way (profile_of s) s k to way words)
+  way_later k to d way words later =
+      let departs = departs_by (profile_of s) s k in
+      through_later (profile_of s) s to (k.at + d) (way departs words).0
+      (from_sooner (k.at + d) (departs + d) (way departs words) (omega (arith, departs_later (profile_of s) s k)) (later departs words))
+
 terms_sound : (s : Setup) → IsSound s → AreSound (terms_of s)
 terms_sound s sound = record { period = sound.period; alpha = sound.alpha.1; beta = sound.beta; accusers_wanted = sound.confirmations }
 
@@ -246,6 +287,11 @@ module _ (s : Setup) (sound : IsSound s) (k : Key) (n : ℕ) where
   fair_unless true o p a b = a
   fair_unless false o p a b = b refl
 
+  -- and where that of the first does
+  fair_when : (b : Bool) (o p : Effect) → (b ≡ true → IsWellMade s k n o) → IsWellMade s k n p → IsWellMade s k n (cond b o p)
+  fair_when true o p a b = a refl
+  fair_when false o p a b = b
+
   -- ---- messages
 
   fair_sent_off : (to : ℕ) (content : EventKind) (arrival : Option ℕ) (o : Effect) → IfSome arrival (λ at. k.at + (link_between s k.to to).delay ≤ at) → IsWellMade s k n o → IsWellMade s k n (sent_off s k to content arrival o)
@@ -258,7 +304,21 @@ module _ (s : Setup) (sound : IsSound s) (k : Key) (n : ℕ) where
   fair_posted tells to value content arrival o later fair = fair_sent_off to content arrival.0 _ later (fair_row tells _ _ _ _ (fair_state _ o refl fair))
 
   fair_sent : (tells : What) (to value : ℕ) (content : EventKind) (o : Effect) → IsWellMade s k n o → IsWellMade s k n (sent s k tells to value content o)
-  fair_sent tells to value content o fair = fair_posted tells to value content _ o (arrival_later s k.to to k.at o.state.words) fair
+  fair_sent tells to value content o fair = fair_posted tells to value content _ o (way_later s k to (link_between s k.to to).delay (arrival_of s k.to to) o.state.words (arrival_later s k.to to)) fair
+
+  same_claims : (queue : Option Queue) (room : ℕ) (t : State) → (without_claims s queue room t).next_number ≡ t.next_number
+  same_claims None room t = refl
+  same_claims (Some q) room t = refl
+
+  same_riding : (profile : Profile) (bearer : Bearer) (t : State) → (without_riding_by profile s k.to bearer t).next_number ≡ t.next_number
+  unfolding without_both
+  same_riding Papers bearer t = refl
+  same_riding Memberlist bearer t = refl
+  same_riding Hashicorp bearer t = same_claims s.queue (room_of s k.to bearer s.queue) t
+
+  -- what is left when updates ride on a message
+  fair_riding : (bearer : Bearer) (o : Effect) → IsWellMade s k n o → IsWellMade s k n (without_riding s k bearer o)
+  fair_riding bearer o fair = fair_state (without_riding_by (profile_of s) s k.to bearer o.state) o (same_riding (profile_of s) bearer o.state) fair
 
   fair_ping : (to initiator seq : ℕ) (o : Effect) → IsWellMade s k n o → IsWellMade s k n (ping_sent s k to initiator seq o)
   unfolding ping_sent
@@ -266,11 +326,15 @@ module _ (s : Setup) (sound : IsSound s) (k : Key) (n : ℕ) where
 
   fair_ping_req : (target seq to : ℕ) (o : Effect) → IsWellMade s k n o → IsWellMade s k n (ping_req_sent s k target seq to o)
   unfolding ping_req_sent
-  fair_ping_req target seq to o fair = fair_sent _ to seq _ _ (fair_state _ o refl fair)
+  fair_ping_req target seq to o fair = fair_sent _ to seq _ _ (fair_riding (bearer.PingReq target) o fair)
 
   fair_ack : (to initiator seq : ℕ) (o : Effect) → IsWellMade s k n o → IsWellMade s k n (ack_sent s k to initiator seq o)
   unfolding ack_sent
-  fair_ack to initiator seq o fair = fair_sent _ to seq _ _ (fair_state _ o refl fair)
+  fair_ack to initiator seq o fair = fair_sent _ to seq _ _ (fair_riding bearer.Ack o fair)
+
+  fair_pings_ack : (to initiator seq : ℕ) (o : Effect) → IsWellMade s k n o → IsWellMade s k n (pings_ack_sent s k to initiator seq o)
+  unfolding pings_ack_sent
+  fair_pings_ack to initiator seq o fair = fair_sent _ to seq _ _ (fair_riding bearer.PingsAck o fair)
 
   fair_nack : (to seq : ℕ) (o : Effect) → IsWellMade s k n o → IsWellMade s k n (nack_sent s k to seq o)
   unfolding nack_sent
@@ -295,24 +359,24 @@ module _ (s : Setup) (sound : IsSound s) (k : Key) (n : ℕ) where
   fair_gossip : (to : ℕ) (o : Effect) → IsWellMade s k n o → IsWellMade s k n (gossip_sent s k to o)
   unfolding gossip_sent
   fair_gossip to o fair =
-      let picked = fair_state _ o refl fair in
-      fair_choice (nat_eq (length (carried s None o.state)) 0) _ _ picked (fair_sent _ to 0 _ _ picked)
+      let picked = fair_riding bearer.Gossip o fair in
+      fair_choice (nat_eq (length (riding s k bearer.Gossip o)) 0) _ _ picked (fair_sent _ to 0 _ _ picked)
 
   fair_call : (to seq : ℕ) (o : Effect) → IsWellMade s k n o → IsWellMade s k n (call_sent s k to seq o)
   unfolding call_sent
-  fair_call to seq o fair = fair_posted _ to seq _ _ o (call_later s k.to to k.at o.state.words) fair
+  fair_call to seq o fair = fair_posted _ to seq _ _ o (way_later s k to (link_between s k.to to).delay (call_of s k.to to) o.state.words (call_later s k.to to)) fair
 
   fair_answer : (to seq : ℕ) (o : Effect) → IsWellMade s k n o → IsWellMade s k n (answer_sent s k to seq o)
   unfolding answer_sent
-  fair_answer to seq o fair = fair_posted _ to seq _ _ o (answer_later s k.to to k.at o.state.words) fair
+  fair_answer to seq o fair = fair_posted _ to seq _ _ o (way_later s k to (link_between s k.to to).delay (answer_of s k.to to) o.state.words (answer_later s k.to to)) fair
 
   fair_push : (to : ℕ) (o : Effect) → IsWellMade s k n o → IsWellMade s k n (push_sent s k to o)
   unfolding push_sent
-  fair_push to o fair = fair_posted _ to 0 _ _ o (kept_later s k.to to k.at o.state.words) fair
+  fair_push to o fair = fair_posted _ to 0 _ _ o (way_later s k to (link_between s k.to to).delay (kept_arrival_of s k.to to) o.state.words (kept_later s k.to to)) fair
 
   fair_pull : (to : ℕ) (o : Effect) → IsWellMade s k n o → IsWellMade s k n (pull_sent s k to o)
   unfolding pull_sent
-  fair_pull to o fair = fair_posted _ to 0 _ _ o (kept_later s k.to to k.at o.state.words) fair
+  fair_pull to o fair = fair_posted _ to 0 _ _ o (way_later s k to (link_between s k.to to).delay (kept_arrival_of s k.to to) o.state.words (kept_later s k.to to)) fair
 
   fair_each : (send : ℕ → Effect → Effect) → ((to : ℕ) (o : Effect) → IsWellMade s k n o → IsWellMade s k n (send to o)) → (others : List ℕ) (o : Effect) → IsWellMade s k n o
       → IsWellMade s k n (sent_to_each send others o)
@@ -327,14 +391,25 @@ module _ (s : Setup) (sound : IsSound s) (k : Key) (n : ℕ) where
   in_step_later beat interval some =
       ahead k.at interval ((k.at + interval - beat % interval) % interval) (mod-lt (k.at + interval - beat % interval) some)
 
+  departs_in_step : (beat interval : ℕ) → 0 < interval → k.at < next_in_step beat interval (departs_at s k)
+  departs_in_step beat interval some =
+      let departs = departs_at s k in
+      let blocked = free_later s k.to k.at in
+      let later = ahead departs interval ((departs + interval - beat % interval) % interval) (mod-lt (departs + interval - beat % interval) some) in
+      omega (arith, blocked, later)
+
   fair_gossip_set : (gossip : Option settings.Gossip) (o : Effect) → IfSome gossip IsSoundGossip → IsWellMade s k n o → IsWellMade s k n (gossip_set s k gossip o)
   fair_gossip_set None o is fair = fair
   fair_gossip_set (Some gossip) o is fair =
       fair_choice o.state.gossips _ _ fair (fair_own _ GossipTimer _ (in_step_later (o.state.beat - 1) gossip.interval is.interval.0) (fair_state _ o refl fair))
 
+  same_put : (queue : Option Queue) (u : Update) (t : State) → (put_up s queue u t).next_number ≡ t.next_number
+  same_put None u t = refl
+  same_put (Some q) u t = refl
+
   fair_put : (u : Update) (o : Effect) → IsWellMade s k n o → IsWellMade s k n (with_put s k u o)
   unfolding with_put
-  fair_put u o fair = fair_gossip_set s.gossip _ sound.gossip (fair_state _ o refl fair)
+  fair_put u o fair = fair_gossip_set s.gossip _ sound.gossip (fair_state (put_up s s.queue u o.state) o (same_put s.queue u o.state) fair)
 
   fair_passed_on : (telling : Announce) (u : Update) (o : Effect) → IsWellMade s k n o → IsWellMade s k n (passed_on s k telling u o)
   unfolding passed_on
@@ -356,7 +431,7 @@ module _ (s : Setup) (sound : IsSound s) (k : Key) (n : ℕ) where
 
   fair_own_applied : (claim : Claim) (number : ℕ) (o : Effect) → IsWellMade s k n o → IsWellMade s k n (own_applied s k claim number o)
   fair_own_applied claim number o fair =
-      fair_choice (does_refute (profile_of s) o.state.incarnation claim number) _ _ (fair_refuted (number + 1) o fair)
+      fair_choice (is_refuted (profile_of s) o.state claim number) _ _ (fair_refuted (number + 1) o fair)
       (fair_choice (is_own_death (profile_of s) claim o.state.heard_dead) _ _ (fair_dead number o fair) fair)
 
   fair_told : (telling : Announce) (tells : What) (subject value : ℕ) (o : Effect) → IsWellMade s k n o → IsWellMade s k n (with_told telling k tells subject value o)
@@ -392,15 +467,24 @@ module _ (s : Setup) (sound : IsSound s) (k : Key) (n : ℕ) where
   same_death Hashicorp subject now t = refl
 
   fair_claim : (telling : Announce) (u : Update) (claim : Claim) (o : Effect) → IsWellMade s k n o → IsWellMade s k n (claim_heard s telling k u claim o)
-  unfolding alive_heard suspect_heard confirm_heard
+  unfolding alive_heard suspect_heard confirm_heard left_heard
   fair_claim telling u Alive o fair = fair_told telling _ _ _ _ (fair_state _ o refl fair)
   fair_claim telling u Suspect o fair =
       fair_own _ _ _ (omega (arith, min-le-timeout (terms_of s) (size_by (profile_of s) o.state.table) 0 (terms_sound s sound))) (fair_told telling _ _ _ _ (fair_state _ o refl fair))
   fair_claim telling u Confirm o fair = fair_told telling _ _ _ _ (fair_state _ o (same_death (profile_of s) u.subject k.at (without_suspicion u.subject o.state)) fair)
+  fair_claim telling u Left o fair = fair_told telling _ _ _ _ (fair_state _ o (same_death (profile_of s) u.subject k.at (without_suspicion u.subject o.state)) fair)
+  fair_claim telling u Intent o fair = fair
+
+  same_regards : (serf : Option Serf) (now : ℕ) (u : Update) (t : State) → (regards_kept serf now u t).next_number ≡ t.next_number
+  same_regards None now u t = refl
+  same_regards (Some serf) now u t = same_choice (is_alive u.claim) _ _ t.next_number refl (same_choice (is_confirm u.claim) _ _ t.next_number refl refl)
+
+  fair_regards : (u : Update) (o : Effect) → IsWellMade s k n o → IsWellMade s k n (on_state (regards_kept s.serf k.at u) o)
+  fair_regards u o fair = fair_state (regards_kept s.serf k.at u o.state) o (same_regards s.serf k.at u o.state) fair
 
   fair_news : (telling : Announce) (u : Update) (o : Effect) → IsWellMade s k n o → IsWellMade s k n (news_heard s telling k u o)
   unfolding news_heard
-  fair_news telling u o fair = fair_passed_on telling u _ (fair_claim telling u u.claim _ (fair_kept u o fair))
+  fair_news telling u o fair = fair_passed_on telling u _ (fair_claim telling u u.claim _ (fair_regards u _ (fair_kept u o fair)))
 
   fair_counted : (telling : Announce) (u : Update) (found : Option HeldSuspicion) (o : Effect) → IsWellMade s k n o → IsWellMade s k n (accusation_counted s telling k u (option_map (answer_to k.at) found) o)
   fair_counted telling u None o fair = fair
@@ -433,10 +517,18 @@ module _ (s : Setup) (sound : IsSound s) (k : Key) (n : ℕ) where
   fair_other telling u (Some held) o fair =
       fair_choice (does_override (profile_of s) (u.claim, u.inc) held) _ _ (fair_news telling u o fair) (fair_choice (is_repeated (profile_of s) u held) _ _ (fair_accusation_by (profile_of s) telling u held.1 o fair) fair)
 
+  fair_claim_applied : (telling : Announce) (u : Update) (o : Effect) → IsWellMade s k n o → IsWellMade s k n (claim_applied s telling k u o)
+  unfolding claim_applied
+  fair_claim_applied telling u o fair =
+      fair_choice (nat_eq u.subject k.to) _ _ (fair_own_applied u.claim u.inc o fair) (fair_other telling u (get o.state.table u.subject) o fair)
+
+  fair_intent : (u : Update) (serf : Option Serf) (o : Effect) → IsWellMade s k n o → IsWellMade s k n (intent_applied s k u serf o)
+  fair_intent u None o fair = fair
+  fair_intent u (Some serf) o fair = fair_choice (is_known_intent k.to u.subject o.state) _ _ fair (fair_gossip_set s.gossip _ sound.gossip (fair_state _ o refl fair))
+
   fair_applied : (telling : Announce) (u : Update) (o : Effect) → IsWellMade s k n o → IsWellMade s k n (applied s telling k u o)
   unfolding applied
-  fair_applied telling u o fair =
-      fair_choice (nat_eq u.subject k.to) _ _ (fair_own_applied u.claim u.inc o fair) (fair_other telling u (get o.state.table u.subject) o fair)
+  fair_applied telling u o fair = fair_choice (is_intent u.claim) _ _ (fair_intent u s.serf o fair) (fair_claim_applied telling u o fair)
 
   fair_all : (telling : Announce) (us : List Update) (o : Effect) → IsWellMade s k n o → IsWellMade s k n (all_applied s telling k us o)
   unfolding all_applied
@@ -742,7 +834,7 @@ module _ (s : Setup) (sound : IsSound s) (k : Key) (n : ℕ) where
 
   fair_plain_ping : (to initiator seq : ℕ) (o : Effect) → IsWellMade s k n o → IsWellMade s k n (plain_ping_sent s k to initiator seq o)
   unfolding plain_ping_sent
-  fair_plain_ping to initiator seq o fair = fair_sent _ to seq _ _ (fair_state _ o refl fair)
+  fair_plain_ping to initiator seq o fair = fair_sent _ to seq _ _ (fair_riding (bearer.Ping to) o fair)
 
   fair_lone : (to seq : ℕ) (buddy : Option Update) (o : Effect) → IsWellMade s k n o → IsWellMade s k n (ping_with_lone s k to seq buddy o)
   fair_lone to seq None o fair = fair_plain_ping to k.to seq o fair
@@ -761,9 +853,21 @@ module _ (s : Setup) (sound : IsSound s) (k : Key) (n : ℕ) where
       fair_between_beats (o.state.sequence + 1) (k.at + scaled o.state.health s.swim.period) _ (omega (arith, sound.timeout.0, sound.timeout.1))
       (fair_timer s.swim.timeout _ _ (omega (arith, sound.timeout.0)) (fair_probe_ping target _ _ (fair_state _ o refl fair)))
 
+  -- a probe whose ping departs later
+  fair_blocked_begun : (target departs : ℕ) (o : Effect) → k.at < departs → IsWellMade s k n o → IsWellMade s k n (blocked_probe_begun s k target departs o)
+  unfolding blocked_probe_begun
+  fair_blocked_begun target departs o later fair =
+      let end = k.at + scaled o.state.health s.swim.period in
+      fair_own (max end departs) _ _ (omega (arith, later))
+      (fair_own (min (departs + s.swim.timeout) (max end departs)) _ _ (omega (arith, later)) (fair_probe_ping target _ _ (fair_state _ o refl fair)))
+
+  fair_departing : (target departs : ℕ) (o : Effect) → IsWellMade s k n o → IsWellMade s k n (departing_probe_begun s k target departs o)
+  fair_departing target departs o fair =
+      fair_when (nat_lt k.at departs) _ _ (λ later. fair_blocked_begun target departs o (ltb-true k.at departs later) fair) (fair_single_begun target o fair)
+
   fair_single_target : (target : Option ℕ) (o : Effect) → IsWellMade s k n o → IsWellMade s k n (single_target_probed s k target o)
   fair_single_target None o fair = fair_state _ o refl fair
-  fair_single_target (Some target) o fair = fair_single_begun target o fair
+  fair_single_target (Some target) o fair = fair_departing target (departs_at s k) o fair
 
   fair_forgotten_if : (member : ℕ) (held : Option (Claim × ℕ)) (o : Effect) → IsWellMade s k n o → IsWellMade s k n (forgotten_if s k member held o)
   fair_forgotten_if member None o fair = fair
@@ -809,7 +913,7 @@ module _ (s : Setup) (sound : IsSound s) (k : Key) (n : ℕ) where
 
   fair_ping_answered : (initiator seq : ℕ) (us : List Update) (o : Effect) → IsWellMade s k n o → IsWellMade s k n (ping_answered s k initiator seq us o)
   unfolding ping_answered
-  fair_ping_answered initiator seq us o fair = fair_all Aloud us _ (fair_ack k.from initiator seq o fair)
+  fair_ping_answered initiator seq us o fair = fair_all Aloud us _ (fair_pings_ack k.from initiator seq o fair)
 
   fair_help_asked_for : (seq target : ℕ) (us : List Update) (o : Effect) → IsWellMade s k n o → IsWellMade s k n (help_asked_for s k seq target us o)
   unfolding help_asked_for
@@ -837,10 +941,268 @@ module _ (s : Setup) (sound : IsSound s) (k : Key) (n : ℕ) where
   fair_single_handled (NackTimer initiator seq) o fair = fair_help_over initiator seq o fair
   fair_single_handled content o fair = fair_timed_handled content o fair
 
+  -- ---- dials
+
+  -- a connection is there later than now
+  dial_ahead : (to : ℕ) (t : State) → IfSome (dial_drawn s k to t).0 (λ at. k.at < at)
+  dial_ahead to t =
+      let departs = departs_at s k in
+      let wait = (sound.between k.to to).delay.0 in
+      let blocked = free_later s k.to k.at in
+      after (dial_drawn s k to t).0 k.at (departs + (link_between s k.to to).delay) (omega (arith, wait, blocked)) (dial_later s k.to to departs s.dial.limit t.words)
+
+  done_later : (there : Option ℕ) → IfSome there (λ at. k.at < at) → k.at < dial_done s k there
+  done_later None later = let blocked = free_later s k.to k.at in let limit = sound.limit.0 in omega (arith, blocked, limit)
+  done_later (Some at) later = later
+
+  fair_dialed : (tells : What) (to : ℕ) (there : Option ℕ) (o : Effect) → IfSome there (λ at. k.at < at) → IsWellMade s k n o → IsWellMade s k n (dialed s k tells to there o)
+  fair_dialed tells to None o later fair = fair_row _ _ _ _ o fair
+  fair_dialed tells to (Some there) o later fair = fair_own there (ConnectedTimer to) _ later (fair_row _ _ _ _ o fair)
+
+  fair_push_dialed : (to : ℕ) (there : Option ℕ) (o : Effect) → IfSome there (λ at. k.at < at) → IsWellMade s k n o → IsWellMade s k n (push_dialed s k to there o)
+  fair_push_dialed to None o later fair = fair_row _ _ _ _ o fair
+  fair_push_dialed to (Some there) o later fair = fair_own there (ConnectedTimer to) o later fair
+
+  -- ---- beginnings
+
+  fair_contact_dialed : (contact : ℕ) (o : Effect) → IsWellMade s k n o → IsWellMade s k n (contact_dialed s k contact o)
+  unfolding contact_dialed
+  fair_contact_dialed contact o fair =
+      let drawn = dial_drawn s k contact o.state in
+      let ahead = dial_ahead contact o.state in
+      fair_own (dial_done s k drawn.0 + s.dial.retry) JoinTimer _ (let done = done_later drawn.0 ahead in omega (arith, done))
+      (fair_dialed what.Join contact drawn.0 _ ahead (fair_state (with_words drawn.1 o.state) o refl fair))
+
+  fair_contact_asked : (contact : Option ℕ) (o : Effect) → IsWellMade s k n o → IsWellMade s k n (contact_asked s k contact o)
+  fair_contact_asked None o fair = fair
+  fair_contact_asked (Some contact) o fair = fair_contact_dialed contact o fair
+
+  fair_reached_contact : (us : List Update) (o : Effect) → IsWellMade s k n o → IsWellMade s k n (contact_reached k us o)
+  fair_reached_contact us o fair = fair_choice (is_asked k.from o.state.life.contact) _ _ (fair_row _ _ _ _ _ (fair_state _ o refl fair)) fair
+
+  fair_setting : (gossip : Option settings.Gossip) (o : Effect) → IsWellMade s k n o → IsWellMade s k n (setting_set s k gossip o)
+  fair_setting None o fair = fair
+  fair_setting (Some gossip) o fair = fair_choice (nat_eq gossip.push 0) _ _ fair (fair_timer _ SettingTimer _ (omega arith) (fair_state _ o refl fair))
+
+  fair_reconnect : (serf : Option Serf) (o : Effect) → IfSome serf IsSoundSerf → IsWellMade s k n o → IsWellMade s k n (reconnect_set s k serf o)
+  fair_reconnect None o is fair = fair
+  fair_reconnect (Some serf) o is fair = fair_timer serf.reconnect ReconnectTimer o is.reconnect.0 fair
+
+  fair_own_beats : (o : Effect) → IsWellMade s k n o → IsWellMade s k n (own_beats_set s k o)
+  fair_own_beats o fair = fair_timer s.swim.period PeriodTimer _ (omega (arith, sound.timeout.0, sound.timeout.1)) (fair_state _ o refl fair)
+
+  fair_alone : (contact : Option ℕ) (o : Effect) → IsWellMade s k n o → IsWellMade s k n (alone_begun s k contact o)
+  unfolding alone_begun
+  fair_alone contact o fair = fair_contact_asked contact _ (fair_reconnect s.serf _ sound.serf (fair_setting s.gossip _ (fair_own_beats o fair)))
+
+  fair_pushes_set : (gossip : Option settings.Gossip) (o : Effect) → IsWellMade s k n o → IsWellMade s k n (pushes_set s k gossip o)
+  fair_pushes_set None o fair = fair
+  fair_pushes_set (Some gossip) o fair =
+      let members = size_by (profile_of s) o.state.table in
+      fair_unless (nat_eq gossip.push 0) _ _ fair (λ some. fair_timer (push_period gossip.push members) PushTimer o (long_period gossip.push (doublings_to members) (positive gossip.push some)) fair)
+
+  -- the beat of a founder's periods lies ahead
+  first_beat : (gossip : Option settings.Gossip) (beat : ℕ) (o : Effect) → (first_push_set s k beat gossip o).state.beat ≡ o.state.beat
+  unfolding push_begun even_push_begun with_event
+  first_beat None beat o = refl
+  first_beat (Some gossip) beat o = by_test (nat_eq gossip.push 0) (profile_of s)
+    where
+      by_test : (b : Bool) (profile : Profile) → (cond b o (push_begun_by profile s k beat gossip.push o)).state.beat ≡ o.state.beat
+      by_test true profile = refl
+      by_test false Papers = refl
+      by_test false Memberlist = refl
+      by_test false Hashicorp = refl
+
+  beat_ahead : (o : Effect) → k.at < (began s k o).state.beat
+  unfolding began first_period_set with_timer with_event
+  beat_ahead o =
+      let others = first_others s k.to in
+      let begun : State = first_round (profile_of s) (record o.state { phase = Running; incarnation = 0; table = all_alive others; rota = round_over others }) in
+      let drawn = below_of begun.words s.swim.spread in
+      let beat = k.at + (1 + drawn.0) in
+      let set = with_timer s k (1 + drawn.0) PeriodTimer (record { state = record begun { words = drawn.1; beat = beat }; events = o.events; rows = o.rows }) in
+      let same : (began s k o).state.beat ≡ beat = first_beat s.gossip beat set in
+      subst (λ b. k.at < b) (sym same) (omega arith)
+
+  fair_founders : (serf : Option Serf) (o : Effect) → k.at < o.state.beat → IsWellMade s k n o → IsWellMade s k n (founders_reconnect_set s k serf o)
+  fair_founders None o h fair = fair
+  fair_founders (Some serf) o h fair = fair_own (o.state.beat + (below_of o.state.words serf.reconnect).0) ReconnectTimer _ (omega (arith, h)) (fair_state _ o refl fair)
+
+  fair_process_started : (o : Effect) → IsWellMade s k n o → IsWellMade s k n (process_started s k o)
+  unfolding process_started
+  fair_process_started o fair =
+      let told = fair_row what.Start None 0 false o fair in
+      fair_choice (nat_eq (start_of s k.to) 0) _ _ (fair_founders s.serf _ (beat_ahead _) (fair_began _ told)) (fair_alone (contact_of s k.to) _ (fair_state _ _ refl told))
+
+  fair_restarted : (contact : Option ℕ) (o : Effect) → IsWellMade s k n o → IsWellMade s k n (restarted s k contact o)
+  unfolding restarted
+  fair_restarted contact o fair = fair_alone contact _ (fair_row _ _ _ _ _ (fair_state (reborn s k.to contact o.state) o refl fair))
+
+  -- ---- dialed pushes
+
+  fair_push_opened : (period to : ℕ) (o : Effect) → IsWellMade s k n o → IsWellMade s k n (push_opened s k period to o)
+  unfolding push_opened
+  fair_push_opened period to o fair =
+      let drawn = dial_drawn s k to o.state in
+      let ahead = dial_ahead to o.state in
+      fair_own (dial_done s k drawn.0 + period) PushTimer _ (let done = done_later drawn.0 ahead in omega (arith, done))
+      (fair_push_dialed to drawn.0 _ ahead (fair_state (with_words drawn.1 o.state) o refl fair))
+
+  fair_push_opened_to : (period : ℕ) (them : List ℕ) (o : Effect) → 0 < period → IsWellMade s k n o → IsWellMade s k n (push_opened_to s k period them o)
+  fair_push_opened_to period [] o some fair = fair_timer period PushTimer o some fair
+  fair_push_opened_to period (to ∷ others) o some fair = fair_push_opened period to o fair
+
+  fair_dialed_push : (push : ℕ) (o : Effect) → 0 < push → IsWellMade s k n o → IsWellMade s k n (dialed_push s k push o)
+  unfolding dialed_push
+  fair_dialed_push push o some fair =
+      let members = size_by (profile_of s) o.state.table in
+      fair_push_opened_to (push_period push members) _ _ (long_period push (doublings_to members) some) (fair_state _ o refl fair)
+
+  fair_dialed_push_due : (gossip : Option settings.Gossip) (o : Effect) → IsWellMade s k n o → IsWellMade s k n (dialed_push_due s k gossip o)
+  fair_dialed_push_due None o fair = fair
+  fair_dialed_push_due (Some gossip) o fair = fair_unless (nat_eq gossip.push 0) _ _ fair (λ some. fair_dialed_push gossip.push o (positive gossip.push some) fair)
+
+  -- ---- merges
+
+  same_noted : (serf : Option Serf) (u : Update) (t : State) → (leave_noted serf k.to u t).next_number ≡ t.next_number
+  same_noted None u t = refl
+  same_noted (Some serf) u t = same_choice (is_left_and_not_up k.to u t) _ _ t.next_number refl refl
+
+  fair_entry : (u : Update) (o : Effect) → IsWellMade s k n o → IsWellMade s k n (entry_merged s k u o)
+  fair_entry u o fair =
+      let heard = applied s Aloud k (entry_claim k.to u) o in
+      fair_state (leave_noted s.serf k.to u heard.state) heard (same_noted s.serf u heard.state) (fair_applied Aloud (entry_claim k.to u) o fair)
+
+  fair_table : (us : List Update) (o : Effect) → IsWellMade s k n o → IsWellMade s k n (table_merged s k us o)
+  unfolding table_merged
+  fair_table [] o fair = fair
+  fair_table (u ∷ us) o fair = fair_table us (entry_merged s k u o) (fair_entry u o fair)
+
+  fair_push_merged : (us : List Update) (o : Effect) → IsWellMade s k n o → IsWellMade s k n (push_merged s k us o)
+  unfolding push_merged
+  fair_push_merged us o fair = fair_table us _ (fair_pull k.from o fair)
+
+  fair_pull_merged : (us : List Update) (o : Effect) → IsWellMade s k n o → IsWellMade s k n (pull_merged s k us o)
+  fair_pull_merged us o fair = fair_table us _ (fair_reached_contact us o fair)
+
+  -- ---- leaves by Serf's rules
+
+  lingers : (serf : Option Serf) → IfSome serf IsSoundSerf → 0 < linger_of serf
+  lingers None is = omega arith
+  lingers (Some serf) is = is.linger.0
+
+  fair_lingered : (o : Effect) → IsWellMade s k n o → IsWellMade s k n (lingered s k o)
+  fair_lingered o fair = fair_timer (linger_of s.serf) ExitTimer _ (lingers s.serf sound.serf) (fair_state _ o refl fair)
+
+  fair_left_said : (o : Effect) → IsWellMade s k n o → IsWellMade s k n (left_said s k o)
+  unfolding left_said
+  fair_left_said o fair =
+      let told = with_row k what.Left (Some k.to) o.state.incarnation false (on_state (with_leaving Says) o) in
+      let so_far : IsWellMade s k n told = fair_row _ _ _ _ _ (fair_state (with_leaving Says o.state) o refl fair) in
+      fair_choice (is_anybody_up told.state) _ _ (fair_put (own_left k.to told.state.incarnation) told so_far) (fair_lingered told so_far)
+
+  fair_leave_told : (o : Effect) → IsWellMade s k n o → IsWellMade s k n (leave_told s k o)
+  fair_leave_told o fair =
+      fair_choice (is_some s.serf && is_anybody_up o.state) _ _ (fair_gossip_set s.gossip _ sound.gossip (fair_state _ o refl fair)) (fair_left_said o fair)
+
+  fair_leave_begun : (o : Effect) → IsWellMade s k n o → IsWellMade s k n (leave_begun s k o)
+  unfolding leave_begun
+  fair_leave_begun o fair = fair_choice (does_stay o.state.life.leaving) _ _ (fair_leave_told _ (fair_row _ _ _ _ o fair)) fair
+
+  fair_gone_on : (o : Effect) → IsWellMade s k n o → IsWellMade s k n (leave_gone_on s k o)
+  unfolding leave_gone_on
+  fair_gone_on o fair =
+      let told = fair_choice (does_intend o.state.life.leaving && not (contains_key o.state.life.intents k.to)) _ _ (fair_left_said o fair) fair in
+      let so_far = intent_sent s k o in
+      fair_choice (is_running o.state.phase) _ _ (fair_choice (does_say so_far.state.life.leaving && not (is_claim_held s.queue k.to so_far.state)) _ _ (fair_lingered so_far told) told) fair
+
+  fair_exited : (o : Effect) → IsWellMade s k n o → IsWellMade s k n (exited k o)
+  unfolding exited
+  fair_exited o fair = fair_state _ _ refl (fair_row _ _ _ _ o fair)
+
+  -- ---- tries to reach those that failed
+
+  fair_next_try : (serf : Serf) (done : ℕ) (o : Effect) → IsSoundSerf serf → k.at ≤ done → IsWellMade s k n o → IsWellMade s k n (next_try_set s k serf done o)
+  fair_next_try serf done o is h fair = fair_own (done + serf.reconnect) ReconnectTimer o (let some = is.reconnect.0 in omega (arith, h, some)) fair
+
+  fair_failed_dialed : (serf : Serf) (to : ℕ) (o : Effect) → IsSoundSerf serf → IsWellMade s k n o → IsWellMade s k n (failed_dialed s k serf to o)
+  unfolding failed_dialed
+  fair_failed_dialed serf to o is fair =
+      let drawn = dial_drawn s k to o.state in
+      let ahead = dial_ahead to o.state in
+      fair_next_try serf (dial_done s k drawn.0) _ is (let done = done_later drawn.0 ahead in omega (arith, done))
+      (fair_dialed what.Reconnect to drawn.0 _ ahead (fair_state (with_words drawn.1 o.state) o refl fair))
+
+  fair_any_tried : (serf : Serf) (failed : List ℕ) (o : Effect) → IsSoundSerf serf → IsWellMade s k n o → IsWellMade s k n (any_tried s k serf failed o)
+  fair_any_tried serf [] o is fair = fair_next_try serf k.at o is (omega arith) fair
+  fair_any_tried serf (m ∷ failed) o is fair =
+      let chance = below_of o.state.words (live_count o.state.table) in
+      let drawn : IsWellMade s k n (on_state (with_words chance.1) o) = fair_state (with_words chance.1 o.state) o refl fair in
+      fair_choice (nat_lt chance.0 (length (m ∷ failed))) _ _ (fair_failed_dialed serf _ _ is (fair_state _ _ refl drawn)) (fair_next_try serf k.at _ is (omega arith) drawn)
+
+  fair_reconnect_due : (serf : Option Serf) (o : Effect) → IfSome serf IsSoundSerf → IsWellMade s k n o → IsWellMade s k n (reconnect_due s k serf o)
+  unfolding reconnect_due
+  fair_reconnect_due None o is fair = fair
+  fair_reconnect_due (Some serf) o is fair =
+      fair_any_tried serf (failed_among (member_count s) (failures_reaped k.at serf.reap o.state).life.regards) _ is (fair_state (failures_reaped k.at serf.reap o.state) o refl fair)
+
+  -- ---- gossip of claims and intents
+
+  fair_whole_gossip : (gossip : Option settings.Gossip) (o : Effect) → IfSome gossip IsSoundGossip → IsWellMade s k n o → IsWellMade s k n (whole_gossip_due s k gossip o)
+  fair_whole_gossip None o is fair = fair
+  fair_whole_gossip (Some gossip) o is fair =
+      let unset : IsWellMade s k n (on_state (λ t. record t { gossips = false }) o) = fair_state (record o.state { gossips = false }) o refl fair in
+      let spread = gossip_spread s k gossip (on_state (λ t. record t { gossips = false }) o) in
+      let told = fair_spread gossip _ unset in
+      fair_choice (is_all_told s (record o.state { gossips = false })) _ _ unset
+      (fair_choice (is_all_told s spread.state) _ _ told
+      (fair_own (next_in_step (spread.state.beat - 1) gossip.interval (departs_at s k)) GossipTimer _ (departs_in_step (spread.state.beat - 1) gossip.interval is.interval.0) (fair_state _ spread refl told)))
+
+  -- ---- processes
+
+  fair_process : (content : EventKind) (o : Effect) → IsWellMade s k n o → IsWellMade s k n (process_handled s k content o)
+  unfolding process_handled
+  fair_process (Restart contact) o fair = fair_restarted contact o fair
+  fair_process Leave o fair = fair_leave_begun o fair
+  fair_process JoinTimer o fair = fair_contact_asked o.state.life.contact o fair
+  fair_process SettingTimer o fair = fair_pushes_set s.gossip o fair
+  fair_process (ConnectedTimer to) o fair = fair_push to o fair
+  fair_process PushTimer o fair = fair_dialed_push_due s.gossip o fair
+  fair_process (Push us) o fair = fair_push_merged us o fair
+  fair_process (Pull us) o fair = fair_pull_merged us o fair
+  fair_process GossipTimer o fair = fair_whole_gossip s.gossip o sound.gossip fair
+  fair_process ReconnectTimer o fair = fair_reconnect_due s.serf o sound.serf fair
+  fair_process ExitTimer o fair = fair_exited o fair
+  fair_process Join o fair = fair
+  fair_process (Welcome us) o fair = fair
+  fair_process Bye o fair = fair
+  fair_process content o fair = fair_single_handled content o fair
+
+  fair_start : (content : EventKind) (o : Effect) → IsWellMade s k n o → IsWellMade s k n (start_handled s k content o)
+  fair_start Start o fair = fair_process_started o fair
+  fair_start _ o fair = fair
+
+  fair_restart : (content : EventKind) (o : Effect) → IsWellMade s k n o → IsWellMade s k n (restart_handled s k content o)
+  fair_restart (Restart contact) o fair = fair_restarted contact o fair
+  fair_restart _ o fair = fair
+
+  fair_phase : (phase : Phase) (content : EventKind) (o : Effect) → IsWellMade s k n o → IsWellMade s k n (phase_handled phase s k content o)
+  fair_phase Waiting content o fair = fair_start content o fair
+  fair_phase Joining content o fair = fair
+  fair_phase Running content o fair = fair_gone_on _ (fair_process content o fair)
+  fair_phase Down content o fair = fair_restart content o fair
+
+  fair_lived : (phase : Phase) (content : EventKind) (o : Effect) → IsWellMade s k n o → IsWellMade s k n (process_lived phase s k content o)
+  unfolding process_lived
+  fair_lived phase content o fair = fair_choice (is_of_former_life k content o.state.life.birth) _ _ fair (fair_phase phase content o fair)
+
   fair_by : (phase : Phase) (profile : Profile) (content : EventKind) (o : Effect) → IsWellMade s k n o → IsWellMade s k n (handled_by phase profile s k content o)
+  fair_by phase Papers content o fair = fair_handled content phase o fair
+  fair_by Waiting Memberlist content o fair = fair_handled content Waiting o fair
+  fair_by Joining Memberlist content o fair = fair_handled content Joining o fair
   fair_by Running Memberlist content o fair = fair_timed_handled content o fair
-  fair_by Running Hashicorp content o fair = fair_single_handled content o fair
-  fair_by phase profile content o fair = fair_handled content phase o fair
+  fair_by Down Memberlist content o fair = fair_handled content Down o fair
+  fair_by phase Hashicorp content o fair = fair_lived phase content o fair
 
 pub fair_step : (s : Setup) → IsSound s → (k : Key) (c : EventKind) (t : State) → IsWellMade s k t.next_number (step s k c t)
 unfolding step

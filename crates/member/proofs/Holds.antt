@@ -49,20 +49,21 @@ probed_cases table rota k q v true up old none = absurd (false≢true (sym none 
 probed_cases table rota k q v false up old none = old none
 
 -- another member of the scenario, who isn't confirmed, is put into the table
-pub holds_put : (s : Setup) (m : ℕ) (table : Known) (rota : ProbeOrder) (probe : Option Probe) (k : ℕ) (v : Held) → k < member_count s → k ≢ m → is_confirm v.0 ≡ false
-    → HoldsOthers s m table rota probe → HoldsOthers s m (insert table k v) rota probe
-holds_put s m table rota probe k v low apart up holds = record {
+pub holds_put : (s : Setup) (m : ℕ) (table : Known) (rota : ProbeOrder) (probe : Option Probe) (contact : Option ℕ) (k : ℕ) (v : Held) → k < member_count s → k ≢ m → is_confirm v.0 ≡ false
+    → HoldsOthers s m table rota probe contact → HoldsOthers s m (insert table k v) rota probe contact
+holds_put s m table rota probe contact k v low apart up holds = record {
   others = λ q there. others_cases s m table k q v (eqb q k) refl low apart (holds.others q) (sym (ap is_some (put_get table k q v)) ∙ there);
   listed = λ q none. probed_cases table rota k q v (eqb q k) up (holds.listed q) (sym (ap is_probed (put_get table k q v)) ∙ none);
   sound = holds.sound;
   target = holds.target;
+  asked = holds.asked;
 }
 
 -- and into the rota
-pub holds_place : (s : Setup) (m : ℕ) (table : Known) (rota : ProbeOrder) (probe : Option Probe) (words : Words) (k : ℕ) → is_probed (get table k) ≡ true
-    → IsSoundOrder (insert_of words k rota).0 → HoldsOthers s m table rota probe → HoldsOthers s m table (insert_of words k rota).0 probe
+pub holds_place : (s : Setup) (m : ℕ) (table : Known) (rota : ProbeOrder) (probe : Option Probe) (contact : Option ℕ) (words : Words) (k : ℕ) → is_probed (get table k) ≡ true
+    → IsSoundOrder (insert_of words k rota).0 → HoldsOthers s m table rota probe contact → HoldsOthers s m table (insert_of words k rota).0 probe contact
 unfolding insert_of
-holds_place s m table rota probe words k there sound holds = record {
+holds_place s m table rota probe contact words k there sound holds = record {
   others = holds.others;
   listed = λ q none.
       let apart : k ≢ q = λ same. false≢true (sym none ∙ ap (λ r. is_probed (get table r)) (sym same) ∙ there) in
@@ -70,24 +71,26 @@ holds_place s m table rota probe words k there sound holds = record {
       omega (arith, sum_by-insert (λ (it : ℕ). one_if (it == q)) rota.members place k, one_if-other k q apart, holds.listed q none);
   sound = sound;
   target = holds.target;
+  asked = holds.asked;
 }
 
 -- and in another one's place of it
-pub holds_newcomer : (s : Setup) (m : ℕ) (table : Known) (rota : ProbeOrder) (probe : Option Probe) (words : Words) (k : ℕ) → AreWords words → is_probed (get table k) ≡ true
-    → IsSoundOrder (displaced_of words k rota).0 → HoldsOthers s m table rota probe → HoldsOthers s m table (displaced_of words k rota).0 probe
-holds_newcomer s m table rota probe words k fit there sound holds = record {
+pub holds_newcomer : (s : Setup) (m : ℕ) (table : Known) (rota : ProbeOrder) (probe : Option Probe) (contact : Option ℕ) (words : Words) (k : ℕ) → AreWords words → is_probed (get table k) ≡ true
+    → IsSoundOrder (displaced_of words k rota).0 → HoldsOthers s m table rota probe contact → HoldsOthers s m table (displaced_of words k rota).0 probe contact
+holds_newcomer s m table rota probe contact words k fit there sound holds = record {
   others = holds.others;
   listed = λ q none.
       let apart : k ≢ q = λ same. false≢true (sym none ∙ ap (λ r. is_probed (get table r)) (sym same) ∙ there) in
       omega (arith, displaced_counted words k q rota fit holds.sound, one_if-other k q apart, holds.listed q none);
   sound = sound;
   target = holds.target;
+  asked = holds.asked;
 }
 
 -- a member that is confirmed is put into the table, and taken out of the rota
-pub holds_confirm : (s : Setup) (m : ℕ) (table : Known) (rota : ProbeOrder) (probe : Option Probe) (k : ℕ) (v : Held) → k < member_count s → k ≢ m
-    → HoldsOthers s m table rota probe → HoldsOthers s m (insert table k v) (remove_of k rota) probe
-holds_confirm s m table rota probe k v low apart holds = record {
+pub holds_confirm : (s : Setup) (m : ℕ) (table : Known) (rota : ProbeOrder) (probe : Option Probe) (contact : Option ℕ) (k : ℕ) (v : Held) → k < member_count s → k ≢ m
+    → HoldsOthers s m table rota probe contact → HoldsOthers s m (insert table k v) (remove_of k rota) probe contact
+holds_confirm s m table rota probe contact k v low apart holds = record {
   others = λ q there. others_cases s m table k q v (eqb q k) refl low apart (holds.others q) (sym (ap is_some (put_get table k q v)) ∙ there);
   listed = λ q none.
       elim (cases_Bool (eqb q k)) [
@@ -99,19 +102,21 @@ holds_confirm s m table rota probe k v low apart holds = record {
       ];
   sound = remove_sound k rota holds.sound;
   target = holds.target;
+  asked = holds.asked;
 }
 
 -- of a member that isn't probed nothing is held any more
 left_get : (table : Known) (k q : ℕ) → get (remove table k) q ≡ cond (eqb q k) None (get table q)
 left_get table k q = get-remove nat_cmp_total table k q ∙ ap (λ b. cond b None (get table q)) (unsigned_tied q k)
 
-pub holds_forgotten : (s : Setup) (m : ℕ) (table : Known) (rota : ProbeOrder) (probe : Option Probe) (k : ℕ) → is_probed (get table k) ≡ false
-    → HoldsOthers s m table rota probe → HoldsOthers s m (remove table k) rota probe
-holds_forgotten s m table rota probe k absent holds = record {
+pub holds_forgotten : (s : Setup) (m : ℕ) (table : Known) (rota : ProbeOrder) (probe : Option Probe) (contact : Option ℕ) (k : ℕ) → is_probed (get table k) ≡ false
+    → HoldsOthers s m table rota probe contact → HoldsOthers s m (remove table k) rota probe contact
+holds_forgotten s m table rota probe contact k absent holds = record {
   others = λ q there. holds.others q (known (eqb q k) (get table q) (sym (ap is_some (left_get table k q)) ∙ there));
   listed = λ q none. by_place q (eqb q k) refl (sym (ap is_probed (left_get table k q)) ∙ none);
   sound = holds.sound;
   target = holds.target;
+  asked = holds.asked;
 }
   where
     known : (b : Bool) (o : Option Held) → is_some (cond b None o) ≡ true → is_some o ≡ true
@@ -123,56 +128,70 @@ holds_forgotten s m table rota probe k absent holds = record {
     by_place q false e none = holds.listed q none
 
 -- another probe, of a member of the scenario, or none
-pub holds_probe : (s : Setup) (m : ℕ) (table : Known) (rota : ProbeOrder) (before after : Option Probe) → IfSome after (λ p. p.target < member_count s)
-    → HoldsOthers s m table rota before → HoldsOthers s m table rota after
-holds_probe s m table rota before after member holds = record { others = holds.others; listed = holds.listed; sound = holds.sound; target = member }
+pub holds_probe : (s : Setup) (m : ℕ) (table : Known) (rota : ProbeOrder) (before after : Option Probe) (contact : Option ℕ) → IfSome after (λ p. p.target < member_count s)
+    → HoldsOthers s m table rota before contact → HoldsOthers s m table rota after contact
+holds_probe s m table rota before after contact member holds = record { others = holds.others; listed = holds.listed; sound = holds.sound; target = member; asked = holds.asked }
 
-pub holds_no_probe : (s : Setup) (m : ℕ) (table : Known) (rota : ProbeOrder) (before : Option Probe) → HoldsOthers s m table rota before → HoldsOthers s m table rota None
-holds_no_probe s m table rota before holds = holds_probe s m table rota before None tt holds
+pub holds_no_probe : (s : Setup) (m : ℕ) (table : Known) (rota : ProbeOrder) (before : Option Probe) (contact : Option ℕ) → HoldsOthers s m table rota before contact → HoldsOthers s m table rota None contact
+holds_no_probe s m table rota before contact holds = holds_probe s m table rota before None contact tt holds
+
+-- somebody else is asked, or nobody
+pub holds_contact : (s : Setup) (m : ℕ) (table : Known) (rota : ProbeOrder) (probe : Option Probe) (before after : Option ℕ) → IfSome after (λ c. c < member_count s)
+    → HoldsOthers s m table rota probe before → HoldsOthers s m table rota probe after
+holds_contact s m table rota probe before after member holds = record { others = holds.others; listed = holds.listed; sound = holds.sound; target = holds.target; asked = member }
+
+pub holds_alike : (s : Setup) (m : ℕ) (table : Known) (rota : ProbeOrder) (probe : Option Probe) (before after : Option ℕ) → after ≡ before → HoldsOthers s m table rota probe before
+    → HoldsOthers s m table rota probe after
+holds_alike s m table rota probe before after same holds = subst (λ (q : Option ℕ). HoldsOthers s m table rota probe q) (sym same) holds
+
+pub holds_no_contact : (s : Setup) (m : ℕ) (table : Known) (rota : ProbeOrder) (probe : Option Probe) (before : Option ℕ) → HoldsOthers s m table rota probe before → HoldsOthers s m table rota probe None
+holds_no_contact s m table rota probe before holds = holds_contact s m table rota probe before None tt holds
 
 target_either : (n : ℕ) (b : Bool) (p q : Probe) → p.target < n → q.target < n → (cond b p q).target < n
 target_either n true p q h g = h
 target_either n false p q h g = g
 
 -- what comes back of a probe leaves its target
-pub holds_answered : (s : Setup) (m : ℕ) (table : Known) (rota : ProbeOrder) (seq : ℕ) (probe : Option Probe) → HoldsOthers s m table rota probe → HoldsOthers s m table rota (answered seq probe)
-holds_answered s m table rota seq None holds = holds
-holds_answered s m table rota seq (Some p) holds =
-    holds_probe s m table rota (Some p) _ (target_either (member_count s) (nat_eq p.seq seq) (record p { acked = true }) p holds.target holds.target) holds
+pub holds_answered : (s : Setup) (m : ℕ) (table : Known) (rota : ProbeOrder) (seq : ℕ) (probe : Option Probe) (contact : Option ℕ) → HoldsOthers s m table rota probe contact → HoldsOthers s m table rota (answered seq probe) contact
+holds_answered s m table rota seq None contact holds = holds
+holds_answered s m table rota seq (Some p) contact holds =
+    holds_probe s m table rota (Some p) _ contact (target_either (member_count s) (nat_eq p.seq seq) (record p { acked = true }) p holds.target holds.target) holds
 
-pub holds_nacked : (s : Setup) (m : ℕ) (table : Known) (rota : ProbeOrder) (seq : ℕ) (probe : Option Probe) → HoldsOthers s m table rota probe → HoldsOthers s m table rota (nacked seq probe)
-holds_nacked s m table rota seq None holds = holds
-holds_nacked s m table rota seq (Some p) holds =
-    holds_probe s m table rota (Some p) _ (target_either (member_count s) (nat_eq p.seq seq) (with_nack p) p holds.target holds.target) holds
+pub holds_nacked : (s : Setup) (m : ℕ) (table : Known) (rota : ProbeOrder) (seq : ℕ) (probe : Option Probe) (contact : Option ℕ) → HoldsOthers s m table rota probe contact → HoldsOthers s m table rota (nacked seq probe) contact
+holds_nacked s m table rota seq None contact holds = holds
+holds_nacked s m table rota seq (Some p) contact holds =
+    holds_probe s m table rota (Some p) _ contact (target_either (member_count s) (nat_eq p.seq seq) (with_nack p) p holds.target holds.target) holds
 
-pub holds_reached : (s : Setup) (m : ℕ) (table : Known) (rota : ProbeOrder) (seq : ℕ) (probe : Option Probe) → HoldsOthers s m table rota probe → HoldsOthers s m table rota (reached seq probe)
-holds_reached s m table rota seq None holds = holds
-holds_reached s m table rota seq (Some p) holds =
-    holds_probe s m table rota (Some p) _ (target_either (member_count s) (nat_eq p.seq seq) (with_reach p) p holds.target holds.target) holds
+pub holds_reached : (s : Setup) (m : ℕ) (table : Known) (rota : ProbeOrder) (seq : ℕ) (probe : Option Probe) (contact : Option ℕ) → HoldsOthers s m table rota probe contact → HoldsOthers s m table rota (reached seq probe) contact
+holds_reached s m table rota seq None contact holds = holds
+holds_reached s m table rota seq (Some p) contact holds =
+    holds_probe s m table rota (Some p) _ contact (target_either (member_count s) (nat_eq p.seq seq) (with_reach p) p holds.target holds.target) holds
 
 probed_there : (held : Option Held) → is_probed held ≡ true → is_some held ≡ true
 probed_there None probed = probed
 probed_there (Some held) probed = refl
 
-module _ (s : Setup) (m : ℕ) (table : Known) (rota : ProbeOrder) (probe : Option Probe) (words : Words) (fit : AreWords words) (holds : HoldsOthers s m table rota probe) where
+module _ (s : Setup) (m : ℕ) (table : Known) (rota : ProbeOrder) (probe : Option Probe) (contact : Option ℕ) (words : Words) (fit : AreWords words) (holds : HoldsOthers s m table rota probe contact) where
   -- the next probe
-  pub holds_next : HoldsOthers s m table (next_of words rota).1 probe
+  pub holds_next : HoldsOthers s m table (next_of words rota).1 probe contact
   holds_next = record {
     others = holds.others;
     listed = λ q none.
         omega (arith, sum_by-IsPermutation (λ (it : ℕ). one_if (it == q)) rota.members (next_of words rota).1.members (is_probe words rota fit holds.sound).same, holds.listed q none);
     sound = next_sound words rota fit holds.sound;
     target = holds.target;
+    asked = holds.asked;
   }
 
   -- the members in a new order
-  pub holds_mixed : HoldsOthers s m table (mixed_of words rota).0 probe
+  pub holds_mixed : HoldsOthers s m table (mixed_of words rota).0 probe contact
   holds_mixed = record {
     others = holds.others;
     listed = λ q none.
         omega (arith, sum_by-IsPermutation (λ (it : ℕ). one_if (it == q)) rota.members (mixed_of words rota).0.members (mixed_same words rota fit holds.sound), holds.listed q none);
     sound = mixed_sound words rota fit holds.sound;
     target = holds.target;
+    asked = holds.asked;
   }
 
   -- the next probe goes to a member of the scenario
@@ -203,8 +222,8 @@ put_removed table k v none =
         gone (Some x) h = absurd (false≢true (sym h))
     last q false e = refl
 
-pub own_absent : (s : Setup) (m : ℕ) (table : Known) (rota : ProbeOrder) (probe : Option Probe) → HoldsOthers s m table rota probe → contains_key table m ≡ false
-own_absent s m table rota probe holds = elim (cases_Bool (contains_key table m)) [ inl here ↦ absurd ((holds.others m here).1 refl) | inr none ↦ none ]
+pub own_absent : (s : Setup) (m : ℕ) (table : Known) (rota : ProbeOrder) (probe : Option Probe) (contact : Option ℕ) → HoldsOthers s m table rota probe contact → contains_key table m ≡ false
+own_absent s m table rota probe contact holds = elim (cases_Bool (contains_key table m)) [ inl here ↦ absurd ((holds.others m here).1 refl) | inr none ↦ none ]
 
 -- what holds holds after a success too
 pub in_any_case : {A E P : Type 0} (r : Result A E) → P → OnOk r P
@@ -212,7 +231,7 @@ in_any_case (Ok x) p = p
 in_any_case (Err e) p = tt
 
 -- whom the next probe goes to, if there is one
-pub next_is_if : (s : Setup) (m : ℕ) (table : Known) (rota : ProbeOrder) (probe : Option Probe) (words : Words) → AreWords words → HoldsOthers s m table rota probe
+pub next_is_if : (s : Setup) (m : ℕ) (table : Known) (rota : ProbeOrder) (probe : Option Probe) (contact : Option ℕ) (words : Words) → AreWords words → HoldsOthers s m table rota probe contact
     → (target : Option ℕ) → target ≡ (next_of words rota).0 → IfSome target (λ t. t < member_count s)
-next_is_if s m table rota probe words fit holds None is = tt
-next_is_if s m table rota probe words fit holds (Some target) is = next_is_member s m table rota probe words fit holds target (sym is)
+next_is_if s m table rota probe contact words fit holds None is = tt
+next_is_if s m table rota probe contact words fit holds (Some target) is = next_is_member s m table rota probe contact words fit holds target (sym is)

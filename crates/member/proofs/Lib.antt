@@ -1,5 +1,6 @@
 pub mod Members
 pub mod CounterOverflow
+pub mod ProcessOverflow
 pub mod Holds
 pub mod Lists
 pub mod Helpers
@@ -7,6 +8,14 @@ pub mod Samples
 pub mod Doublings
 pub mod Openings
 pub mod ForgottenOnes
+pub mod Times
+pub mod Tries
+pub mod Tables
+pub mod Ways
+pub mod Ridings
+pub mod Names
+pub mod FittingOnes
 pub mod Fair
 pub mod Buddies
 mod Groups
+pub mod Rebirths

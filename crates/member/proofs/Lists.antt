@@ -12,7 +12,7 @@ use Rattle.member.specs.CounterOverflow.{IsOverflowed}
 use Rattle.member.proofs.CounterOverflow.{kept_all, kept_each}
 
 -- the items up to the one at a place, with it
-take_item : {A : Type 0} (xs : List A) (i : ℕ) (x : A) → i < length xs → x ≡ get_or xs i x → take (i + 1) xs ≡ take i xs ++ x ∷ []
+pub take_item : {A : Type 0} (xs : List A) (i : ℕ) (x : A) → i < length xs → x ≡ get_or xs i x → take (i + 1) xs ≡ take i xs ++ x ∷ []
 take_item xs i x h is = take_more xs i x h ∙ ap (λ y. take i xs ++ y ∷ []) (sym is)
 
 module _ (s : Setup) (telling : Announce) (k : Key) where

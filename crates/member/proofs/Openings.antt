@@ -20,13 +20,14 @@ use Rattle.member.specs.State.{is_probed}
 use Rattle.member.specs.Step.{is_first_other, first_others}
 
 -- a member that knows nobody
-pub holds_none : (s : Setup) (m : ℕ) (table : Known) (rota : ProbeOrder) (probe : Option Probe) → table ≡ empty → rota.members ≡ [] → IsSoundOrder rota → IfSome probe (λ p. p.target < member_count s)
-    → HoldsOthers s m table rota probe
-holds_none s m table rota probe nobody none sound target = record {
+pub holds_none : (s : Setup) (m : ℕ) (table : Known) (rota : ProbeOrder) (probe : Option Probe) (contact : Option ℕ) → table ≡ empty → rota.members ≡ [] → IsSoundOrder rota → IfSome probe (λ p. p.target < member_count s)
+    → IfSome contact (λ c. c < member_count s) → HoldsOthers s m table rota probe contact
+holds_none s m table rota probe contact nobody none sound target asked = record {
   others = λ q there. absurd (false≢true (sym (ap is_some (ap (λ (t : Known). get t q) nobody ∙ get-empty nat_cmp q)) ∙ there));
   listed = λ q _. ap (λ l. times_in l q) none;
   sound = sound;
   target = target;
+  asked = asked;
 }
 
 -- ---- the others that start at moment 0
@@ -118,10 +119,10 @@ alive_none (x ∷ xs) q none =
     (subst (λ b. is_probed (cond b (Some (Alive, 0)) (find nat_cmp q (put_all xs))) ≡ false) (unsigned_tied q x) none)
 
 -- a member that starts at moment 0 holds others of the scenario, and probes those that it holds
-pub holds_first : (s : Setup) (m : ℕ) (table : Known) (rota : ProbeOrder) (probe : Option Probe) (xs : List ℕ) → xs ≡ first_others s m → table ≡ all_alive xs → rota.members ≡ xs → IsSoundOrder rota
-    → IfSome probe (λ p. p.target < member_count s) → HoldsOthers s m table rota probe
+pub holds_first : (s : Setup) (m : ℕ) (table : Known) (rota : ProbeOrder) (probe : Option Probe) (contact : Option ℕ) (xs : List ℕ) → xs ≡ first_others s m → table ≡ all_alive xs → rota.members ≡ xs → IsSoundOrder rota
+    → IfSome probe (λ p. p.target < member_count s) → IfSome contact (λ c. c < member_count s) → HoldsOthers s m table rota probe contact
 unfolding first_others
-holds_first s m table rota probe xs is alive listed sound target =
+holds_first s m table rota probe contact xs is alive listed sound target asked =
     let all : AllByRecursion (λ q. (q < member_count s) × (q ≢ m)) xs =
     subst (AllByRecursion (λ q. (q < member_count s) × (q ≢ m))) (sym is)
     (subst (λ n. AllByRecursion (λ q. (q < n) × (q ≢ m)) (filter (is_first_other s m) (range_with_len 0 (member_count s)))) (let e : 0 + member_count s ≡ member_count s = omega arith in e) (all_first s m 0 (member_count s))) in
@@ -131,6 +132,7 @@ holds_first s m table rota probe xs is alive listed sound target =
       listed = λ q none. ap (λ l. times_in l q) listed ∙ alive_none xs q (sym (ap is_probed (here q)) ∙ none);
       sound = sound;
       target = target;
+      asked = asked;
     }
 
 -- the members of a rota that was made

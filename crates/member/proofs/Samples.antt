@@ -95,3 +95,12 @@ told_out false held both = by_test (nat_eq (len held) 0) refl
     by_test : (c : Bool) → nat_eq (len held) 0 ≡ c → false ≡ c
     by_test true e = absurd (false≢true (both.1 (empty_of_len held (eqb-true (len held) 0 e))))
     by_test false e = refl
+
+pub none_left : {A : Type 0} (b : Bool) (xs : List A) → (b ≡ true → xs ≡ []) × (xs ≡ [] → b ≡ true) → b ≡ nat_eq (length xs) 0
+none_left b [] both = both.1 refl
+none_left true (x ∷ xs) both = let none : x ∷ xs ≡ [] = both.0 refl in cc
+none_left false (x ∷ xs) both = by_test (nat_eq (length (x ∷ xs)) 0) refl
+  where
+    by_test : (c : Bool) → nat_eq (length (x ∷ xs)) 0 ≡ c → false ≡ c
+    by_test true e = let none : length (x ∷ xs) ≡ 0 = eqb-true (length (x ∷ xs)) 0 e in absurd (omega (arith, none))
+    by_test false e = refl

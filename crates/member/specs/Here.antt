@@ -9,7 +9,7 @@ use Rattle.links.specs.declared.table.Links.{Links}
 use Rattle.links.specs.Arrival.{AreLinksOf}
 use Rattle.probing.specs.ProbeOrder.{ProbeOrder, times_in, IsSoundOrder as IsSoundRota}
 use Rattle.member.specs.declared.event_kind.EventKind.{EventKind}
-use Rattle.member.specs.declared.event_kind.EventKind.TheVariants.{NackTimer, Welcome, Ping, PingReq, Ack, Gossip, Push, Pull}
+use Rattle.member.specs.declared.event_kind.EventKind.TheVariants.{Restart, ConnectedTimer, NackTimer, Welcome, Ping, PingReq, Ack, Gossip, Push, Pull}
 use Rattle.membership.specs.Table.{Known}
 use Rattle.lifeguard.specs.declared.probe.Probe.{Probe}
 use Rattle.member.specs.State.{State, is_probed}
@@ -35,19 +35,22 @@ contact-prop s m a b =
     rest-prop : (c : ℕ) → IsProp (Rest c)
     rest-prop c = hlevel props
 
--- The table is of other members of the scenario, the rota of members in the table that are not confirmed, and the probe of a member.
-pub record HoldsOthers (s : Setup) (m : ℕ) (table : Known) (rota : ProbeOrder) (probe : Option Probe) : Type 0 where
+-- The table is of other members of the scenario, the rota of members in the table that are not confirmed, and the probe of a member, who asks one.
+pub record HoldsOthers (s : Setup) (m : ℕ) (table : Known) (rota : ProbeOrder) (probe : Option Probe) (contact : Option ℕ) : Type 0 where
   pub others : (q : ℕ) → contains_key table q ≡ true → (q < member_count s) × (q ≢ m)
   pub listed : (q : ℕ) → is_probed (get table q) ≡ false → times_in rota.members q ≡ 0
   pub sound : IsSoundRota rota
   pub target : IfSome probe (λ p. p.target < member_count s)
+  pub asked : IfSome contact (λ c. c < member_count s)
 
 -- what a member of a scenario keeps of its state
 abbrev pub HoldsMembers : Setup → ℕ → State → Type 0
-HoldsMembers s m t = HoldsOthers s m t.table t.rota t.probe
+HoldsMembers s m t = HoldsOthers s m t.table t.rota t.probe t.life.contact
 
 -- the members that a content names are among the first n
 abbrev pub MentionsMembers : ℕ → EventKind → Type 0
+MentionsMembers n (Restart contact) = IfSome contact (λ c. c < n)
+MentionsMembers n (ConnectedTimer to) = to < n
 MentionsMembers n (Welcome entries) = All (λ u. u.subject < n) entries
 MentionsMembers n (Ping initiator seq updates) = (initiator < n) × All (λ u. u.subject < n) updates
 MentionsMembers n (PingReq target seq updates) = (target < n) × All (λ u. u.subject < n) updates

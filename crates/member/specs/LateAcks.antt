@@ -8,7 +8,7 @@ use Rattle.scenario.specs.Setup.{Setup}
 use Rattle.incarnation.specs.declared.Update.{Update}
 use Rattle.member.specs.declared.announce.Announce.TheVariants.{Aloud}
 use Rattle.member.specs.Effects.{Effect, on_state}
-use Rattle.member.specs.Send.{ack_sent}
+use Rattle.member.specs.Send.{ack_sent, pings_ack_sent}
 use Rattle.member.specs.Apply.{all_applied}
 use Rattle.member.specs.LoneBuddy.{plain_ping_sent}
 use Rattle.member.specs.Outcomes.{with_relay, nack_due}
@@ -16,7 +16,7 @@ use Rattle.member.specs.SingleBeat.{single_answered}
 
 -- A ping is answered, then what rides on it is applied.
 unfoldable pub ping_answered : Setup → Key → ℕ → ℕ → List Update → Effect → Effect
-ping_answered s k initiator seq updates o = all_applied s Aloud k updates (ack_sent s k k.from initiator seq o)
+ping_answered s k initiator seq updates o = all_applied s Aloud k updates (pings_ack_sent s k k.from initiator seq o)
 
 -- a helper pings the target on behalf of the initiator, and knows until the nack is due whom it helps, whether or not it sends nacks
 abbrev pub help_given : Setup → Key → ℕ → ℕ → Effect → Effect

@@ -11,8 +11,9 @@ use Rattle.incarnation.specs.declared.Update.{Update}
 use Rattle.membership.specs.Table.{is_suspect}
 use Rattle.member.specs.declared.event_kind.EventKind.TheVariants.{Ping}
 use Rattle.member.specs.State.{State}
-use Rattle.member.specs.Effects.{Effect, on_state}
-use Rattle.member.specs.Send.{sent, carried, with_picks}
+use Rattle.member.specs.Effects.{Effect}
+use Rattle.member.specs.Send.{sent, riding, without_riding}
+use Rattle.member.specs.declared.riding.Bearer.TheVariants as bearer
 
 -- what a member claims of another that it holds as suspected, at the number at which it holds it
 abbrev pub suspicion_held : ℕ → ℕ → Option (Claim × ℕ) → Option Update
@@ -25,7 +26,7 @@ lone_buddy_of s me to t = if s.lifeguard.buddy then suspicion_held me to (get t.
 
 -- A ping that bears what any message bears.
 unfoldable pub plain_ping_sent : Setup → Key → ℕ → ℕ → ℕ → Effect → Effect
-plain_ping_sent s k to initiator seq o = sent s k what.Ping to seq (Ping initiator seq (carried s None o.state)) (on_state (with_picks s None) o)
+plain_ping_sent s k to initiator seq o = sent s k what.Ping to seq (Ping initiator seq (riding s k (bearer.Ping to) o)) (without_riding s k (bearer.Ping to) o)
 
 -- a ping of one's own probe that bears this alone, where there is something: then nothing is picked
 abbrev pub ping_with_lone : Setup → Key → ℕ → ℕ → Option Update → Effect → Effect

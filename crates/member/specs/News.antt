@@ -1,6 +1,6 @@
 -- What a member makes of a claim about another that is news, and of one that repeats a suspicion (SWIM, section 4.2; Lifeguard's LHA-Suspicion).
 -- A quiet application, of an entry that a welcome brought, tells no row about others and passes no update on.
-use Rattle.std.specs.Prelude.{ℕ, ◌+◌, ◌-◌, Bool, true, false, if◌then◌else◌, Option, Some, None}
+use Rattle.std.specs.Prelude.{ℕ, ◌+◌, ◌-◌, true, false, if◌then◌else◌, Option, Some, None}
 use Rattle.std.specs.Option.{option_map}
 use Rattle.std.specs.FinMap.{insert, remove}
 use Rattle.base.specs.declared.key.Key.{Key}
@@ -8,7 +8,7 @@ use Rattle.scenario.specs.Setup.{Setup}
 use Rattle.trace.specs.declared.row.What.{What}
 use Rattle.trace.specs.declared.row.What.TheVariants as what
 use Rattle.incarnation.specs.declared.Claim.{Claim}
-use Rattle.incarnation.specs.declared.Claim.TheVariants.{Alive, Suspect, Confirm}
+use Rattle.incarnation.specs.declared.Claim.TheVariants.{Alive, Suspect, Confirm, Left, Intent}
 use Rattle.incarnation.specs.declared.Update.{Update}
 use Rattle.suspicion.specs.Settings.{terms_of}
 use Rattle.suspicion.specs.Suspicions.{HeldSuspicion, started_of, accused_of, after_accusation, answer_of}
@@ -26,6 +26,8 @@ use Rattle.scenario.specs.declared.settings.Gossip as settings
 use Rattle.membership.specs.Deaths.{confirmed_at}
 use Rattle.membership.specs.Table.{size_by}
 use Rattle.member.specs.Effects.{Effect, on_state, with_row, with_event}
+use Rattle.member.specs.Riding.{put_up}
+use Rattle.member.specs.Intents.{regards_kept}
 unfoldable pub use Rattle.member.specs.Claims.{with_claim, with_place, with_rota, with_turn, claim_kept}
 unfoldable pub use Rattle.member.specs.Newcomers.{with_newcomer, with_turn_of, newcomer_kept, claim_kept_by}
 
@@ -38,7 +40,7 @@ gossip_set s k (Some gossip) o =
 
 -- An update that is put is sent with the next messages, as news: it has been sent no times yet. Where members gossip, it is sent by itself too.
 unfoldable pub with_put : Setup → Key → Update → Effect → Effect
-with_put s k u o = gossip_set s k s.gossip (on_state (λ t. record t { buffer = insert t.buffer u.subject (u, 0) }) o)
+with_put s k u o = gossip_set s k s.gossip (on_state (put_up s s.queue u) o)
 
 -- a row about another member, unless the application is quiet
 abbrev pub with_told : Announce → Key → What → ℕ → ℕ → Effect → Effect
@@ -79,15 +81,23 @@ confirm_heard profile telling k u o =
     with_told telling k what.Confirm u.subject u.inc
     (on_state (λ t. death_kept profile u.subject k.at (without_suspicion u.subject t)) o)
 
+-- Left ends a suspicion, as Confirm does.
+unfoldable pub left_heard : Profile → Announce → Key → Update → Effect → Effect
+left_heard profile telling k u o =
+    with_told telling k what.Left u.subject u.inc
+    (on_state (λ t. death_kept profile u.subject k.at (without_suspicion u.subject t)) o)
+
 abbrev pub claim_heard : Setup → Announce → Key → Update → Claim → Effect → Effect
 claim_heard s telling k u Alive o = alive_heard telling k u o
 claim_heard s telling k u Suspect o = suspect_heard s telling k u o
 claim_heard s telling k u Confirm o = confirm_heard (profile_of s) telling k u o
+claim_heard s telling k u Left o = left_heard (profile_of s) telling k u o
+claim_heard s telling k u Intent o = o
 
 -- A claim that is news: it is kept, acted upon and passed on.
 unfoldable pub news_heard : Setup → Announce → Key → Update → Effect → Effect
 news_heard s telling k u o =
-    passed_on s k telling u (claim_heard s telling k u u.claim (on_state (claim_kept_by (profile_of s) u) o))
+    passed_on s k telling u (claim_heard s telling k u u.claim (on_state (regards_kept s.serf k.at u) (on_state (claim_kept_by (profile_of s) u) o)))
 
 -- the accusation, where it counts, is passed on, and the suspicion's timer is set again
 abbrev pub accusation_counted : Setup → Announce → Key → Update → Option Accused → Effect → Effect

@@ -1,5 +1,5 @@
 -- What becomes of a probe, one's own or one for another member, whatever the rules of memberlist's version.
-use Rattle.std.specs.Prelude.{ℕ, Bool, false, not, nat_eq, nat_lt, if◌then◌else◌, Option, Some, None}
+use Rattle.std.specs.Prelude.{ℕ, Bool, false, nat_eq, nat_lt, if◌then◌else◌, Option, Some, None}
 use Rattle.std.specs.FinMap.{get}
 use Rattle.std.specs.FinSet as set
 use Rattle.base.specs.declared.key.Key.{Key}

@@ -1,6 +1,6 @@
 -- A member's own probe by memberlist 0.5.0's rules (state.go: probe, probeNode). Its ticker holds one tick: a beat that comes while a probe
 -- is under way waits, and one that comes at the moment of that probe's deadline is the same as the one that waited. So a beat counts once.
-use Rattle.std.specs.Prelude.{ℕ, ◌+◌, ◌%◌, Bool, true, false, nat_eq, if◌then◌else◌, Option, Some, None}
+use Rattle.std.specs.Prelude.{ℕ, ◌+◌, ◌%◌, Bool, true, false, max, min, nat_eq, nat_lt, if◌then◌else◌, Option, Some, None}
 use Rattle.std.specs.Option.{option_map_or}
 use Rattle.std.specs.FinMap.{get}
 use Rattle.base.specs.Beats.{next_in_step}
@@ -12,6 +12,7 @@ use Rattle.probing.specs.ProbeOrder.{next_of}
 use Rattle.member.specs.declared.event_kind.EventKind.TheVariants.{PeriodTimer, TimeoutTimer, DeadlineTimer}
 use Rattle.member.specs.Effects.{Effect, on_state, with_number, with_event, with_timer}
 use Rattle.member.specs.Apply.{with_health}
+use Rattle.member.specs.Blocks.{departs_at}
 use Rattle.member.specs.Forgetting.{round_ended}
 use Rattle.member.specs.LoneBuddy.{probe_ping_sent}
 use Rattle.member.specs.Outcomes.{is_under_way, has_time, probe_settled}
@@ -38,9 +39,25 @@ single_probe_begun s k target o =
     let probe = timed_probe seq target (option_map_or (λ held. held.1) (get o.state.table target) 0) deadline in
     both_timers_set s k seq s.swim.timeout deadline (probe_ping_sent s k target seq (on_state (λ t. record t { sequence = seq; probe = Some probe }) o))
 
+-- a probe whose ping departs later, at the end of a block: it has failed when the block ends, or at its deadline where that is later. Then its timer is
+-- made in any case, and helpers are asked no later.
+unfoldable pub blocked_probe_begun : Setup → Key → ℕ → ℕ → Effect → Effect
+blocked_probe_begun s k target departs o =
+    let seq = o.state.sequence + 1 in
+    let deadline = max (k.at + scaled o.state.health s.swim.period) departs in
+    let probe = timed_probe seq target (option_map_or (λ held. held.1) (get o.state.table target) 0) deadline in
+    with_event s k deadline k.to (DeadlineTimer seq)
+    (with_event s k (min (departs + s.swim.timeout) deadline) k.to (TimeoutTimer seq)
+    (probe_ping_sent s k target seq (on_state (λ t. record t { sequence = seq; probe = Some probe }) o)))
+
+-- by whether the ping of a probe departs now
+abbrev pub departing_probe_begun : Setup → Key → ℕ → ℕ → Effect → Effect
+departing_probe_begun s k target departs o =
+    if nat_lt k.at departs then blocked_probe_begun s k target departs o else single_probe_begun s k target o
+
 abbrev pub single_target_probed : Setup → Key → Option ℕ → Effect → Effect
 single_target_probed s k None o = on_state (λ t. record t { probe = None }) o
-single_target_probed s k (Some target) o = single_probe_begun s k target o
+single_target_probed s k (Some target) o = departing_probe_begun s k target (departs_at s k) o
 
 -- The next target in its turn.
 unfoldable pub turn_probed : Setup → Key → Effect → Effect

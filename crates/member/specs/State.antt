@@ -10,6 +10,7 @@ use Rattle.suspicion.specs.Suspicions as suspicion
 use Rattle.incarnation.specs.declared.Claim.{Claim}
 use Rattle.membership.specs.Table.{Known, is_confirm}
 use Rattle.membership.specs.Deaths.{Since}
+use Rattle.lives.specs.Lives.{LifeState}
 use Rattle.member.specs.declared.member.Phase.{Phase}
 
 pub record State : Type 0 where
@@ -42,6 +43,8 @@ pub record State : Type 0 where
   pub suspicions : suspicion.HeldSuspicions
   -- the probes that it made for others and has not answered yet
   pub relays : RelaySet
+  -- what it keeps through one life by memberlist 0.5.0's rules
+  pub life : LifeState
   -- the words that are left of its stream
   pub words : Words
 

@@ -3,6 +3,7 @@ use Rattle.std.specs.Prelude.{map}
 use Rattle.base.specs.declared.key.Key.{Key}
 use Rattle.membership.specs.Deaths.{since_of}
 use Rattle.streams.specs.Draw.{words_of}
+use Rattle.lives.specs.Lives.{life_of}
 use Rattle.member.specs.declared.event_kind.EventKind.{EventKind}
 use Rattle.member.specs.declared.event.Effects.{Effects}
 use Rattle.member.specs.declared.event.Event.{Event}
@@ -29,6 +30,7 @@ state_of m = record {
   rota = m.rota;
   suspicions = m.suspicions;
   relays = m.relays;
+  life = life_of m.life;
   words = words_of m.stream;
 }
 

@@ -1,12 +1,11 @@
 -- What a member makes of an event, by cases on the event and the member's phase (SWIM, sections 3 and 4; Lifeguard).
-use Rattle.std.specs.Prelude.{ℕ, ◌+◌, ◌&&◌, Bool, true, false, not, max, nat_eq, nat_lt, if◌then◌else◌, List, [], map, length, filter, Option, Some, None}
-use Rattle.std.specs.List.{range_with_len}
+use Rattle.std.specs.Prelude.{ℕ, ◌+◌, ◌&&◌, Bool, true, false, not, max, nat_eq, nat_lt, if◌then◌else◌, List, [], map, length, Option, Some, None}
 use Rattle.std.specs.Option.{option_map_or}
 use Rattle.std.specs.FinMap.{get, empty, len}
 use Rattle.std.specs.FinSet as set
 use Rattle.base.specs.declared.key.Key.{Key}
 use Rattle.base.specs.World.{Machine}
-use Rattle.scenario.specs.Setup.{Setup, member_count, start_of}
+use Rattle.scenario.specs.Setup.{Setup, start_of}
 use Rattle.trace.specs.declared.row.Row.{Row}
 use Rattle.trace.specs.declared.row.What.TheVariants as what
 use Rattle.incarnation.specs.declared.Claim.{Claim}
@@ -22,71 +21,33 @@ use Rattle.base.specs.declared.profile.Profile.{Profile}
 use Rattle.base.specs.declared.profile.Profile.TheVariants.{Papers, Memberlist, Hashicorp}
 use Rattle.scenario.specs.Profile.{profile_of}
 use Rattle.scenario.specs.declared.settings.Gossip as settings
-use Rattle.streams.specs.Draw.{below_of}
 use Rattle.suspicion.specs.Suspicions.{is_due}
 use Rattle.member.specs.declared.member.Phase.{Phase}
 use Rattle.member.specs.declared.member.Phase.TheVariants.{Waiting, Joining, Running, Down}
 use Rattle.member.specs.declared.event_kind.EventKind.{EventKind}
-use Rattle.member.specs.declared.event_kind.EventKind.TheVariants.{Start, Crash, Leave, JoinTimer, PeriodTimer, TimeoutTimer, NackTimer, SuspicionTimer, Join, Welcome, Ping, PingReq, Ack, Nack, Bye, DeadlineTimer, GossipTimer, PushTimer, Call, Answer, Gossip, Push, Pull}
+use Rattle.member.specs.declared.event_kind.EventKind.TheVariants.{Start, Crash, Leave, Restart, SettingTimer, ConnectedTimer, ReconnectTimer, ExitTimer, JoinTimer, PeriodTimer, TimeoutTimer, NackTimer, SuspicionTimer, Join, Welcome, Ping, PingReq, Ack, Nack, Bye, DeadlineTimer, GossipTimer, PushTimer, Call, Answer, Gossip, Push, Pull}
 use Rattle.member.specs.declared.announce.Announce.TheVariants.{Aloud, Quietly}
-use Rattle.membership.specs.declared.candidates.Candidate.{Candidate}
-use Rattle.membership.specs.declared.candidates.Fitting.{Fitting}
-use Rattle.membership.specs.declared.candidates.Fitting.TheVariants.{AliveBut, Reachable}
-use Rattle.membership.specs.Candidates.{does_fit, candidates_of}
-use Rattle.membership.specs.Table.{is_alive, is_confirm, size_by, alive_but, all_alive}
+use Rattle.membership.specs.declared.candidates.Fitting.TheVariants.{AliveBut}
+use Rattle.membership.specs.Table.{is_alive, is_confirm, size_by, alive_but}
 use Rattle.member.specs.State.{State}
 use Rattle.member.specs.Effects.{Effect, unchanged, on_state, with_row, with_number, with_event, with_timer}
-use Rattle.member.specs.Send.{sent_to_each, ping_sent, ping_req_sent, ack_sent, join_sent, welcome_sent, bye_sent, gossip_sent, call_sent, answer_sent, push_sent, pull_sent}
-use Rattle.member.specs.FirstRounds.{first_round}
+use Rattle.member.specs.Send.{sent_to_each, ping_sent, ping_req_sent, ack_sent, join_sent, welcome_sent, bye_sent, call_sent, answer_sent, push_sent, pull_sent}
 use Rattle.member.specs.Apply.{with_health, gossip_set, applied, all_applied}
 use Rattle.member.specs.SingleBeat.{single_beaten, single_deadline_over}
 use Rattle.member.specs.LateAcks.{ping_answered, help_asked_for, single_ack_heard, help_over}
+unfoldable pub use Rattle.member.specs.Starts.{push_begun, push_begun_by, first_push_set, periods_set, first_period_set, is_first_other, first_others, began}
+unfoldable pub use Rattle.member.specs.Choices.{about_others, candidates_for, gossip_spread, downed}
+use Rattle.member.specs.Beginnings.{contact_asked, pushes_set, restarted}
+use Rattle.member.specs.DialedPushes.{dialed_push_due}
+use Rattle.member.specs.Merges.{push_merged}
+use Rattle.member.specs.Leaves.{leave_begun, leave_gone_on, exited}
+use Rattle.member.specs.Reconnects.{reconnect_due}
+use Rattle.member.specs.WholeGossip.{whole_gossip_due}
+use Rattle.member.specs.Processes.{is_of_former_life, pull_merged, restart_handled, start_handled}
 unfoldable pub use Rattle.member.specs.EvenPushes.{doublings_to, push_period, even_push_begun}
 unfoldable pub use Rattle.member.specs.Outcomes.{is_under_way, has_time, suspected_at, timed_probe_failed, probe_settled, with_relay, nack_due}
 
 -- ---- start, crash and join
-
--- The push timer: a push period and a part of the setting that chance decides after the beat.
-unfoldable pub push_begun : Setup → Key → ℕ → ℕ → Effect → Effect
-push_begun s k beat push o =
-    let drawn = below_of o.state.words push in
-    with_event s k (beat + drawn.0 + push_period push (size_by (profile_of s) o.state.table)) k.to PushTimer (on_state (λ t. record t { words = drawn.1 }) o)
-
--- the push timer, by the rules of a profile
-abbrev pub push_begun_by : Profile → Setup → Key → ℕ → ℕ → Effect → Effect
-push_begun_by Papers s k beat push o = push_begun s k beat push o
-push_begun_by Memberlist s k beat push o = push_begun s k beat push o
-push_begun_by Hashicorp s k beat push o = even_push_begun s k beat push o
-
--- the first push after a beat, where members push
-abbrev pub first_push_set : Setup → Key → ℕ → Option settings.Gossip → Effect → Effect
-first_push_set s k beat None o = o
-first_push_set s k beat (Some gossip) o = if nat_eq gossip.push 0 then o else push_begun_by (profile_of s) s k beat gossip.push o
-
--- the first period after so many ticks, at a beat, and the first push
-abbrev pub periods_set : Setup → Key → ℕ → ℕ → Effect → Effect
-periods_set s k ticks beat o = first_push_set s k beat s.gossip (with_timer s k ticks PeriodTimer (on_state (λ t. record t { beat = beat }) o))
-
--- The first period begins at a moment that chance decides, from which memberlist's rules count the others.
-unfoldable pub first_period_set : Setup → Key → Effect → Effect
-first_period_set s k o =
-    let drawn = below_of o.state.words s.swim.spread in
-    periods_set s k (1 + drawn.0) (k.at + (1 + drawn.0)) (on_state (λ t. record t { words = drawn.1 }) o)
-
--- whether a member is another one that starts at moment 0
-abbrev pub is_first_other : Setup → ℕ → ℕ → Bool
-is_first_other s m other = nat_eq (start_of s other) 0 && not (nat_eq other m)
-
--- all of these, in the order of their numbers
-unfoldable pub first_others : Setup → ℕ → List ℕ
-first_others s m = filter (is_first_other s m) (range_with_len 0 (member_count s))
-
--- A member that starts at moment 0 knows all others that do, and probes them.
-unfoldable pub began : Setup → Key → Effect → Effect
-began s k o =
-    let others = first_others s k.to in
-    first_period_set s k (on_state (first_round (profile_of s))
-    (on_state (λ t. record t { phase = Running; incarnation = 0; table = all_alive others; rota = round_over others }) o))
 
 -- A member that joins asks its contact, and asks again after a period.
 unfoldable pub join_asked : Setup → Key → Effect → Effect
@@ -110,10 +71,6 @@ crashed k o = with_row k what.Crash None 0 false (on_state (λ t. record t { pha
 unfoldable pub join_handled : Setup → Key → Effect → Effect
 join_handled s k o =
     welcome_sent s k k.from (applied s Aloud k (record { subject = k.from; claim = Alive; inc = 0; accuser = k.to }) o)
-
--- The entries of a welcome about others than oneself.
-abbrev pub about_others : ℕ → List Update → List Update
-about_others me entries = filter (λ e. not (nat_eq e.subject me)) entries
 
 -- A member that is welcomed runs. It takes over what it is sent, quietly.
 unfoldable pub joined : Setup → Key → List Update → Effect → Effect
@@ -238,10 +195,6 @@ suspicion_over s k subject o =
 
 -- ---- leaves, of the format's second version
 
--- a member that leaves is down, for good
-abbrev pub downed : State → State
-downed t = record t { phase = Down }
-
 -- A member that joins leaves. It knows nobody to whom it could send a bye.
 unfoldable pub withdrawn : Key → Effect → Effect
 withdrawn k o = on_state downed (with_row k what.Leave None 0 false o)
@@ -340,10 +293,6 @@ timed_ack_taken s k initiator seq o = if nat_eq initiator k.to then timed_answer
 unfoldable pub timed_ack_heard : Setup → Key → ℕ → ℕ → List Update → Effect → Effect
 timed_ack_heard s k initiator seq updates o = timed_ack_taken s k initiator seq (all_applied s Aloud k updates o)
 
--- those whom a member may choose for something
-abbrev pub candidates_for : Key → Fitting → State → List Candidate
-candidates_for k fitting t = candidates_of k.to (does_fit fitting t.since) t.table
-
 -- Helpers are drawn among all that are known.
 unfoldable pub sampled_help : Setup → Key → Probe → Effect → Effect
 sampled_help s k probe o =
@@ -377,12 +326,6 @@ answer_heard seq o = on_state (λ t. record t { probe = reached seq t.probe }) o
 -- nothing is left to send
 abbrev pub is_told_out : State → Bool
 is_told_out t = nat_eq (len t.buffer) 0
-
--- updates to some who are chosen
-unfoldable pub gossip_spread : Setup → Key → settings.Gossip → Effect → Effect
-gossip_spread s k gossip o =
-    let drawn = sample_of o.state.words gossip.nodes (candidates_for k (Reachable k.at gossip.dead) o.state) in
-    sent_to_each (gossip_sent s k) drawn.0 (on_state (λ t. record t { words = drawn.1 }) o)
 
 -- the timer is set again, as long as there is something to send
 abbrev pub gossip_set_again : Setup → Key → Effect → Effect
@@ -484,11 +427,45 @@ single_handled s k (Ack initiator seq updates) o = single_ack_heard s k initiato
 single_handled s k (NackTimer initiator seq) o = help_over s k initiator seq o
 single_handled s k content o = timed_handled s k content o
 
+-- What memberlist 0.5.0's and Serf's rules for processes add to that. The messages join, welcome and bye don't occur.
+unfoldable pub process_handled : Setup → Key → EventKind → Effect → Effect
+process_handled s k (Restart contact) o = restarted s k contact o
+process_handled s k Leave o = leave_begun s k o
+process_handled s k JoinTimer o = contact_asked s k o.state.life.contact o
+process_handled s k SettingTimer o = pushes_set s k s.gossip o
+process_handled s k (ConnectedTimer to) o = push_sent s k to o
+process_handled s k PushTimer o = dialed_push_due s k s.gossip o
+process_handled s k (Push entries) o = push_merged s k entries o
+process_handled s k (Pull entries) o = pull_merged s k entries o
+process_handled s k GossipTimer o = whole_gossip_due s k s.gossip o
+process_handled s k ReconnectTimer o = reconnect_due s k s.serf o
+process_handled s k ExitTimer o = exited k o
+process_handled s k Join o = o
+process_handled s k (Welcome entries) o = o
+process_handled s k Bye o = o
+process_handled s k content o = single_handled s k content o
+
+-- by the phase of a process: none is ever joining
+abbrev pub phase_handled : Phase → Setup → Key → EventKind → Effect → Effect
+phase_handled Waiting s k content o = start_handled s k content o
+phase_handled Joining s k content o = o
+phase_handled Running s k content o = leave_gone_on s k (process_handled s k content o)
+phase_handled Down s k content o = restart_handled s k content o
+
+-- An event at a process.
+unfoldable pub process_lived : Phase → Setup → Key → EventKind → Effect → Effect
+process_lived phase s k content o = if is_of_former_life k content o.state.life.birth then o else phase_handled phase s k content o
+
+-- by memberlist's rules
+abbrev pub phase_timed : Phase → Setup → Key → EventKind → Effect → Effect
+phase_timed Running s k content o = timed_handled s k content o
+phase_timed phase s k content o = handled s k content phase o
+
 -- by whose rules the members go
 abbrev pub handled_by : Phase → Profile → Setup → Key → EventKind → Effect → Effect
-handled_by Running Memberlist s k content o = timed_handled s k content o
-handled_by Running Hashicorp s k content o = single_handled s k content o
-handled_by phase profile s k content o = handled s k content phase o
+handled_by phase Papers s k content o = handled s k content phase o
+handled_by phase Memberlist s k content o = phase_timed phase s k content o
+handled_by phase Hashicorp s k content o = process_lived phase s k content o
 
 unfoldable pub step : Setup → Machine State EventKind Row
 step s k content t = handled_by t.phase (profile_of s) s k content (unchanged t)

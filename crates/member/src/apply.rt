@@ -2,8 +2,8 @@
 //! by a higher incarnation number (SWIM, section 4.2).
 ghost use Rattle.std.specs.Prelude.{◌≡◌, ◌≢◌, ◌+◌, ◌<◌, None, OnOk};
 ghost use Rattle.member.specs.Makes.{AreAboutMembers, IsMade, IsMember, KnowsMembers, Makes};
-ghost use Rattle.member.specs.Apply.{with_health, refuted, heard_dead, own_applied, is_own_death, other_applied, applied, all_applied, is_repeated, is_of_number, is_heeded};
-ghost use Rattle.member.specs.StateOf.{effect_of};
+ghost use Rattle.member.specs.Apply.{with_health, refuted, heard_dead, own_applied, is_own_death, other_applied, claim_applied, applied, all_applied, is_refuted, is_repeated, is_of_number, is_heeded};
+ghost use Rattle.member.specs.StateOf.{effect_of, state_of};
 
 use crate::announce::{Announce, is_aloud};
 use crate::event::Effects;
@@ -15,7 +15,7 @@ use base::Profile;
 use base::limits::COUNTER_LIMIT;
 use incarnation::{Claim, Update, refutes};
 use lifeguard::Health;
-use membership::{does_override, is_suspect};
+use membership::{does_override, is_intent, is_suspect};
 use trace::What;
 
 impl Member {
@@ -88,6 +88,20 @@ impl Member {
         self.write_row(effects, here, What::Dead, Some(here.key.to), number, false)
     }
 
+    /// Whether the member refutes a claim about itself: by memberlist 0.5.0's rules not where it says itself that it has left.
+    fn does_refute(&self, profile: Profile, claim: Claim, number: u64) -> bool
+        ensures { result ≡ is_refuted profile (state_of self.now) claim number }
+    {
+        match profile {
+            Profile::Papers | Profile::Memberlist => {
+                refutes(profile, self.incarnation, claim, number)
+            }
+            Profile::Hashicorp => {
+                !self.life.leaving().has_said() && refutes(profile, self.incarnation, claim, number)
+            }
+        }
+    }
+
     /// Applies a claim about oneself.
     fn apply_own(
         &mut self,
@@ -100,7 +114,7 @@ impl Member {
         ensures { Makes here.now result self.old effects.old self.new effects.new (own_applied here.now.scenario.now here.now.key claim number) }
     {
         let profile = here.scenario.profile();
-        if refutes(profile, self.incarnation, claim, number) {
+        if self.does_refute(profile, claim, number) {
             self.refute(effects, here, number)
         } else if is_own_death(profile, claim, self.heard_dead) {
             self.hear_dead(effects, here, number)
@@ -156,7 +170,7 @@ impl Member {
         }
     }
 
-    /// Applies an update: what the member makes of a claim that it hears or makes itself.
+    /// Applies an update: a claim that the member hears or makes itself, or an intent.
     #[tactic(auto, unfolding(crate::specs::Apply::applied))]
     pub(crate) fn apply(
         &mut self,
@@ -168,6 +182,25 @@ impl Member {
         requires known { KnowsMembers here.now self.old }
         requires member { IsMember here.now update.now.subject }
         ensures { Makes here.now result self.old effects.old self.new effects.new (applied here.now.scenario.now telling here.now.key update.now) }
+    {
+        if is_intent(update.claim) {
+            return self.apply_intent(effects, here, update);
+        }
+        self.apply_claim(effects, here, telling, update)
+    }
+
+    /// Applies a claim.
+    #[tactic(auto, unfolding(crate::specs::Apply::claim_applied))]
+    fn apply_claim(
+        &mut self,
+        effects: &mut Effects,
+        here: &Here,
+        telling: Announce,
+        update: &Update,
+    ) -> Result<(), StepError>
+        requires known { KnowsMembers here.now self.old }
+        requires member { IsMember here.now update.now.subject }
+        ensures { Makes here.now result self.old effects.old self.new effects.new (claim_applied here.now.scenario.now telling here.now.key update.now) }
     {
         if update.subject == here.key.to {
             return self.apply_own(effects, here, update.claim, update.inc);

@@ -2,11 +2,14 @@
 //! and calls the target.
 ghost use Rattle.std.specs.Prelude.{◌≡◌, ◌<◌};
 ghost use Rattle.links.specs.Trips.{call_of, answer_of};
+ghost use Rattle.scenario.specs.Profile.{profile_of};
+ghost use Rattle.member.specs.Blocks.{on_its_way};
 ghost use Rattle.member.specs.Makes.{Draws, IsMember, KnowsMembers, Makes};
 ghost use Rattle.member.specs.Send.{call_sent, answer_sent};
 ghost use Rattle.member.specs.Step.{called, sampled_help, helped, timed_out_timed, reached, answer_heard};
 ghost use Rattle.member.specs.StateOf.{effect_of, state_of};
 
+use crate::blocks::{departs_by, got_through_by};
 use crate::event::Effects;
 use crate::event_kind::EventKind;
 use crate::here::Here;
@@ -23,22 +26,26 @@ impl Member {
     fn call_arrival(&mut self, here: &Here, to: MemberId) -> Option<Moment>
         requires to { IsMember here.now to }
         requires known { KnowsMembers here.now self.old }
-        ensures drawn { Draws result self.old self.new (call_of here.now.scenario.now here.now.key.to to here.now.key.at (state_of self.old).words) }
+        ensures drawn { Draws result self.old self.new (on_its_way (profile_of here.now.scenario.now) here.now.scenario.now here.now.key to (call_of here.now.scenario.now here.now.key.to to) (state_of self.old).words) }
         ensures kept { KnowsMembers here.now self.new }
     {
-        here.links
-            .call(here.key.to, to, here.key.at, &mut self.stream)
+        let departs = departs_by(here);
+        let arrival = here.links.call(here.key.to, to, departs, &mut self.stream);
+        got_through_by(here, to, arrival)
     }
 
     /// When the answer to a call comes to its receiver, if it does.
     fn answer_arrival(&mut self, here: &Here, to: MemberId) -> Option<Moment>
         requires to { IsMember here.now to }
         requires known { KnowsMembers here.now self.old }
-        ensures drawn { Draws result self.old self.new (answer_of here.now.scenario.now here.now.key.to to here.now.key.at (state_of self.old).words) }
+        ensures drawn { Draws result self.old self.new (on_its_way (profile_of here.now.scenario.now) here.now.scenario.now here.now.key to (answer_of here.now.scenario.now here.now.key.to to) (state_of self.old).words) }
         ensures kept { KnowsMembers here.now self.new }
     {
-        here.links
-            .answer(here.key.to, to, here.key.at, &mut self.stream)
+        let departs = departs_by(here);
+        let arrival = here
+            .links
+            .answer(here.key.to, to, departs, &mut self.stream);
+        got_through_by(here, to, arrival)
     }
 
     /// Calls a member over a stream. Nothing rides on it.

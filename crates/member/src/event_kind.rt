@@ -12,7 +12,11 @@ pub enum EventKind {
     Crash,
     /// The member leaves.
     Leave,
-    /// The time for a welcome is up.
+    /// The member starts again, and asks this one for all that is known, if anybody (memberlist 0.5.0's rules).
+    Restart {
+        contact: Option<MemberId>,
+    },
+    /// The time for a welcome is up; or by memberlist 0.5.0's rules the time for all that the contact knows.
     JoinTimer,
     /// A protocol period begins (SWIM, section 3.1).
     PeriodTimer,
@@ -87,4 +91,14 @@ pub enum EventKind {
     Pull {
         entries: Updates,
     },
+    /// The pushes of one that has begun alone begin (memberlist 0.5.0's rules, as what follows).
+    SettingTimer,
+    /// A connection to a member is there.
+    ConnectedTimer {
+        to: MemberId,
+    },
+    /// One of those that failed is tried again (Serf's rule).
+    ReconnectTimer,
+    /// A member that has left ends.
+    ExitTimer,
 }

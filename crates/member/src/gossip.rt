@@ -13,6 +13,7 @@ use crate::event::Effects;
 use crate::event_kind::EventKind;
 use crate::here::Here;
 use crate::member::Member;
+use crate::riding::Bearer;
 use crate::step_error::StepError;
 use base::{MemberId, next_in_step};
 use membership::Fitting;
@@ -92,7 +93,7 @@ impl Member {
         requires known { KnowsMembers here.now self.old }
         ensures { Makes here.now result self.old effects.old self.new effects.new (gossip_sent here.now.scenario.now here.now.key to) }
     {
-        let updates = self.pick(here, None)?;
+        let updates = self.pick_riding(here, Bearer::Gossip)?;
         if updates.as_slice().len() == 0 {
             return Ok(());
         }
@@ -125,7 +126,7 @@ impl Member {
 
     /// Sends updates to some who are chosen.
     #[tactic(auto, unfolding(crate::specs::Step::gossip_spread))]
-    fn spread_gossip(
+    pub(crate) fn spread_gossip(
         &mut self,
         effects: &mut Effects,
         here: &Here,

@@ -70,7 +70,7 @@ impl Member {
 
     /// A member that starts at moment 0 knows all others that do, and probes them.
     #[tactic(auto, unfolding(crate::specs::Step::began))]
-    fn begin(&mut self, effects: &mut Effects, here: &Here) -> Result<(), StepError>
+    pub(crate) fn begin(&mut self, effects: &mut Effects, here: &Here) -> Result<(), StepError>
         requires { KnowsMembers here.now self.old }
         ensures { Makes here.now result self.old effects.old self.new effects.new (began here.now.scenario.now here.now.key) }
     {
@@ -176,7 +176,7 @@ impl Member {
 }
 
 // How many entries are about others than oneself.
-fn count_others(entries: &[Update], oneself: MemberId) -> u64
+pub(crate) fn count_others(entries: &[Update], oneself: MemberId) -> u64
     ensures { result ≡ length (about_others oneself entries.now) }
 {
     let others = entries.iter().filter(|entry| entry.subject != oneself);

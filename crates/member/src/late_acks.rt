@@ -28,7 +28,7 @@ impl Member {
         requires updates { AreAboutMembers here.now updates.now }
         ensures { Makes here.now result self.old effects.old self.new effects.new (ping_answered here.now.scenario.now here.now.key initiator seq updates.now) }
     {
-        self.send_ack(effects, here, here.key.from, initiator, seq)?;
+        self.send_pings_ack(effects, here, here.key.from, initiator, seq)?;
         self.apply_all(effects, here, Announce::Aloud, updates)
     }
 

@@ -9,6 +9,7 @@ use crate::event::Effects;
 use crate::event_kind::EventKind;
 use crate::here::Here;
 use crate::member::Member;
+use crate::riding::Bearer;
 use crate::step_error::StepError;
 use crate::updates::Updates;
 use base::MemberId;
@@ -44,7 +45,7 @@ impl Member {
         requires known { KnowsMembers here.now self.old }
         ensures { Makes here.now result self.old effects.old self.new effects.new (plain_ping_sent here.now.scenario.now here.now.key to initiator seq) }
     {
-        let updates = self.pick(here, None)?;
+        let updates = self.pick_riding(here, Bearer::Ping(to))?;
         let ping = EventKind::Ping {
             initiator,
             seq,

@@ -3,6 +3,7 @@ ghost use Rattle.std.specs.Prelude.{◌≤◌, ◌^◌};
 
 use base::Moment;
 use lifeguard::{Health, Probe, Relays};
+use lives::Life;
 use membership::{Deaths, Table};
 use piggyback::Buffer;
 use probing::Rota;
@@ -56,8 +57,12 @@ pub struct Member {
     pub(crate) relays: Relays,
     /// Since when it holds others to be down.
     pub(crate) deaths: Deaths,
+    /// What it keeps through one life by memberlist 0.5.0's rules.
+    pub(crate) life: Life,
     // No counter passes its limit.
     ghost number_within: { next_number ≤ 2 ^ 63 },
     ghost sequence_within: { sequence ≤ 2 ^ 63 },
     ghost incarnation_within: { incarnation ≤ 2 ^ 63 },
+    // The beat is soon after a moment of the run.
+    ghost beat_within: { beat ≤ 2 ^ 41 },
 }

@@ -5,7 +5,7 @@ ghost use Rattle.std.specs.FinMap.{get};
 ghost use Rattle.probing.specs.ProbeOrder.{remove_of};
 ghost use Rattle.scenario.specs.Profile.{profile_of};
 ghost use Rattle.member.specs.Makes.{IsMade, IsMember, KnowsMembers, Makes};
-ghost use Rattle.member.specs.Apply.{with_put, passed_on, with_told, with_claim, with_rota, with_place, claim_kept, claim_kept_by, alive_heard, suspect_heard, death_kept, confirm_heard, claim_heard, news_heard, accusation_counted, accusation_heard};
+ghost use Rattle.member.specs.Apply.{with_put, passed_on, with_told, with_claim, with_rota, with_place, claim_kept, claim_kept_by, alive_heard, suspect_heard, death_kept, confirm_heard, left_heard, claim_heard, news_heard, accusation_counted, accusation_heard};
 ghost use Rattle.membership.specs.Table.{is_alive, is_confirm};
 ghost use Rattle.member.specs.State.{is_probed};
 ghost use Rattle.member.specs.StateOf.{effect_of, state_of};
@@ -34,7 +34,7 @@ impl Member {
         requires { KnowsMembers here.now self.old }
         ensures { Makes here.now result self.old effects.old self.new effects.new (with_put here.now.scenario.now here.now.key update) }
     {
-        self.buffer.put(update)?;
+        self.put_up(here, update)?;
         self.set_gossip(effects, here)
     }
 
@@ -248,6 +248,30 @@ impl Member {
         )
     }
 
+    /// Left ends a suspicion, as Confirm does.
+    #[tactic(auto, unfolding(crate::specs::Apply::left_heard))]
+    fn hear_left(
+        &mut self,
+        effects: &mut Effects,
+        here: &Here,
+        telling: Announce,
+        update: &Update,
+    ) -> Result<(), StepError>
+        requires { KnowsMembers here.now self.old }
+        ensures { Makes here.now result self.old effects.old self.new effects.new (left_heard (profile_of here.now.scenario.now) telling here.now.key update.now) }
+    {
+        self.suspicions.clear(update.subject);
+        self.keep_death(here, update.subject)?;
+        self.tell(
+            effects,
+            here,
+            telling,
+            What::Left,
+            update.subject,
+            update.inc,
+        )
+    }
+
     /// Acts upon a claim about another member.
     fn hear_claim(
         &mut self,
@@ -263,6 +287,8 @@ impl Member {
             Claim::Alive => self.hear_alive(effects, here, telling, update),
             Claim::Suspect => self.hear_suspect(effects, here, telling, update),
             Claim::Confirm => self.hear_confirm(effects, here, telling, update),
+            Claim::Left => self.hear_left(effects, here, telling, update),
+            Claim::Intent => Ok(()),
         }
     }
 
@@ -281,6 +307,7 @@ impl Member {
         ensures { Makes here.now result self.old effects.old self.new effects.new (news_heard here.now.scenario.now telling here.now.key update.now) }
     {
         self.keep_claim_by(here, update)?;
+        self.keep_regards(here, update)?;
         self.hear_claim(effects, here, telling, update)?;
         self.pass_on(effects, here, telling, update)
     }
@@ -338,7 +365,7 @@ impl Member {
 }
 
 // Whether a member is probed that is held so: not where nothing is held of it, nor where it is confirmed.
-fn is_probed(held: Option<(Claim, u64)>) -> bool
+pub(crate) fn is_probed(held: Option<(Claim, u64)>) -> bool
     ensures { result ≡ is_probed held }
 {
     match held {

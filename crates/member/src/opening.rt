@@ -1,15 +1,17 @@
 //! The state of a member before its start: it knows nobody, and its counters, draws and health score are set up.
-ghost use Rattle.std.specs.Prelude.{◌≡◌, ◌<◌, [], IfOk};
+ghost use Rattle.std.specs.Prelude.{◌≡◌, ◌<◌, ◌≤◌, ◌^◌, [], IfOk};
 ghost use Rattle.scenario.specs.Setup.{member_count};
 ghost use Rattle.probing.specs.ProbeOrder.{round_over, IsSoundOrder};
 ghost use Rattle.member.specs.Here.{HoldsMembers};
-ghost use Rattle.member.specs.Opening.{opening_state, opening_health, first_number};
+ghost use Rattle.member.specs.Opening.{opening_state, opening_health, first_number, first_number_by};
+ghost use Rattle.scenario.specs.Profile.{profile_of};
 ghost use Rattle.member.specs.StateOf.{state_of};
 ghost use Rattle.member.specs.CounterOverflow.{IsOverflowed};
 
 use crate::member::{Member, Phase};
-use base::{MemberId, Memory, Moment};
+use base::{MemberId, Memory, Moment, Profile};
 use lifeguard::{Health, Relays};
+use lives::Life;
 use membership::{Deaths, Table};
 use piggyback::Buffer;
 use probing::Rota;
@@ -33,11 +35,24 @@ fn opening_health(scenario: &Scenario) -> Health
 /// The first number that a member uses: its start has number 0, its crash or leave, if it has one, number 1.
 fn first_number(scenario: &Scenario, member: MemberId) -> u64
     requires { member < member_count scenario.now }
-    ensures { result ≡ first_number scenario.now member }
+    ensures value { result ≡ first_number scenario.now member }
+    ensures few { result ≤ 2 }
 {
     match scenario.crash(member).or(scenario.leave(member)) {
         Some(_) => 2,
         None => 1,
+    }
+}
+
+/// The same by the rules of the profile: in version 4 of the format each event of its script has a number.
+fn first_number_by(scenario: &Scenario, member: MemberId) -> u64
+    requires { member < member_count scenario.now }
+    ensures value { result ≡ first_number_by (profile_of scenario.now) scenario.now member }
+    ensures within { result ≤ 2 ^ 63 }
+{
+    match scenario.profile() {
+        Profile::Papers | Profile::Memberlist => first_number(scenario, member),
+        Profile::Hashicorp => 1 + scenario.script(member).len() as u64,
     }
 }
 
@@ -61,7 +76,7 @@ impl Member {
     {
         Ok(Member {
             phase: Phase::Waiting,
-            next_number: first_number(scenario, member),
+            next_number: first_number_by(scenario, member),
             sequence: 0,
             incarnation: 0,
             heard_dead: false,
@@ -76,6 +91,7 @@ impl Member {
             rota: empty_rota(alloc)?,
             suspicions: Suspicions::new(alloc)?,
             relays: Relays::new(alloc)?,
+            life: Life::first(),
             stream: Stream::of(scenario.seed(), member),
         })
     }

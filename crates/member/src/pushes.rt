@@ -6,6 +6,7 @@ ghost use Rattle.scenario.specs.Profile.{profile_of};
 ghost use Rattle.membership.specs.Table.{size_by};
 ghost use Rattle.member.specs.declared.announce.Announce.TheVariants.{Aloud};
 ghost use Rattle.member.specs.Makes.{AreAboutMembers, Draws, IsMember, KnowsMembers, Makes};
+ghost use Rattle.member.specs.Blocks.{on_its_way};
 ghost use Rattle.member.specs.Effects.{with_timer};
 ghost use Rattle.member.specs.Send.{sent_to_each, push_sent, pull_sent};
 ghost use Rattle.member.specs.Apply.{applied};
@@ -13,6 +14,7 @@ ghost use Rattle.member.specs.Step.{doublings_to, push_period, push_begun, push_
 ghost use Rattle.member.specs.StateOf.{state_of};
 
 use crate::announce::Announce;
+use crate::blocks::{departs_by, got_through_by};
 use crate::event::Effects;
 use crate::event_kind::EventKind;
 use crate::here::Here;
@@ -30,16 +32,19 @@ impl Member {
     fn kept_arrival(&mut self, here: &Here, to: MemberId) -> Option<Moment>
         requires to { IsMember here.now to }
         requires known { KnowsMembers here.now self.old }
-        ensures drawn { Draws result self.old self.new (kept_arrival_of here.now.scenario.now here.now.key.to to here.now.key.at (state_of self.old).words) }
+        ensures drawn { Draws result self.old self.new (on_its_way (profile_of here.now.scenario.now) here.now.scenario.now here.now.key to (kept_arrival_of here.now.scenario.now here.now.key.to to) (state_of self.old).words) }
         ensures kept { KnowsMembers here.now self.new }
     {
-        here.links
-            .kept_arrival(here.key.to, to, here.key.at, &mut self.stream)
+        let departs = departs_by(here);
+        let arrival = here
+            .links
+            .kept_arrival(here.key.to, to, departs, &mut self.stream);
+        got_through_by(here, to, arrival)
     }
 
     /// Sends all that is known, and oneself.
     #[tactic(auto, unfolding(crate::specs::Send::push_sent, crate::specs::Send::posted))]
-    fn send_push(
+    pub(crate) fn send_push(
         &mut self,
         effects: &mut Effects,
         here: &Here,
@@ -49,7 +54,7 @@ impl Member {
         requires known { KnowsMembers here.now self.old }
         ensures { Makes here.now result self.old effects.old self.new effects.new (push_sent here.now.scenario.now here.now.key to) }
     {
-        let entries = self.whole_table(here)?;
+        let entries = self.whole_by(here)?;
         let arrival = self.kept_arrival(here, to);
         self.post(
             effects,
@@ -64,7 +69,7 @@ impl Member {
 
     /// Answers a push by the same.
     #[tactic(auto, unfolding(crate::specs::Send::pull_sent, crate::specs::Send::posted))]
-    fn send_pull(
+    pub(crate) fn send_pull(
         &mut self,
         effects: &mut Effects,
         here: &Here,
@@ -74,7 +79,7 @@ impl Member {
         requires known { KnowsMembers here.now self.old }
         ensures { Makes here.now result self.old effects.old self.new effects.new (pull_sent here.now.scenario.now here.now.key to) }
     {
-        let entries = self.whole_table(here)?;
+        let entries = self.whole_by(here)?;
         let arrival = self.kept_arrival(here, to);
         self.post(
             effects,
@@ -111,7 +116,7 @@ impl Member {
         requires short { push ≤ 2 ^ 24 }
         ensures value { result ≡ push_period push (size_by (profile_of here.now.scenario.now) self.now.table) }
         ensures some { 0 < push → 0 < result }
-        ensures soon { result ≤ 2 ^ 27 }
+        ensures soon { result ≤ 2 ^ 28 }
     {
         push * (1 + doublings_to(self.live_members(here)))
     }
@@ -290,9 +295,9 @@ fn merged_claim(me: MemberId, entry: &Update) -> Update
 
 // How many doublings bring 32 to a number of members, if it is more.
 fn doublings_to(members: u32) -> u64
-    requires { members ≤ 4096 }
+    requires { members ≤ 16384 }
     ensures value { result ≡ doublings_to members }
-    ensures few { result ≤ 7 }
+    ensures few { result ≤ 9 }
 {
     let mut reached = 32u32;
     let mut doublings = 0u64;

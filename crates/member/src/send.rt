@@ -5,17 +5,22 @@ ghost use Rattle.links.specs.Arrival.{arrival_of};
 ghost use Rattle.member.specs.Makes.{Draws, IsMade, IsMember, KnowsMembers, Makes};
 ghost use Rattle.scenario.specs.Profile.{profile_of};
 ghost use Rattle.membership.specs.Table.{size_by};
-ghost use Rattle.member.specs.Send.{whole_table, sent, sent_off, told_of, carried, with_picks, buddy_of, ping_sent, ping_req_sent, ack_sent, nack_sent, join_sent, welcome_sent, bye_sent};
+ghost use Rattle.member.specs.Send.{whole_table, sent, sent_off, told_of, carried, with_picks, buddy_of, ping_sent, ping_req_sent, ack_sent, pings_ack_sent, nack_sent, join_sent, welcome_sent, bye_sent};
+ghost use Rattle.member.specs.Blocks.{on_its_way};
+ghost use Rattle.member.specs.Wholes.{own_word, whole_by, whole_state};
 ghost use Rattle.member.specs.StateOf.{state_of};
 
+use crate::blocks::{departs_by, got_through_by};
 use crate::event::Effects;
 use crate::event_kind::EventKind;
 use crate::here::Here;
 use crate::member::Member;
+use crate::riding::Bearer;
 use crate::step_error::StepError;
 use crate::updates::Updates;
 use base::{MemberId, Moment, Profile, digits};
 use incarnation::{Claim, Update};
+use lives::Leaving;
 use membership::{Table, is_suspect};
 use trace::What;
 
@@ -25,11 +30,14 @@ impl Member {
     fn arrival(&mut self, here: &Here, to: MemberId) -> Option<Moment>
         requires to { IsMember here.now to }
         requires known { KnowsMembers here.now self.old }
-        ensures drawn { Draws result self.old self.new (arrival_of here.now.scenario.now here.now.key.to to here.now.key.at (state_of self.old).words) }
+        ensures drawn { Draws result self.old self.new (on_its_way (profile_of here.now.scenario.now) here.now.scenario.now here.now.key to (arrival_of here.now.scenario.now here.now.key.to to) (state_of self.old).words) }
         ensures kept { KnowsMembers here.now self.new }
     {
-        here.links
-            .arrival(here.key.to, to, here.key.at, &mut self.stream)
+        let departs = departs_by(here);
+        let arrival = here
+            .links
+            .arrival(here.key.to, to, departs, &mut self.stream);
+        got_through_by(here, to, arrival)
     }
 
     /// A message arrives, or is lost.
@@ -97,7 +105,7 @@ impl Member {
         requires { KnowsMembers here.now self.now }
         ensures value { result ≡ size_by (profile_of here.now.scenario.now) self.now.table }
         ensures some { 1 ≤ result }
-        ensures live_within { result ≤ 4096 }
+        ensures live_within { result ≤ 16384 }
     {
         size_of(&self.table, here.scenario.profile()) as u32
     }
@@ -189,7 +197,7 @@ impl Member {
         requires known { KnowsMembers here.now self.old }
         ensures { Makes here.now result self.old effects.old self.new effects.new (ping_req_sent here.now.scenario.now here.now.key target seq to) }
     {
-        let updates = self.pick(here, None)?;
+        let updates = self.pick_riding(here, Bearer::PingReq(target))?;
         let request = EventKind::PingReq {
             target,
             seq,
@@ -212,7 +220,30 @@ impl Member {
         requires known { KnowsMembers here.now self.old }
         ensures { Makes here.now result self.old effects.old self.new effects.new (ack_sent here.now.scenario.now here.now.key to initiator seq) }
     {
-        let updates = self.pick(here, None)?;
+        let updates = self.pick_riding(here, Bearer::Ack)?;
+        let ack = EventKind::Ack {
+            initiator,
+            seq,
+            updates,
+        };
+        self.send(effects, here, What::Ack, to, seq, ack)
+    }
+
+    /// Sends the ack to a ping, on its way to the initiator of the probe.
+    #[tactic(auto, unfolding(crate::specs::Send::pings_ack_sent))]
+    pub(crate) fn send_pings_ack(
+        &mut self,
+        effects: &mut Effects,
+        here: &Here,
+        to: MemberId,
+        initiator: MemberId,
+        seq: u64,
+    ) -> Result<(), StepError>
+        requires to { IsMember here.now to }
+        requires known { KnowsMembers here.now self.old }
+        ensures { Makes here.now result self.old effects.old self.new effects.new (pings_ack_sent here.now.scenario.now here.now.key to initiator seq) }
+    {
+        let updates = self.pick_riding(here, Bearer::PingsAck)?;
         let ack = EventKind::Ack {
             initiator,
             seq,
@@ -263,6 +294,32 @@ impl Member {
         Ok(Updates::of(entries))
     }
 
+    /// The whole table and oneself, by one's own word. Oneself stands in the table meanwhile.
+    #[tactic(auto, unfolding(crate::specs::Wholes::whole_state))]
+    fn whole_state(&mut self, here: &Here) -> Result<Updates, StepError>
+        requires { KnowsMembers here.now self.old }
+        ensures entries { IfOk result (λ entries. entries ≡ whole_state here.now.key.to (state_of self.old)) }
+        ensures state { IsMade result (state_of self.new) (state_of self.old) }
+    {
+        let oneself = (own_word(self.life.leaving()), self.incarnation);
+        self.table.set(here.key.to, oneself)?;
+        let entries = self.table.updates_by(here.alloc, here.key.to)?;
+        self.table.remove(here.key.to);
+        Ok(Updates::of(entries))
+    }
+
+    /// The whole table and oneself, by the rules of the profile.
+    pub(crate) fn whole_by(&mut self, here: &Here) -> Result<Updates, StepError>
+        requires { KnowsMembers here.now self.old }
+        ensures entries { IfOk result (λ entries. entries ≡ whole_by (profile_of here.now.scenario.now) here.now.key.to (state_of self.old)) }
+        ensures state { IsMade result (state_of self.new) (state_of self.old) }
+    {
+        match here.scenario.profile() {
+            Profile::Papers | Profile::Memberlist => self.whole_table(here),
+            Profile::Hashicorp => self.whole_state(here),
+        }
+    }
+
     /// Sends a member that joins all that one knows.
     #[tactic(auto, unfolding(crate::specs::Send::welcome_sent))]
     pub(crate) fn send_welcome(
@@ -299,6 +356,17 @@ impl Member {
         ensures { Makes here.now result self.old effects.old self.new effects.new (bye_sent here.now.scenario.now here.now.key to) }
     {
         self.send(effects, here, What::Bye, to, 0, EventKind::Bye)
+    }
+}
+
+// What a member claims of itself: that it has left, once it says so.
+fn own_word(leaving: Leaving) -> Claim
+    ensures { result ≡ own_word leaving }
+{
+    if leaving.has_said() {
+        Claim::Left
+    } else {
+        Claim::Alive
     }
 }
 

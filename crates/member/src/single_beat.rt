@@ -1,11 +1,13 @@
 //! A member's own probe by memberlist 0.5.0's rules: a beat that comes while a probe is under way waits, and is the same as
 //! the one that comes at its deadline.
-ghost use Rattle.std.specs.Prelude.{◌≡◌, ◌^◌, ◌≤◌, ◌<◌};
+ghost use Rattle.std.specs.Prelude.{◌≡◌, ◌^◌, ◌≤◌, ◌<◌, max};
+ghost use Rattle.member.specs.Blocks.{departs_at};
 ghost use Rattle.member.specs.Effects.{with_event};
 ghost use Rattle.member.specs.Makes.{IsMember, KnowsMembers, Makes};
-ghost use Rattle.member.specs.SingleBeat.{is_in_step, deadline_between_beats, both_timers_set, single_probe_begun, turn_probed, next_single_probed, next_if_waiting, next_of_beat, single_beat_taken, single_beaten, next_if_waiting_after, single_deadline_over, single_answered};
+ghost use Rattle.member.specs.SingleBeat.{is_in_step, deadline_between_beats, both_timers_set, single_probe_begun, blocked_probe_begun, departing_probe_begun, turn_probed, next_single_probed, next_if_waiting, next_of_beat, single_beat_taken, single_beaten, next_if_waiting_after, single_deadline_over, single_answered};
 ghost use Rattle.member.specs.StateOf.{state_of};
 
+use crate::blocks::departs_at;
 use crate::event::Effects;
 use crate::event_kind::EventKind;
 use crate::here::Here;
@@ -79,6 +81,57 @@ impl Member {
         self.set_both_timers(effects, here, seq, timeout, deadline)
     }
 
+    /// Probes a target whose ping departs later, at the end of a block. CounterOverflow where the sequence number stands at
+    /// its limit.
+    #[tactic(auto, unfolding(crate::specs::SingleBeat::blocked_probe_begun))]
+    fn begin_blocked_probe(
+        &mut self,
+        effects: &mut Effects,
+        here: &Here,
+        target: MemberId,
+        departs: Moment,
+    ) -> Result<(), StepError>
+        requires early { departs ≤ 2 ^ 40 }
+        requires known { KnowsMembers here.now self.old }
+        requires member { IsMember here.now target }
+        ensures { Makes here.now result self.old effects.old self.new effects.new (blocked_probe_begun here.now.scenario.now here.now.key target departs) }
+    {
+        if self.sequence >= COUNTER_LIMIT {
+            return Err(StepError::CounterOverflow);
+        }
+        let seq = self.sequence + 1;
+        let deadline = later(self.next_deadline(here), departs);
+        let number = self.table.number_of(target);
+        let probe = Probe::timed(seq, target, number, deadline);
+        self.sequence = seq;
+        self.probe = Some(probe);
+        self.send_probe_ping(effects, here, target, seq)?;
+        let timeout = departs.ticks() + here.scenario.swim().timeout;
+        let timeout = Moment(timeout.min(deadline.ticks()));
+        let timer = EventKind::TimeoutTimer { seq };
+        self.make_event(effects, here, timeout, here.key.to, timer)?;
+        let timer = EventKind::DeadlineTimer { seq };
+        self.make_event(effects, here, deadline, here.key.to, timer)
+    }
+
+    /// Probes a target, by whether its ping departs now.
+    fn begin_departing_probe(
+        &mut self,
+        effects: &mut Effects,
+        here: &Here,
+        target: MemberId,
+    ) -> Result<(), StepError>
+        requires known { KnowsMembers here.now self.old }
+        requires member { IsMember here.now target }
+        ensures { Makes here.now result self.old effects.old self.new effects.new (departing_probe_begun here.now.scenario.now here.now.key target (departs_at here.now.scenario.now here.now.key)) }
+    {
+        let departs = departs_at(here);
+        if here.key.at < departs {
+            return self.begin_blocked_probe(effects, here, target, departs);
+        }
+        self.begin_single_probe(effects, here, target)
+    }
+
     /// Ends a round that is over, and probes the next member, where there is one.
     #[tactic(auto, unfolding(crate::specs::SingleBeat::next_single_probed))]
     fn probe_next_single(&mut self, effects: &mut Effects, here: &Here) -> Result<(), StepError>
@@ -96,7 +149,7 @@ impl Member {
         ensures { Makes here.now result self.old effects.old self.new effects.new (turn_probed here.now.scenario.now here.now.key) }
     {
         match self.next_target(here) {
-            Some(target) => self.begin_single_probe(effects, here, target),
+            Some(target) => self.begin_departing_probe(effects, here, target),
             None => {
                 self.probe = None;
                 Ok(())
@@ -212,4 +265,11 @@ fn is_in_step(beat: Moment, period: u64, at: Moment) -> bool
     ensures { result ≡ is_in_step beat period at }
 {
     at.ticks() % period == beat.ticks() % period
+}
+
+// The later one of two moments.
+fn later(one: Moment, other: Moment) -> Moment
+    ensures { result ≡ max one other }
+{
+    Moment(one.ticks().max(other.ticks()))
 }

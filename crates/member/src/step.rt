@@ -8,7 +8,7 @@ ghost use Rattle.member.specs.Here.{IsSoundSetting, HoldsMembers};
 ghost use Rattle.member.specs.Makes.{KnowsMembers, Makes};
 ghost use Rattle.member.specs.Here.{MentionsMembers};
 ghost use Rattle.scenario.specs.Profile.{profile_of};
-ghost use Rattle.member.specs.Step.{step, handled_by, single_handled, timed_handled, handled, plain_handled, probing_handled};
+ghost use Rattle.member.specs.Step.{step, handled_by, phase_timed, single_handled, timed_handled, handled, plain_handled, probing_handled};
 ghost use Rattle.member.specs.Steps.{Steps};
 ghost use Rattle.member.specs.StateOf.{state_of};
 ghost use Rattle.member.specs.CounterOverflow.{IsOverflowed};
@@ -168,7 +168,7 @@ impl Member {
 
     /// A member that runs, by memberlist 0.5.0's rules: what they change.
     #[tactic(auto, unfolding(crate::specs::Step::single_handled))]
-    fn handle_single(
+    pub(crate) fn handle_single(
         &mut self,
         effects: &mut Effects,
         here: &Here,
@@ -203,9 +203,10 @@ impl Member {
         }
     }
 
-    /// A member that runs, by the rules of its profile.
+    /// By the papers' rules, and the phase of the member.
+    #[tactic(auto, unfolding(crate::specs::Step::handled, crate::specs::Step::plain_handled))]
     #[inline(always)]
-    fn handle_by_profile(
+    fn handle_by_papers(
         &mut self,
         effects: &mut Effects,
         here: &Here,
@@ -213,17 +214,38 @@ impl Member {
     ) -> Result<(), StepError>
         requires known { KnowsMembers here.now self.old }
         requires names { MentionsMembers (member_count here.now.scenario.now) content.now }
-        ensures { Makes here.now result self.old effects.old self.new effects.new (handled_by Phase.Running (profile_of here.now.scenario.now) here.now.scenario.now here.now.key content.now) }
+        ensures { Makes here.now result self.old effects.old self.new effects.new (handled here.now.scenario.now here.now.key content.now (state_of self.old).phase) }
     {
-        match here.scenario.profile() {
-            Profile::Papers => self.handle_running(effects, here, content),
-            Profile::Memberlist => self.handle_timed(effects, here, content),
-            Profile::Hashicorp => self.handle_single(effects, here, content),
+        match self.phase {
+            Phase::Waiting => self.handle_waiting(effects, here, content),
+            Phase::Joining => self.handle_joining(effects, here, content),
+            Phase::Running => self.handle_running(effects, here, content),
+            Phase::Down => Ok(()),
         }
     }
 
-    /// By the phase of the member.
+    /// By memberlist's rules, and the phase of the member.
     #[tactic(auto, unfolding(crate::specs::Step::handled, crate::specs::Step::plain_handled))]
+    #[inline(always)]
+    fn handle_by_memberlist(
+        &mut self,
+        effects: &mut Effects,
+        here: &Here,
+        content: &EventKind,
+    ) -> Result<(), StepError>
+        requires known { KnowsMembers here.now self.old }
+        requires names { MentionsMembers (member_count here.now.scenario.now) content.now }
+        ensures { Makes here.now result self.old effects.old self.new effects.new (phase_timed (state_of self.old).phase here.now.scenario.now here.now.key content.now) }
+    {
+        match self.phase {
+            Phase::Waiting => self.handle_waiting(effects, here, content),
+            Phase::Joining => self.handle_joining(effects, here, content),
+            Phase::Running => self.handle_timed(effects, here, content),
+            Phase::Down => Ok(()),
+        }
+    }
+
+    /// By the rules of the profile, and the phase of the member.
     #[inline(always)]
     fn handle(
         &mut self,
@@ -235,11 +257,10 @@ impl Member {
         requires names { MentionsMembers (member_count here.now.scenario.now) content.now }
         ensures { Makes here.now result self.old effects.old self.new effects.new (handled_by (state_of self.old).phase (profile_of here.now.scenario.now) here.now.scenario.now here.now.key content.now) }
     {
-        match self.phase {
-            Phase::Waiting => self.handle_waiting(effects, here, content),
-            Phase::Joining => self.handle_joining(effects, here, content),
-            Phase::Running => self.handle_by_profile(effects, here, content),
-            Phase::Down => Ok(()),
+        match here.scenario.profile() {
+            Profile::Papers => self.handle_by_papers(effects, here, content),
+            Profile::Memberlist => self.handle_by_memberlist(effects, here, content),
+            Profile::Hashicorp => self.live(effects, here, content),
         }
     }
 

@@ -12,7 +12,7 @@ use Rattle.base.proofs.Rising.{all_append}
 use Rattle.incarnation.specs.declared.Claim.{Claim}
 use Rattle.incarnation.specs.declared.Claim.TheVariants.{Alive}
 use Rattle.incarnation.specs.declared.Update.{Update}
-use Rattle.piggyback.specs.Picked.{Counted, HeldUpdates, counted_with, count_before, in_order, is_candidate, picked, left_by_pick}
+use Rattle.piggyback.specs.Picked.{Counted, HeldUpdates, counted_with, count_before, in_order, is_candidate, picked, waiting, left_after, left_by_pick}
 use Rattle.piggyback.proofs.Counts.{find_below_all, kept, get-left_after}
 use Rattle.piggyback.proofs.Rising.{true_from_T}
 use Rattle.membership.specs.Table.{Known, update_by, updates_by}
@@ -108,6 +108,16 @@ module _ (N : ℕ → Type 0) where
   all_left held carry limit buddy h q it here =
       left_kept (picked held carry limit buddy) limit (get held q) it (h q) (sym (get-left_after (picked held carry limit buddy) limit held q) ∙ here)
 
+  pub all_left_after : (held : HeldUpdates) (updates : List Update) (limit : ℕ) → ((q : ℕ) (it : Counted) → get held q ≡ Some it → About it)
+      → (q : ℕ) (it : Counted) → get (left_after held updates limit) q ≡ Some it → About it
+  all_left_after held updates limit h q it here = left_kept updates limit (get held q) it (h q) (sym (get-left_after updates limit held q) ∙ here)
+
+  -- all that waits
+  pub all_waiting : (held : HeldUpdates) (limit : ℕ) → ((q : ℕ) (it : Counted) → get held q ≡ Some it → About it) → AllByRecursion (λ u. N u.subject) (waiting held limit)
+  all_waiting held limit h =
+      let candidates = filter (is_candidate limit None) (values held) in
+      all_map (λ (u : Update). N u.subject) (λ (it : Counted). it.0) (in_order candidates) (all_in_order candidates (all_filter About (is_candidate limit None) (values held) (all_values held h)))
+
   put_either : (b : Bool) (v it : Counted) (rest : Option Counted) → About v → (rest ≡ Some it → About it) → cond b (Some v) rest ≡ Some it → About it
   put_either b v it rest own later is = found_either About b v it rest own later is
 
@@ -129,10 +139,14 @@ module _ (N : ℕ → Type 0) where
   known_either true me q rest e own later is = subst N (sym (eqb-true q me e)) own
   known_either false me q rest e own later is = later is
 
-  pub all_whole : (me incarnation : ℕ) (table : Known) → N me → ((q : ℕ) → contains_key table q ≡ true → N q) → AllByRecursion (λ u. N u.subject) (whole_table me incarnation table)
-  unfolding whole_table updates_by
-  all_whole me incarnation table own h =
-      all_map (λ (u : Update). N u.subject) (update_by me) (entries (insert table me (Alive, incarnation)))
-      (all_keys (entries (insert table me (Alive, incarnation)))
+  pub all_said : (me incarnation : ℕ) (word : Claim) (table : Known) → N me → ((q : ℕ) → contains_key table q ≡ true → N q) → AllByRecursion (λ u. N u.subject) (updates_by me (insert table me (word, incarnation)))
+  unfolding updates_by
+  all_said me incarnation word table own h =
+      all_map (λ (u : Update). N u.subject) (update_by me) (entries (insert table me (word, incarnation)))
+      (all_keys (entries (insert table me (word, incarnation)))
       (λ q there. known_either (eqb q me) me q (contains_key table q) refl own (h q)
-      (sym (has_put table me q (Alive, incarnation)) ∙ ap is_some (get-entries (insert table me (Alive, incarnation)) q) ∙ there)))
+      (sym (has_put table me q (word, incarnation)) ∙ ap is_some (get-entries (insert table me (word, incarnation)) q) ∙ there)))
+
+  pub all_whole : (me incarnation : ℕ) (table : Known) → N me → ((q : ℕ) → contains_key table q ≡ true → N q) → AllByRecursion (λ u. N u.subject) (whole_table me incarnation table)
+  unfolding whole_table
+  all_whole me incarnation table own h = all_said me incarnation Alive table own h

@@ -1,5 +1,5 @@
 -- An entry that is confirmed.
-use Rattle.std.proofs.Common.{◌≡◌, ℕ, Bool, true, false, cond, eqb, Some, None, refl, sym, ap, subst, ◌∙◌}
+use Rattle.std.proofs.Common.{◌≡◌, ℕ, ◌&&◌, Bool, true, false, cond, eqb, Some, None, refl, sym, ap, subst, ◌∙◌}
 use Rattle.std.proofs.lemmas.Bool.{false≢true, eqb-true}
 use Rattle.std.specs.Option.{is_some}
 use Rattle.std.specs.Ordering.{nat_cmp}
@@ -16,7 +16,7 @@ use Rattle.member.specs.declared.event_kind.EventKind.{EventKind}
 use Rattle.lifeguard.specs.Health.{LocalHealth}
 use Rattle.member.specs.declared.member.Phase.{Phase}
 use Rattle.member.specs.declared.member.Phase.TheVariants.{Waiting}
-use Rattle.membership.specs.Table.{Known}
+use Rattle.membership.specs.Table.{Known, are_claims}
 use Rattle.member.specs.State.{State}
 use Rattle.member.specs.Opening.{opening_state}
 use Rattle.member.specs.Apply.{with_claim}
@@ -35,7 +35,11 @@ Holds q i phase number health table = (get table q ≡ Some (Confirm, i)) × ¬ 
 -- nothing overrides it
 unlike : (me q i : ℕ) (t : State) (u : Update) → IsNews Papers me t u → FactOf (Holds q i) t → q ≡ u.subject → ⊥
 unlike me q i t u says h same =
-    false≢true (subst (λ held. is_news Papers (u.claim, u.inc) held ≡ true) (ap (get t.table) (sym same) ∙ h.0) says.news)
+    false≢true (sym (never (are_claims u.claim Confirm) _) ∙ subst (λ held. is_news Papers (u.claim, u.inc) held ≡ true) (ap (get t.table) (sym same) ∙ h.0) says.news)
+  where
+    never : (a c : Bool) → (a && false && c) ≡ false
+    never true c = refl
+    never false c = refl
 
 put_cases : (me q i : ℕ) (t : State) (u : Update) (b : Bool) → eqb q u.subject ≡ b → IsNews Papers me t u → FactOf (Holds q i) t
     → cond b (Some (u.claim, u.inc)) (get t.table q) ≡ Some (Confirm, i)
@@ -58,6 +62,8 @@ moves s papers k q i = record {
   forgotten = λ t who held rules here dead h. absurd (let e = sym papers ∙ rules in cc);
   began = λ t waits h. absurd (h.1 waits);
   late = λ t waits h. absurd (h.1 waits);
+  alone = λ t waits rules h. absurd (h.1 waits);
+  again = λ t contact rules h. absurd (let e = sym papers ∙ rules in cc);
 }
 
 pub opened : (s : Setup) (m q : ℕ) → get (opening_state s m).table q ≡ None

@@ -1,14 +1,13 @@
 -- What the end of a round leaves of a table.
-use Rattle.std.proofs.Common.{◌≡◌, ℕ, zero, suc, ◌+◌, ◌<◌, Bool, true, false, cond, eqb, ◌==◌, length, Option, Some, None, inl, inr, refl, sym, ap, subst, ◌∙◌, arith}
+use Rattle.std.proofs.Common.{◌≡◌, ℕ, zero, suc, ◌<◌, Bool, true, false, cond, eqb, ◌==◌, length, Option, Some, None, inl, inr, refl, sym, ap, subst, ◌∙◌, arith}
 use Rattle.std.proofs.lemmas.Bool.{false≢true, eqb-true, eq-eqb, cases_lt}
 use Rattle.std.proofs.lemmas.Option.{same_Some}
-use Rattle.std.specs.FinMap.{get, remove}
+use Rattle.std.specs.FinMap.{get}
 use Rattle.base.specs.declared.key.Key.{Key}
 use Rattle.scenario.specs.Setup.{Setup, member_count}
 use Rattle.incarnation.specs.declared.Claim.{Claim}
 use Rattle.trace.specs.declared.row.What.TheVariants as what
 use Rattle.membership.specs.Deaths.{Since}
-use Rattle.membership.specs.Table.{Known}
 use Rattle.member.specs.Effects.{Effect, on_state, with_row}
 use Rattle.member.specs.Forgetting.{kept_for, is_long_dead, without_entry, forgotten_if, all_forgotten, round_ended}
 use Rattle.member_laws.proofs.Tables.{get_left}

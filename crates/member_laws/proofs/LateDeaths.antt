@@ -1,5 +1,5 @@
 -- A suspect that is confirmed in the event of an accusation: the death is news.
-use Rattle.std.proofs.Common.{◌≡◌, ℕ, ◌≤◌, Bool, true, false, cond, ◌&&◌, Option, Some, None, refl, ap, ◌∙◌, arith}
+use Rattle.std.proofs.Common.{◌≡◌, ℕ, Bool, true, false, cond, ◌&&◌, Option, Some, None, refl, ap, ◌∙◌, arith}
 use Rattle.std.specs.Option.{IfSome}
 use Rattle.std.specs.FinMap.{get}
 use Rattle.std.proofs.lemmas.Bool.{false≢true, le-leb}
@@ -10,12 +10,15 @@ use Rattle.scenario.specs.Setup.{Setup}
 use Rattle.scenario.specs.declared.settings.Gossip as settings
 use Rattle.trace.specs.declared.row.What.{What}
 use Rattle.incarnation.specs.declared.Claim.{Claim}
-use Rattle.incarnation.specs.declared.Claim.TheVariants.{Alive, Suspect, Confirm}
+use Rattle.incarnation.specs.declared.Claim.TheVariants.{Alive, Suspect, Confirm, Left, Intent}
 use Rattle.incarnation.specs.declared.Update.{Update}
 use Rattle.membership.specs.Table.{Known, is_suspect, does_override}
 use Rattle.member.specs.declared.announce.Announce.{Announce}
 use Rattle.member.specs.declared.announce.Announce.TheVariants.{Aloud, Quietly}
-use Rattle.member.specs.Effects.{Effect, with_row, with_event}
+use Rattle.scenario.specs.declared.settings.Queue.{Queue}
+use Rattle.member.specs.State.{State}
+use Rattle.member.specs.Riding.{put_up}
+use Rattle.member.specs.Effects.{Effect, on_state, with_row, with_event}
 use Rattle.member.specs.Apply.{gossip_set, with_put, passed_on, with_told, is_of_number, is_repeated}
 use Rattle.member.specs.LoneBuddy.{suspicion_held}
 use Rattle.member_laws.proofs.Moves.{is_news}
@@ -31,9 +34,13 @@ unfolding with_event
 gossip_table s k None o = refl
 gossip_table s k (Some gossip) o = either_table o.state.gossips _ _ o.state.table refl refl
 
+put_table : (s : Setup) (queue : Option Queue) (u : Update) (t : State) → (put_up s queue u t).table ≡ t.table
+put_table s None u t = refl
+put_table s (Some q) u t = refl
+
 passed_table : (s : Setup) (k : Key) (telling : Announce) (u : Update) (o : Effect) → (passed_on s k telling u o).state.table ≡ o.state.table
 unfolding passed_on with_put
-passed_table s k Aloud u o = gossip_table s k s.gossip _
+passed_table s k Aloud u o = gossip_table s k s.gossip (on_state (put_up s s.queue u) o) ∙ put_table s s.queue u o.state
 passed_table s k Quietly u o = refl
 
 told_table : (telling : Announce) (k : Key) (tells : What) (subject value : ℕ) (o : Effect) → (with_told telling k tells subject value o).state.table ≡ o.state.table
@@ -59,6 +66,8 @@ death_overrides Papers Suspect number h = refl
 death_overrides Memberlist Suspect number h = le-leb number number (omega arith)
 death_overrides Hashicorp Suspect number h = le-leb number number (omega arith)
 death_overrides profile Confirm number h = absurd (false≢true h)
+death_overrides profile Left number h = absurd (false≢true h)
+death_overrides profile Intent number h = absurd (false≢true h)
 
 -- so it is news after the accusation was passed on
 pub death_after : (s : Setup) (profile : Profile) (k : Key) (telling : Announce) (tells : What) (u : Update) (held : Claim × ℕ) (value : ℕ) (o : Effect)

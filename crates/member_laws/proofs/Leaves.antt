@@ -13,7 +13,7 @@ use Rattle.trace.specs.declared.row.Row.{Row}
 use Rattle.trace.specs.declared.row.What.{What}
 use Rattle.trace.specs.declared.row.What.TheVariants as what
 use Rattle.lifeguard.specs.Health.{LocalHealth}
-use Rattle.base.specs.declared.profile.Profile.TheVariants.{Papers}
+use Rattle.base.specs.declared.profile.Profile.TheVariants.{Papers, Memberlist, Hashicorp}
 use Rattle.scenario.specs.Profile.{profile_of}
 use Rattle.member.specs.declared.member.Phase.{Phase}
 use Rattle.member.specs.declared.member.Phase.TheVariants.{Waiting, Joining, Running, Down}
@@ -22,7 +22,17 @@ use Rattle.member.specs.declared.event_kind.EventKind.TheVariants.{Crash, Leave,
 use Rattle.membership.specs.Table.{Known}
 use Rattle.member.specs.State.{State}
 use Rattle.member.specs.Effects.{Effect, unchanged, with_row, with_event}
-use Rattle.member.specs.Opening.{opening, numbers, ending_event, script_of}
+use Rattle.std.proofs.Common.{◌+◌, ◌++◌, map}
+use Rattle.std.specs.Option.{IfSome}
+use Rattle.base.specs.declared.profile.Profile.{Profile}
+use Rattle.scenario.specs.Setup as setup
+use Rattle.scenario.specs.Setup.{entries_of}
+use Rattle.scenario.specs.Script.{crash_event, leave_event, restart_event}
+use Rattle.scenario.specs.declared.settings.Crash.{Crash as ACrash}
+use Rattle.scenario.specs.declared.settings.Restart.{Restart as ARestart}
+use Rattle.scenario.specs.declared.script.ScriptEvent.{ScriptEvent}
+use Rattle.member_laws.proofs.Scripts.{events_so}
+use Rattle.member.specs.Opening.{opening, numbers, ending_event, content_of, numbered_from, script_by}
 use Rattle.member.specs.Step.{plain_handled, handled, handled_by, plain_step, step}
 use Rattle.member_laws.specs.Runs.{Cluster, IsRunOf, IsPlainRunOf, IsReached}
 use Rattle.member_laws.proofs.Moves.{NewsMoves, OwnMoves, FactOf, keeps_news, keeps_moves, Anyone}
@@ -105,6 +115,8 @@ module _ (s : Setup) (k : Key) where
     forgotten = λ t q held rules here dead h. tt;
     began = λ t waits h. tt;
     late = λ t waits h. tt;
+    alone = λ t waits rules h. tt;
+    again = λ t contact rules h. tt;
   }
 
   makes : Makes s k Anyone ⊥ AnyRow AnyTime AllStay
@@ -120,7 +132,7 @@ module _ (s : Setup) (k : Key) where
   stays_step : (c : EventKind) (t : State) → Stays c → AllByRecursion (λ e. Stays e.1) (step s k c t).events
   stays_step c t stays =
       by_step s k Anyone (FactOf Whatever) news (keeps_moves s k Whatever own_moves) ⊥ AnyRow (any_row s (FactOf Whatever) ⊥) (carries_anyone s k (FactOf Whatever))
-      AnyTime (any_time s k (FactOf Whatever)) AllStay makes c t tt stays (λ _. tt) (λ _. tt) (λ _. tt) tt
+      AnyTime (any_time s k (FactOf Whatever)) AllStay makes c t tt stays (λ _. tt) (λ _. tt) (λ _. tt) (λ _ _. tt) tt
 
   tells : Makes s k Anyone ⊥ TellsOfNone AnyTime AllTellOfNone
   unfolding with_row with_event
@@ -135,7 +147,7 @@ module _ (s : Setup) (k : Key) where
   tells_step : (c : EventKind) (t : State) → Stays c → AllByRecursion (λ row. TellsOfNone row.what) (step s k c t).rows
   tells_step c t stays =
       by_step s k Anyone (FactOf Whatever) news (keeps_moves s k Whatever own_moves) ⊥ TellsOfNone (may_tell s) (carries_anyone s k (FactOf Whatever))
-      AnyTime (any_time s k (FactOf Whatever)) AllTellOfNone tells c t tt stays (λ _. tt) (λ _. tt) (λ _. tt) tt
+      AnyTime (any_time s k (FactOf Whatever)) AllTellOfNone tells c t tt stays (λ _. tt) (λ _. tt) (λ _. tt) (λ _ _. tt) tt
 
 -- ---- the opening world
 
@@ -146,16 +158,44 @@ crash_stays : (m : ℕ) (crash : Option ℕ) → AllByRecursion {X = Key × Even
 crash_stays m None = tt
 crash_stays m (Some at) = (tt, tt)
 
-script_stays : (s : Setup) (m : ℕ) → s.leaves ≡ [] → AllByRecursion {X = Key × EventKind} (λ e. Stays e.1) (script_of s m)
-script_stays s m none = (
-  tt,
-  all_append (λ e. Stays e.1) (ending_event Crash m (crash_of s m)) (ending_event Leave m (leave_of s m)) (crash_stays m (crash_of s m))
-      (subst (λ (o : Option ℕ). AllByRecursion {X = Key × EventKind} (λ e. Stays e.1) (ending_event Leave m o)) (sym (nobody_leaves s m none)) tt),
-)
+endings_stay : (s : Setup) (m : ℕ) → s.leaves ≡ [] → AllByRecursion {X = Key × EventKind} (λ e. Stays e.1) (ending_event Crash m (crash_of s m) ++ ending_event Leave m (leave_of s m))
+endings_stay s m none =
+    all_append (λ e. Stays e.1) (ending_event Crash m (crash_of s m)) (ending_event Leave m (leave_of s m)) (crash_stays m (crash_of s m))
+    (subst (λ (o : Option ℕ). AllByRecursion {X = Key × EventKind} (λ e. Stays e.1) (ending_event Leave m o)) (sym (nobody_leaves s m none)) tt)
 
-scripts_stay : (s : Setup) → s.leaves ≡ [] → (ms : List ℕ) → AllByRecursion {X = Key × EventKind} (λ e. Stays e.1) (flat_map (script_of s) ms)
+-- an event of the script that is no leave
+abbrev IsNoLeave : ScriptEvent → Type 0
+IsNoLeave e = Stays (content_of e.kind)
+
+some_anyone : (o : Option ℕ) → IfSome o Anyone
+some_anyone None = tt
+some_anyone (Some m) = tt
+
+crashes_stay : (cs : List ACrash) → AllByRecursion IsNoLeave (map crash_event cs)
+crashes_stay [] = tt
+crashes_stay (c ∷ cs) = (tt, crashes_stay cs)
+
+restarts_stay : (rs : List ARestart) → AllByRecursion IsNoLeave (map restart_event rs)
+restarts_stay [] = tt
+restarts_stay (r ∷ rs) = (some_anyone r.contact, restarts_stay rs)
+
+entries_stay : (s : Setup) → s.leaves ≡ [] → AllByRecursion IsNoLeave (entries_of s)
+entries_stay s none =
+    all_append IsNoLeave (map crash_event s.crashes) (map leave_event s.leaves ++ map restart_event s.restarts) (crashes_stay s.crashes)
+    (subst (λ (ls : List Departure). AllByRecursion IsNoLeave (map leave_event ls ++ map restart_event s.restarts)) (sym none) (restarts_stay s.restarts))
+
+numbered_stay : (m number : ℕ) (es : List ScriptEvent) → AllByRecursion (λ (e : ScriptEvent). (e.member ≡ m) × IsNoLeave e) es → AllByRecursion {X = Key × EventKind} (λ e. Stays e.1) (numbered_from m number es)
+numbered_stay m number [] h = tt
+numbered_stay m number (e ∷ es) h = (h.0.1, numbered_stay m (number + 1) es h.1)
+
+script_stays : (profile : Profile) (s : Setup) (m : ℕ) → s.leaves ≡ [] → AllByRecursion {X = Key × EventKind} (λ e. Stays e.1) (script_by profile s m)
+script_stays Papers s m none = (tt, endings_stay s m none)
+script_stays Memberlist s m none = (tt, endings_stay s m none)
+script_stays Hashicorp s m none = (tt, numbered_stay m 1 (setup.script_of s m) (events_so IsNoLeave s (entries_stay s none) m))
+
+scripts_stay : (s : Setup) → s.leaves ≡ [] → (ms : List ℕ) → AllByRecursion {X = Key × EventKind} (λ e. Stays e.1) (flat_map (script_by (profile_of s) s) ms)
 scripts_stay s none [] = tt
-scripts_stay s none (m ∷ ms) = all_append (λ e. Stays e.1) (script_of s m) (flat_map (script_of s) ms) (script_stays s m none) (scripts_stay s none ms)
+scripts_stay s none (m ∷ ms) = all_append (λ e. Stays e.1) (script_by (profile_of s) s m) (flat_map (script_by (profile_of s) s) ms) (script_stays (profile_of s) s m none) (scripts_stay s none ms)
 
 -- ---- runs
 
@@ -203,7 +243,7 @@ module _ (s : Setup) (none : s.leaves ≡ []) where
   plain_keeps papers k c t in_time stays any = (tt, subst (λ (o : Effect). AllByRecursion (λ e. StaysAt e.0 e.1) o.events) (alike papers k c t stays) (stays_step s k c t stays))
 
   opened : IsKept (step s) AnyState StaysAt s.end keeps (opening s)
-  opened = record { members = λ m t here. tt; events = all_with_events StaysAt (flat_map (script_of s) (numbers s)) empty (none_pending StaysAt) (scripts_stay s none (numbers s)) }
+  opened = record { members = λ m t here. tt; events = all_with_events StaysAt (flat_map (script_by (profile_of s) s) (numbers s)) empty (none_pending StaysAt) (scripts_stay s none (numbers s)) }
 
   plain_opened : (papers : profile_of s ≡ Papers) → IsKept (plain_step s) AnyState StaysAt s.end (plain_keeps papers) (opening s)
   plain_opened papers = record { members = λ m t here. tt; events = opened.events }

@@ -1,7 +1,10 @@
 pub mod Moves
 pub mod LateDeaths
 pub mod Rests
+pub mod Queued
+pub mod Scripts
 pub mod Walk
+pub mod Lives
 pub mod Silence
 pub mod Numbers
 pub mod Confirms
@@ -22,3 +25,4 @@ pub mod Deadlines
 pub mod Opened
 pub mod Leaves
 pub mod Whole
+pub mod Settles

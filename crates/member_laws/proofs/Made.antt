@@ -1,9 +1,9 @@
 -- The events and rows of which each step makes its own: what each of them keeps of an effect, every step keeps.
 use Rattle.std.specs.List.{AllByRecursion}
 use Rattle.streams.proofs.PlaceLemmas.{shuffle_rest, below_rest}
-use Rattle.std.proofs.Common.{◌≡◌, ℕ, zero, suc, ◌+◌, ◌==◌, Bool, true, false, cond, not, max, nat_eq, nat_lt, ◌-◌, ◌&&◌, List, [], ◌∷◌, map, length, Option, Some, None, option_map, refl, sym, ap, ◌∙◌, arith}
+use Rattle.std.proofs.Common.{subst, ◌≡◌, ℕ, zero, suc, ◌+◌, ◌==◌, Bool, true, false, cond, not, max, nat_eq, nat_lt, ◌-◌, ◌&&◌, List, [], ◌∷◌, map, length, Option, Some, None, option_map, refl, sym, ap, ◌∙◌, arith}
 use Rattle.std.specs.Option.{is_none, option_map_or, IfSome}
-use Rattle.std.specs.FinMap.{get, insert}
+use Rattle.std.specs.FinMap.{get}
 use Rattle.std.specs.FinSet as set
 use Rattle.std.proofs.lemmas.Bool.{eqb-false, false≢true}
 use Rattle.base.specs.declared.key.Key.{Key}
@@ -14,7 +14,7 @@ use Rattle.streams.specs.Draw.{Words, below_of, IsRestOf}
 use Rattle.links.specs.Arrival.{arrival_of}
 use Rattle.links.specs.Trips.{call_of, answer_of, kept_arrival_of}
 use Rattle.incarnation.specs.declared.Claim.{Claim}
-use Rattle.incarnation.specs.declared.Claim.TheVariants.{Alive, Suspect, Confirm}
+use Rattle.incarnation.specs.declared.Claim.TheVariants.{Alive, Suspect, Confirm, Left, Intent}
 use Rattle.incarnation.specs.declared.Update.{Update}
 use Rattle.lifeguard.specs.declared.probe.Probe.{Probe}
 use Rattle.lifeguard.specs.Health.{LocalHealth, lowered, raised, scaled}
@@ -27,7 +27,7 @@ use Rattle.suspicion.specs.Times.{timeout}
 use Rattle.member.specs.declared.member.Phase.{Phase}
 use Rattle.member.specs.declared.member.Phase.TheVariants.{Waiting, Joining, Running, Down}
 use Rattle.member.specs.declared.event_kind.EventKind.{EventKind}
-use Rattle.member.specs.declared.event_kind.EventKind.TheVariants.{Start, Crash, Leave, JoinTimer, PeriodTimer, TimeoutTimer, NackTimer, SuspicionTimer, Join, Welcome, Ping, PingReq, Ack, Nack, Bye, DeadlineTimer, GossipTimer, PushTimer, Call, Answer, Gossip, Push, Pull}
+use Rattle.member.specs.declared.event_kind.EventKind.TheVariants.{Start, Crash, Leave, Restart, JoinTimer, PeriodTimer, TimeoutTimer, NackTimer, SuspicionTimer, Join, Welcome, Ping, PingReq, Ack, Nack, Bye, DeadlineTimer, GossipTimer, PushTimer, Call, Answer, Gossip, Push, Pull, SettingTimer, ConnectedTimer, ReconnectTimer, ExitTimer}
 use Rattle.member.specs.declared.announce.Announce.{Announce}
 use Rattle.member.specs.declared.announce.Announce.TheVariants.{Aloud, Quietly}
 use Rattle.member.specs.Announce.{is_aloud}
@@ -41,10 +41,10 @@ use Rattle.incarnation.specs.Refutations.{does_refute}
 use Rattle.membership.specs.declared.candidates.Fitting.{Fitting}
 use Rattle.membership.specs.declared.candidates.Fitting.TheVariants.{AliveBut, Reachable}
 use Rattle.probing.specs.Samples.{sample_of}
-use Rattle.membership.specs.Table.{is_confirm, does_override, size_by, alive_but}
-use Rattle.member.specs.Send.{whole_table, carried, sent_off, posted, sent, gossip_sent, call_sent, answer_sent, push_sent, pull_sent, sent_to_each, with_picks, buddy_of, ping_sent, ping_req_sent, ack_sent, nack_sent, join_sent_to, join_sent, welcome_sent, bye_sent}
+use Rattle.membership.specs.Table.{is_confirm, is_intent, does_override, size_by, live_count, alive_but}
+use Rattle.member.specs.Send.{whole_table, carried, sent_off, posted, sent, without_riding, news_sent, gossip_sent, call_sent, answer_sent, push_sent, pull_sent, sent_to_each, with_picks, buddy_of, ping_sent, ping_req_sent, ack_sent, pings_ack_sent, nack_sent, join_sent_to, join_sent, welcome_sent, bye_sent}
 use Rattle.member.specs.Effects.{Effect, unchanged, on_state, with_row, with_number, with_event, with_timer}
-use Rattle.member.specs.Apply.{gossip_set, with_put, with_health, with_told, passed_on, own_claim, refuted, heard_dead, is_own_death, own_applied, suspicion_begun, claim_kept_by, without_suspicion, alive_heard, suspect_heard, death_kept, confirm_heard, claim_heard, news_heard, accusation_counted, accusation_heard, is_repeated, is_heeded, other_applied, applied, all_applied}
+use Rattle.member.specs.Apply.{gossip_set, with_put, with_health, with_told, passed_on, own_claim, refuted, heard_dead, is_own_death, is_refuted, own_applied, claim_kept_by, without_suspicion, alive_heard, suspect_heard, death_kept, confirm_heard, left_heard, claim_heard, news_heard, accusation_counted, accusation_heard, is_repeated, is_heeded, other_applied, claim_applied, intent_applied, applied, all_applied}
 use Rattle.member.specs.Forgetting.{without_entry, kept_for, is_long_dead, forgotten_if, all_forgotten, round_ended}
 use Rattle.member.specs.FirstRounds.{first_round}
 use Rattle.member.specs.Step.{push_begun, even_push_begun, push_begun_by, first_push_set, push_period, suspected_at, timed_probe_failed, probe_settled, needs_timer, timed_probe_begun, timed_target_probed, next_timed_probed, waiting_probed, has_time, probed_in_turn, period_beaten, is_under_way, deadline_over, timed_answered, timed_ack_heard, candidates_for, sampled_help, helped, called, timed_out_timed, answer_heard, is_told_out, gossip_spread, gossip_round, gossip_due, merged_claim, merged, pushed, push_due, push_heard, timed_handled, handled_by, about_others, first_period_set, began, join_asked, joining_begun, started, crashed, join_handled, joined, suspected, probe_failed, probe_ended, probe_begun, target_probed, next_probed, period_begun, with_expected, help_asked, timed_out, nack_heard, answered, ping_heard, with_relay, ping_req_heard, ack_taken, ack_heard, nack_due, confirmed, suspicion_over, withdrawn, byes_said, departed, plain_handled, handled, step}
@@ -53,14 +53,34 @@ use Rattle.suspicion.specs.declared.suspicions.Accused.{Accused}
 use Rattle.membership.specs.Table.{is_suspect}
 use Rattle.member.specs.LateAccusations.{death_of, accused_confirmed, accusation_answered, prompt_accusation_heard, accusation_by}
 use Rattle.member.specs.LoneBuddy.{lone_buddy_of, plain_ping_sent, ping_with_lone, probe_ping_sent}
-use Rattle.member.specs.SingleBeat.{single_probe_begun, single_target_probed, turn_probed, next_single_probed, next_if_waiting, single_beat_taken, single_beaten, single_deadline_over, single_answered}
+use Rattle.member.specs.SingleBeat.{single_probe_begun, blocked_probe_begun, single_target_probed, turn_probed, next_single_probed, next_if_waiting, single_beat_taken, single_beaten, single_deadline_over, single_answered}
 use Rattle.member.specs.LateAcks.{ping_answered, help_given, help_asked_for, ack_passed_on, single_ack_taken, single_ack_heard, help_over}
-use Rattle.member.specs.Step.{single_handled}
-use Rattle.member_laws.specs.Words.{has_relays, keeps_relays}
+use Rattle.member.specs.Step.{single_handled, process_handled, phase_handled, process_lived}
+use Rattle.std.specs.Prelude.{min, slice_index}
+use Rattle.std.specs.Option.{is_some}
+use Rattle.std.specs.FinMap.{contains_key}
+use Rattle.scenario.specs.declared.settings.Serf.{Serf}
+use Rattle.scenario.specs.declared.settings.Queue.{Queue}
+use Rattle.lives.specs.Lives.{does_stay, does_intend, does_say}
+use Rattle.lives.specs.Regards.{Regards, failed_among, reaped}
+use Rattle.lives.specs.declared.leaving.Leaving.TheVariants.{Says}
+use Rattle.member.specs.Blocks.{departs_at, on_its_way}
+use Rattle.member.specs.Wholes.{whole_by}
+use Rattle.member.specs.Riding.{riding_by, without_riding_by, without_claims, without_both, room_of, put_up, is_claim_held, is_all_told}
+use Rattle.member.specs.Intents.{is_known_intent, regards_kept}
+use Rattle.member.specs.Connections.{with_words, dial_drawn, dial_done, dialed, push_dialed}
+use Rattle.member.specs.Beginnings.{contact_dialed, contact_asked, is_asked, contact_reached, setting_set, reconnect_set, own_beats_set, alone_begun, pushes_set, founders_reconnect_set, founder_begun, latecomer_begun, process_started, reborn, restarted}
+use Rattle.member.specs.DialedPushes.{push_opened, push_opened_to, dialed_push, dialed_push_due}
+use Rattle.member.specs.Merges.{leave_noted, is_left_and_not_up, entry_claim, entry_merged, table_merged, push_merged}
+use Rattle.member.specs.Leaves.{is_anybody_up, with_leaving, own_left, linger_of, lingered, left_said, leave_told, leave_begun, intent_sent, left_sent, is_running, leave_gone_on, exited}
+use Rattle.member.specs.Reconnects.{failures_reaped, next_try_set, failed_dialed, one_dialed, any_tried, reconnect_due}
+use Rattle.member.specs.WholeGossip.{next_round_set, round_set_again, whole_gossip_due}
+use Rattle.member.specs.Processes.{is_of_former_life, start_handled, restart_handled}
+use Rattle.member_laws.specs.Words.{keeps_relays}
 use Rattle.member_laws.proofs.LateDeaths.{repeated_suspect, death_after, lone_about}
-use Rattle.member_laws.proofs.Moves.{IsNews, NewsMoves, Moves, at_once, at_late, kept_either, death_either}
+use Rattle.member_laws.proofs.Moves.{IsNews, NewsMoves, Moves, at_once, at_late, at_alone, kept_either, death_either, regards_either, put_either, refuted_does}
 use Rattle.member_laws.proofs.Rests.{sample_rest}
-use Rattle.member_laws.proofs.Walk.{always_relays, on_told, on_passed, on_first_round, on_forgotten, on_round_ended, on_help_given, on_single_ack_taken, on_ack, AllNamed, on_row, on_health, on_applied, on_all, on_ended, on_next, on_ping, on_ping_req, on_bye, on_gossip, on_push_sent, on_pull, on_event, on_timer, on_weighed, on_settled, on_helped, merged_named, no_target, NamesOnly, one_target}
+use Rattle.member_laws.proofs.Walk.{always_relays, on_told, on_passed, on_first_round, on_forgotten, on_round_ended, on_help_given, on_single_ack_taken, on_pings_ack, on_riding, on_contact_reached, on_setting_set, on_reconnect_set, on_own_beats, on_began, on_entry_merged, entry_named, claimed, claimed_suspect, AllNamed, on_row, on_health, on_applied, on_all, on_ended, on_next, on_ping, on_ping_req, on_bye, on_gossip, on_push_sent, on_pull, on_event, on_timer, on_weighed, on_settled, on_helped, merged_named, no_target, NamesOnly, one_target}
 
 -- ---- the parts
 
@@ -97,19 +117,21 @@ pub record MayTell (s : Setup) (R : State → Type 0) (SomeLeave : Type 0) (Tell
 
 -- the updates that messages take along are about those who are named, in such states
 pub record Carries (s : Setup) (k : Key) (Named : ℕ → Type 0) (R : State → Type 0) : Type 0 where
-  pub plain : (t : State) → R t → AllNamed Named (carried s None t)
+  pub plain : (t : State) (bearer : _) → R t → AllNamed Named (riding_by (profile_of s) s k.to bearer t)
   pub ping : (t : State) (to : ℕ) → R t → AllNamed Named (carried s (buddy_of s to t) t)
   pub contact : (c : ℕ) → contact_of s k.to ≡ Some c → Named c
   pub helpers : (t : State) (but count : ℕ) → R t → AllByRecursion Named (helpers_of t.words count (alive_but but t.table)).0
   pub sample : (t : State) (fitting : Fitting) (count : ℕ) → R t → AllByRecursion Named (sample_of t.words count (candidates_for k fitting t)).0
   pub whole : (t : State) → R t → AllNamed Named (whole_table k.to t.incarnation t.table)
+  pub known : (t : State) → R t → AllNamed Named (whole_by (profile_of s) k.to t)
+  pub failed : (t : State) (m place : ℕ) (failed : List ℕ) → R t → failed_among (member_count s) t.life.regards ≡ m ∷ failed → Named (slice_index (m ∷ failed) place)
 
 -- when the events come that are made in such states
 pub record Times (s : Setup) (k : Key) (Timed : ℕ → Type 0) (R : State → Type 0) : Type 0 where
-  pub arrival : (t : State) (to at : ℕ) → R t → (arrival_of s k.to to k.at t.words).0 ≡ Some at → Timed at
-  pub call : (t : State) (to at : ℕ) → R t → (call_of s k.to to k.at t.words).0 ≡ Some at → Timed at
-  pub answer : (t : State) (to at : ℕ) → R t → (answer_of s k.to to k.at t.words).0 ≡ Some at → Timed at
-  pub stream : (t : State) (to at : ℕ) → R t → (kept_arrival_of s k.to to k.at t.words).0 ≡ Some at → Timed at
+  pub arrival : (t : State) (to at : ℕ) → R t → (on_its_way (profile_of s) s k to (arrival_of s k.to to) t.words).0 ≡ Some at → Timed at
+  pub call : (t : State) (to at : ℕ) → R t → (on_its_way (profile_of s) s k to (call_of s k.to to) t.words).0 ≡ Some at → Timed at
+  pub answer : (t : State) (to at : ℕ) → R t → (on_its_way (profile_of s) s k to (answer_of s k.to to) t.words).0 ≡ Some at → Timed at
+  pub stream : (t : State) (to at : ℕ) → R t → (on_its_way (profile_of s) s k to (kept_arrival_of s k.to to) t.words).0 ≡ Some at → Timed at
   pub join_timer : Timed (k.at + s.swim.period)
   pub first_period : (t : State) → R t → Timed (k.at + (1 + (below_of t.words s.swim.spread).0))
   pub period_timer : (t : State) → R t → Timed (k.at + scaled t.health s.swim.period)
@@ -123,6 +145,18 @@ pub record Times (s : Setup) (k : Key) (Timed : ℕ → Type 0) (R : State → T
   pub nack_timer : Timed (k.at + nack_delay_of s.lifeguard.nack_percent s.swim.timeout)
   pub suspicion_timer : (t : State) → R t → Timed (k.at + timeout (terms_of s) (size_by (profile_of s) t.table) 0)
   pub accusation_timer : (t : State) (u : Update) (x : HeldSuspicion) → R t → accused_of t.suspicions u.subject u.accuser t.next_number ≡ Some x → Timed (due_of x k.at)
+  -- by memberlist 0.5.0's rules
+  pub dial : (t : State) (to at : ℕ) → R t → (dial_drawn s k to t).0 ≡ Some at → Timed at
+  pub retry : (t : State) (to : ℕ) → R t → Timed (dial_done s k (dial_drawn s k to t).0 + s.dial.retry)
+  pub next_push : (gossip : settings.Gossip) → s.gossip ≡ Some gossip → (t v : State) (to : ℕ) → R t → R v → Timed (dial_done s k (dial_drawn s k to t).0 + push_period gossip.push (size_by (profile_of s) v.table))
+  pub next_try : (serf : Serf) → s.serf ≡ Some serf → (t : State) (to : ℕ) → R t → Timed (dial_done s k (dial_drawn s k to t).0 + serf.reconnect)
+  pub try_timer : (serf : Serf) → s.serf ≡ Some serf → Timed (k.at + serf.reconnect)
+  pub founders_try : (serf : Serf) → s.serf ≡ Some serf → (t v : State) → R t → R v → Timed (k.at + (1 + (below_of t.words s.swim.spread).0) + (below_of v.words serf.reconnect).0)
+  pub setting_timer : (gossip : settings.Gossip) → s.gossip ≡ Some gossip → nat_eq gossip.push 0 ≡ false → (t : State) → R t → Timed (k.at + (1 + (below_of t.words gossip.push).0))
+  pub exit_timer : Timed (k.at + linger_of s.serf)
+  pub next_round : (gossip : settings.Gossip) → s.gossip ≡ Some gossip → (beat : ℕ) → Timed (next_in_step beat gossip.interval (departs_at s k))
+  pub blocked_deadline : (t : State) → R t → Timed (max (k.at + scaled t.health s.swim.period) (departs_at s k))
+  pub blocked_timeout : (t : State) → R t → Timed (min (departs_at s k + s.swim.timeout) (max (k.at + scaled t.health s.swim.period) (departs_at s k)))
 
 -- no moment is left out
 abbrev pub AnyTime : ℕ → Type 0
@@ -147,6 +181,17 @@ any_time s k R = record {
   nack_timer = tt;
   suspicion_timer = λ t r. tt;
   accusation_timer = λ t u x r is. tt;
+  dial = λ t to at r is. tt;
+  retry = λ t to r. tt;
+  next_push = λ gossip is t v to r r'. tt;
+  next_try = λ serf is t to r. tt;
+  try_timer = λ serf is. tt;
+  founders_try = λ serf is t v r r'. tt;
+  setting_timer = λ gossip is some t r. tt;
+  exit_timer = tt;
+  next_round = λ gossip is beat. tt;
+  blocked_deadline = λ t r. tt;
+  blocked_timeout = λ t r. tt;
 }
 
 -- what each part keeps
@@ -176,6 +221,50 @@ round_number Hashicorp t = refl
 
 death_number : (profile : Profile) (subject now : ℕ) (t : State) → (death_kept profile subject now t).next_number ≡ t.next_number
 death_number profile subject now t = death_either (λ v. v.next_number ≡ t.next_number) profile subject now t refl refl
+
+-- what keeps the next number
+claimed_number : (serf : Option Serf) (profile : Profile) (now : ℕ) (u : Update) (t : State) → (regards_kept serf now u (claim_kept_by profile u t)).next_number ≡ t.next_number
+claimed_number serf profile now u t = regards_either (λ v. v.next_number ≡ t.next_number) serf now u (claim_kept_by profile u t) (kept_number profile u t) (λ regard. kept_number profile u t)
+
+put_number : (s : Setup) (u : Update) (t : State) → (put_up s s.queue u t).next_number ≡ t.next_number
+put_number s u t = put_either (λ v. v.next_number ≡ t.next_number) s s.queue u t (λ buffer. refl) (λ queue. refl)
+
+claims_number : (s : Setup) (queue : Option Queue) (room : ℕ) (t : State) → (without_claims s queue room t).next_number ≡ t.next_number
+claims_number s None room t = refl
+claims_number s (Some q) room t = refl
+
+riding_number : (profile : Profile) (s : Setup) (me : ℕ) (bearer : _) (t : State) → (without_riding_by profile s me bearer t).next_number ≡ t.next_number
+unfolding without_both
+riding_number Papers s me bearer t = refl
+riding_number Memberlist s me bearer t = refl
+riding_number Hashicorp s me bearer t = claims_number s s.queue (room_of s me bearer s.queue) t
+
+number_either : (b : Bool) (t v : State) (n : ℕ) → t.next_number ≡ n → v.next_number ≡ n → (cond b t v).next_number ≡ n
+number_either true t v n a c = a
+number_either false t v n a c = c
+
+noted_number : (serf : Option Serf) (me : ℕ) (u : Update) (t : State) → (leave_noted serf me u t).next_number ≡ t.next_number
+noted_number None me u t = refl
+noted_number (Some serf) me u t = number_either (is_left_and_not_up me u t) _ t t.next_number refl refl
+
+-- the beat of a founder's periods
+first_beat : (s : Setup) (k : Key) (gossip : Option settings.Gossip) (beat : ℕ) (o : Effect) → (first_push_set s k beat gossip o).state.beat ≡ o.state.beat
+unfolding push_begun even_push_begun with_event
+first_beat s k None beat o = refl
+first_beat s k (Some gossip) beat o = by_test (nat_eq gossip.push 0) (profile_of s)
+  where
+    by_test : (b : Bool) (profile : Profile) → (cond b o (push_begun_by profile s k beat gossip.push o)).state.beat ≡ o.state.beat
+    by_test true profile = refl
+    by_test false Papers = refl
+    by_test false Memberlist = refl
+    by_test false Hashicorp = refl
+
+began_beat : (s : Setup) (k : Key) (o : Effect) → (began s k o).state.beat ≡ k.at + (1 + (below_of (first_round (profile_of s) (at_once s k o.state)).words s.swim.spread).0)
+unfolding began first_period_set with_timer with_event
+began_beat s k o =
+    let drawn = below_of (first_round (profile_of s) (at_once s k o.state)).words s.swim.spread in
+    let beat = k.at + (1 + drawn.0) in
+    first_beat s k s.gossip beat (with_timer s k (1 + drawn.0) PeriodTimer (record { state = record (first_round (profile_of s) (at_once s k o.state)) { words = drawn.1; beat = beat }; events = o.events; rows = o.rows }))
 
 module _ (s : Setup) (k : Key) (Named : ℕ → Type 0) (R : State → Type 0) (news : NewsMoves s k Named R) (moves : Moves s k Named R)
     (SomeLeave : Type 0) (Tells : What → Type 0) (may : MayTell s R SomeLeave Tells) (carries : Carries s k Named R)
@@ -209,15 +298,20 @@ module _ (s : Setup) (k : Key) (Named : ℕ → Type 0) (R : State → Type 0) (
   by_ping to initiator seq o there named r h =
       by_sent _ to seq _ (on_state (with_picks s (buddy_of s to o.state)) o) (may.plain _ tt) there (named, carries.ping o.state to r) (moves.picked o.state (buddy_of s to o.state) r) (makes.state _ o refl h)
 
+  by_riding : (bearer : _) (o : Effect) → P o → P (without_riding s k bearer o)
+  by_riding bearer o h = makes.state (without_riding_by (profile_of s) s k.to bearer o.state) o (riding_number (profile_of s) s k.to bearer o.state) h
+
   by_ping_req : (target seq to : ℕ) (o : Effect) → Named target → Named to → R o.state → P o → P (ping_req_sent s k target seq to o)
   unfolding ping_req_sent
-  by_ping_req target seq to o named there r h =
-      by_sent _ to seq _ (on_state (with_picks s None) o) (may.plain _ tt) there (named, carries.plain o.state r) (moves.picked o.state None r) (makes.state _ o refl h)
+  by_ping_req target seq to o named there r h = by_sent _ to seq _ _ (may.plain _ tt) there (named, carries.plain o.state _ r) (on_riding s k Named R news moves _ o r) (by_riding _ o h)
 
   by_ack : (to initiator seq : ℕ) (o : Effect) → Named to → Named initiator → R o.state → P o → P (ack_sent s k to initiator seq o)
   unfolding ack_sent
-  by_ack to initiator seq o there named r h =
-      by_sent _ to seq _ (on_state (with_picks s None) o) (may.plain _ tt) there (named, carries.plain o.state r) (moves.picked o.state None r) (makes.state _ o refl h)
+  by_ack to initiator seq o there named r h = by_sent _ to seq _ _ (may.plain _ tt) there (named, carries.plain o.state _ r) (on_riding s k Named R news moves _ o r) (by_riding _ o h)
+
+  by_pings_ack : (to initiator seq : ℕ) (o : Effect) → Named to → Named initiator → R o.state → P o → P (pings_ack_sent s k to initiator seq o)
+  unfolding pings_ack_sent
+  by_pings_ack to initiator seq o there named r h = by_sent _ to seq _ _ (may.plain _ tt) there (named, carries.plain o.state _ r) (on_riding s k Named R news moves _ o r) (by_riding _ o h)
 
   by_nack : (to seq : ℕ) (o : Effect) → Named to → Tells what.Nack → R o.state → P o → P (nack_sent s k to seq o)
   unfolding nack_sent
@@ -239,12 +333,13 @@ module _ (s : Setup) (k : Key) (Named : ℕ → Type 0) (R : State → Type 0) (
   unfolding bye_sent
   by_bye some to o there r h = by_sent what.Bye to 0 Bye o (may.plain what.Bye some) there some r h
 
+  by_news_sent : (to : ℕ) (updates : List Update) (o : Effect) → Named to → AllNamed Named updates → R o.state → P o → P (news_sent s k to updates o)
+  by_news_sent to updates o there named r h =
+      by_either (nat_eq (length updates) 0) o (sent s k what.Gossip to 0 (Gossip updates) o) (λ _. h) (λ _. by_sent what.Gossip to 0 (Gossip updates) o (may.plain what.Gossip tt) there named r h)
+
   by_gossip : (to : ℕ) (o : Effect) → Named to → R o.state → P o → P (gossip_sent s k to o)
   unfolding gossip_sent
-  by_gossip to o there r h =
-      let picked = makes.state _ o refl h in
-      by_either (nat_eq (length (carried s None o.state)) 0) _ _ (λ _. picked)
-      (λ _. by_sent _ to 0 _ (on_state (with_picks s None) o) (may.plain _ tt) there (carries.plain o.state r) (moves.picked o.state None r) picked)
+  by_gossip to o there r h = by_news_sent to _ _ there (carries.plain o.state _ r) (on_riding s k Named R news moves _ o r) (by_riding _ o h)
 
   by_call : (to seq : ℕ) (o : Effect) → Named to → R o.state → P o → P (call_sent s k to seq o)
   unfolding call_sent
@@ -256,11 +351,11 @@ module _ (s : Setup) (k : Key) (Named : ℕ → Type 0) (R : State → Type 0) (
 
   by_push_sent : (to : ℕ) (o : Effect) → Named to → R o.state → P o → P (push_sent s k to o)
   unfolding push_sent
-  by_push_sent to o there r h = by_posted _ to 0 _ _ o (λ at is. times.stream o.state to at r is) (may.plain _ tt) there (carries.whole o.state r) h
+  by_push_sent to o there r h = by_posted _ to 0 _ _ o (λ at is. times.stream o.state to at r is) (may.plain _ tt) there (carries.known o.state r) h
 
   by_pull : (to : ℕ) (o : Effect) → Named to → R o.state → P o → P (pull_sent s k to o)
   unfolding pull_sent
-  by_pull to o there r h = by_posted _ to 0 _ _ o (λ at is. times.stream o.state to at r is) (may.plain _ tt) there (carries.whole o.state r) h
+  by_pull to o there r h = by_posted _ to 0 _ _ o (λ at is. times.stream o.state to at r is) (may.plain _ tt) there (carries.known o.state r) h
 
   -- messages one after another, to members that are named
   by_each : (send : ℕ → Effect → Effect) → ((to : ℕ) (o : Effect) → R o.state → R (send to o).state) → ((to : ℕ) (o : Effect) → Named to → R o.state → P o → P (send to o))
@@ -290,7 +385,7 @@ module _ (s : Setup) (k : Key) (Named : ℕ → Type 0) (R : State → Type 0) (
 
   by_put : (u : Update) (o : Effect) → P o → P (with_put s k u o)
   unfolding with_put
-  by_put u o h = by_gossip_set s.gossip _ refl (makes.state _ o refl h)
+  by_put u o h = by_gossip_set s.gossip _ refl (makes.state (put_up s s.queue u o.state) o (put_number s u o.state) h)
 
   by_passed : (telling : Announce) (u : Update) (o : Effect) → P o → P (passed_on s k telling u o)
   unfolding passed_on
@@ -309,21 +404,25 @@ module _ (s : Setup) (k : Key) (Named : ℕ → Type 0) (R : State → Type 0) (
   by_own : (claim : Claim) (number : ℕ) (o : Effect) → R o.state → P o → P (own_applied s k claim number o)
   unfolding heard_dead
   by_own claim number o r h =
-      by_either (does_refute (profile_of s) o.state.incarnation claim number) (refuted s k (number + 1) o) _ (λ refutes. by_refuted claim number o refutes r h)
+      by_either (is_refuted (profile_of s) o.state claim number) (refuted s k (number + 1) o) _ (λ refutes. by_refuted claim number o (refuted_does (profile_of s) o.state claim number refutes) r h)
       (λ _. by_either (is_own_death (profile_of s) claim o.state.heard_dead) (heard_dead k number o) o
       (λ _. makes.row _ (Some k.to) number false _ (may.plain _ tt) moves.own (makes.state _ o refl h)) (λ _. h))
 
+  by_gone : (u : Update) (o : Effect) → P o → P (on_state (λ t. death_kept (profile_of s) u.subject k.at (without_suspicion u.subject t)) (on_state (claimed s k Named R news u) o))
+  by_gone u o h =
+      makes.state _ o (death_number (profile_of s) u.subject k.at (without_suspicion u.subject (claimed s k Named R news u o.state)) ∙ claimed_number s.serf (profile_of s) k.at u o.state) h
+
   by_claim : (telling : Announce) (u : Update) (claim : Claim) (o : Effect) → Named u.subject → IsNews (profile_of s) k.to o.state u → u.claim ≡ claim → R o.state → P o
-      → P (claim_heard s telling k u claim (on_state (claim_kept_by (profile_of s) u) o))
-  unfolding alive_heard suspect_heard confirm_heard
-  by_claim telling u Alive o named says e r h = by_told telling _ u.subject u.inc _ (may.plain _ tt) named (makes.state _ o (kept_number (profile_of s) u o.state) h)
+      → P (claim_heard s telling k u claim (on_state (claimed s k Named R news u) o))
+  unfolding alive_heard suspect_heard confirm_heard left_heard
+  by_claim telling u Alive o named says e r h = by_told telling _ u.subject u.inc _ (may.plain _ tt) named (makes.state _ o (claimed_number s.serf (profile_of s) k.at u o.state) h)
   by_claim telling u Suspect o named says e r h =
-      let begun = suspicion_begun s k u (claim_kept_by (profile_of s) u o.state) in
-      let there = news.suspect o.state u begun named says e (record { terms = refl; since = refl; members = refl }) r in
-      makes.event _ k.to (SuspicionTimer u.subject) _ (times.suspicion_timer (record (claim_kept_by (profile_of s) u o.state) { suspicions = insert (claim_kept_by (profile_of s) u o.state).suspicions u.subject begun }) there) moves.own tt
-      (by_told telling _ u.subject u.inc _ (may.plain _ tt) named (makes.state _ o (kept_number (profile_of s) u o.state) h))
-  by_claim telling u Confirm o named says e r h =
-      by_told telling _ u.subject u.inc _ (may.plain _ tt) named (makes.state _ o (death_number (profile_of s) u.subject k.at (without_suspicion u.subject (claim_kept_by (profile_of s) u o.state)) ∙ kept_number (profile_of s) u o.state) h)
+      let there = claimed_suspect s k Named R news u o.state named says e r in
+      makes.event _ k.to (SuspicionTimer u.subject) _ (times.suspicion_timer _ there) moves.own tt
+      (by_told telling _ u.subject u.inc _ (may.plain _ tt) named (makes.state _ o (claimed_number s.serf (profile_of s) k.at u o.state) h))
+  by_claim telling u Confirm o named says e r h = by_told telling _ u.subject u.inc _ (may.plain _ tt) named (by_gone u o h)
+  by_claim telling u Left o named says e r h = by_told telling _ u.subject u.inc _ (may.plain _ tt) named (by_gone u o h)
+  by_claim telling u Intent o named says e r h = absurd (false≢true (sym says.spoken ∙ ap is_intent e))
 
   by_news : (telling : Announce) (u : Update) (o : Effect) → Named u.subject → IsNews (profile_of s) k.to o.state u → R o.state → P o → P (news_heard s telling k u o)
   unfolding news_heard
@@ -345,7 +444,7 @@ module _ (s : Setup) (k : Key) (Named : ℕ → Type 0) (R : State → Type 0) (
   by_accused_confirmed telling u held accused o told named other here suspected r h =
       let row = with_told telling k what.Accuse u.subject accused.count o in
       by_news telling (death_of k.to u.subject held.1) (passed_on s k telling u row) named
-      (record { other = other; news = death_after s (profile_of s) k telling what.Accuse u held accused.count o here suspected })
+      (record { other = other; spoken = refl; news = death_after s (profile_of s) k telling what.Accuse u held accused.count o here suspected })
       (on_passed s k Named R news telling u row named (on_told s k Named R news telling what.Accuse u.subject accused.count o r))
       (by_passed telling u row (by_told telling what.Accuse u.subject accused.count o told named h))
 
@@ -370,20 +469,29 @@ module _ (s : Setup) (k : Key) (Named : ℕ → Type 0) (R : State → Type 0) (
   by_accusation_by Memberlist telling u held o named other here suspected r h = by_accusation telling u o named r h
   by_accusation_by Hashicorp telling u held o named other here suspected r h = by_prompt telling u held o named other here suspected r h
 
-  by_other : (telling : Announce) (u : Update) (held : Option (Claim × ℕ)) (o : Effect) → Named u.subject → ¬ (u.subject ≡ k.to) → get o.state.table u.subject ≡ held → R o.state → P o → P (other_applied s telling k u held o)
-  by_other telling u None o named other none r h =
-      by_either (is_heeded (profile_of s) telling u.claim) (news_heard s telling k u o) o (λ _. by_news telling u o named (record { other = other; news = rw none refl }) r h) (λ _. h)
-  by_other telling u (Some held) o named other here r h =
+  by_other : (telling : Announce) (u : Update) (held : Option (Claim × ℕ)) (o : Effect) → Named u.subject → ¬ (u.subject ≡ k.to) → is_intent u.claim ≡ false → get o.state.table u.subject ≡ held → R o.state → P o → P (other_applied s telling k u held o)
+  by_other telling u None o named other spoken none r h =
+      by_either (is_heeded (profile_of s) telling u.claim) (news_heard s telling k u o) o (λ _. by_news telling u o named (record { other = other; spoken = spoken; news = rw none refl }) r h) (λ _. h)
+  by_other telling u (Some held) o named other spoken here r h =
       by_either (does_override (profile_of s) (u.claim, u.inc) held) (news_heard s telling k u o) (cond (is_repeated (profile_of s) u held) (accusation_by (profile_of s) s telling k u held.1 o) o)
-      (λ e. by_news telling u o named (record { other = other; news = rw here e }) r h)
+      (λ e. by_news telling u o named (record { other = other; spoken = spoken; news = rw here e }) r h)
       (λ _. by_either (is_repeated (profile_of s) u held) (accusation_by (profile_of s) s telling k u held.1 o) o
       (λ e. by_accusation_by (profile_of s) telling u held o named other here (repeated_suspect (profile_of s) u held e) r h) (λ _. h))
+
+  by_intent : (u : Update) (serf : Option Serf) (o : Effect) → P o → P (intent_applied s k u serf o)
+  by_intent u None o h = h
+  by_intent u (Some serf) o h = by_either (is_known_intent k.to u.subject o.state) o _ (λ _. h) (λ _. by_gossip_set s.gossip _ refl (makes.state _ o refl h))
+
+  by_claim_applied : (telling : Announce) (u : Update) (o : Effect) → Named u.subject → is_intent u.claim ≡ false → R o.state → P o → P (claim_applied s telling k u o)
+  unfolding claim_applied
+  by_claim_applied telling u o named spoken r h =
+      by_either (nat_eq u.subject k.to) (own_applied s k u.claim u.inc o) (other_applied s telling k u (get o.state.table u.subject) o)
+      (λ _. by_own u.claim u.inc o r h) (λ e. by_other telling u (get o.state.table u.subject) o named (eqb-false u.subject k.to e) spoken refl r h)
 
   by_applied : (telling : Announce) (u : Update) (o : Effect) → Named u.subject → R o.state → P o → P (applied s telling k u o)
   unfolding applied
   by_applied telling u o named r h =
-      by_either (nat_eq u.subject k.to) (own_applied s k u.claim u.inc o) (other_applied s telling k u (get o.state.table u.subject) o)
-      (λ _. by_own u.claim u.inc o r h) (λ e. by_other telling u (get o.state.table u.subject) o named (eqb-false u.subject k.to e) refl r h)
+      by_either (is_intent u.claim) (intent_applied s k u s.serf o) (claim_applied s telling k u o) (λ _. by_intent u s.serf o h) (λ spoken. by_claim_applied telling u o named spoken r h)
 
   by_all : (telling : Announce) (us : List Update) (o : Effect) → AllNamed Named us → R o.state → P o → P (all_applied s telling k us o)
   unfolding all_applied
@@ -779,6 +887,11 @@ module _ (s : Setup) (k : Key) (Named : ℕ → Type 0) (R : State → Type 0) (
   by_plain (Gossip updates) phase o sender named sends r once late h = h
   by_plain (Push entries) phase o sender named sends r once late h = h
   by_plain (Pull entries) phase o sender named sends r once late h = h
+  by_plain (Restart contact) phase o sender named sends r once late h = h
+  by_plain SettingTimer phase o sender named sends r once late h = h
+  by_plain (ConnectedTimer to) phase o sender named sends r once late h = h
+  by_plain ReconnectTimer phase o sender named sends r once late h = h
+  by_plain ExitTimer phase o sender named sends r once late h = h
 
   by_handled : (content : EventKind) (phase : Phase) (o : Effect) → Named k.from → NamesOnly Named SomeLeave content → NackMaySend s phase content → (¬ (phase ≡ Waiting) → R o.state)
       → (phase ≡ Waiting → R (at_once s k o.state)) → (phase ≡ Waiting → R (at_late o.state)) → P o → P (handled s k content phase o)
@@ -807,8 +920,7 @@ module _ (s : Setup) (k : Key) (Named : ℕ → Type 0) (R : State → Type 0) (
 
   by_plain_ping : (to initiator seq : ℕ) (o : Effect) → Named to → Named initiator → R o.state → P o → P (plain_ping_sent s k to initiator seq o)
   unfolding plain_ping_sent
-  by_plain_ping to initiator seq o there named r h =
-      by_sent _ to seq _ (on_state (with_picks s None) o) (may.plain _ tt) there (named, carries.plain o.state r) (moves.picked o.state None r) (makes.state _ o refl h)
+  by_plain_ping to initiator seq o there named r h = by_sent _ to seq _ _ (may.plain _ tt) there (named, carries.plain o.state _ r) (on_riding s k Named R news moves _ o r) (by_riding _ o h)
 
   by_lone : (to seq : ℕ) (buddy : Option Update) (o : Effect) → Named to → IfSome buddy (λ u. Named u.subject) → R o.state → P o → P (ping_with_lone s k to seq buddy o)
   by_lone to seq None o there about r h = by_plain_ping to k.to seq o there moves.own r h
@@ -826,9 +938,20 @@ module _ (s : Setup) (k : Key) (Named : ℕ → Type 0) (R : State → Type 0) (
       let timed = by_timer _ (TimeoutTimer (o.state.sequence + 1)) _ times.plain_timeout tt (by_probe_ping target _ _ named probing (makes.state _ o refl h)) in
       by_either _ _ _ (λ _. makes.lost _ timed) (λ _. makes.event _ k.to (DeadlineTimer (o.state.sequence + 1)) _ (times.period_timer o.state r) moves.own tt timed)
 
+  by_blocked_begun : (target : ℕ) (o : Effect) → Named target → R o.state → P o → P (blocked_probe_begun s k target (departs_at s k) o)
+  unfolding blocked_probe_begun
+  by_blocked_begun target o named r h =
+      let deadline = max (k.at + scaled o.state.health s.swim.period) (departs_at s k) in
+      let probe = timed_probe (o.state.sequence + 1) target (option_map_or (λ held. held.1) (get o.state.table target) 0) deadline in
+      let probing = moves.probing o.state (o.state.sequence + 1) (Some probe) (omega arith) (one_target Named probe named) r in
+      makes.event deadline k.to (DeadlineTimer (o.state.sequence + 1)) _ (times.blocked_deadline o.state r) moves.own tt
+      (makes.event _ k.to (TimeoutTimer (o.state.sequence + 1)) _ (times.blocked_timeout o.state r) moves.own tt (by_probe_ping target _ _ named probing (makes.state _ o refl h)))
+
   by_single_target : (target : Option ℕ) (o : Effect) → ((q : ℕ) → target ≡ Some q → Named q) → R o.state → P o → P (single_target_probed s k target o)
   by_single_target None o named r h = makes.state _ o refl h
-  by_single_target (Some target) o named r h = by_single_begun target o (named target refl) r h
+  by_single_target (Some target) o named r h =
+      by_either (nat_lt k.at (departs_at s k)) (blocked_probe_begun s k target (departs_at s k) o) (single_probe_begun s k target o)
+      (λ _. by_blocked_begun target o (named target refl) r h) (λ _. by_single_begun target o (named target refl) r h)
 
   by_forgotten_if : (member : ℕ) (held : Option (Claim × ℕ)) (o : Effect) → get o.state.table member ≡ held → R o.state → P o → P (forgotten_if s k member held o)
   by_forgotten_if member None o none r h = h
@@ -907,7 +1030,7 @@ module _ (s : Setup) (k : Key) (Named : ℕ → Type 0) (R : State → Type 0) (
     by_single PeriodTimer o sender named r h = by_single_beaten o r h
     by_single (DeadlineTimer seq) o sender named r h = by_single_deadline seq o r h
     by_single (Ping initiator seq updates) o sender named r h =
-        by_all Aloud updates _ named.1 (on_ack s k Named R news moves k.from initiator seq o r) (by_ack k.from initiator seq o sender named.0 r h)
+        by_all Aloud updates _ named.1 (on_pings_ack s k Named R news moves k.from initiator seq o r) (by_pings_ack k.from initiator seq o sender named.0 r h)
     by_single (PingReq target seq updates) o sender named r h =
         by_all Aloud updates _ named.1 (on_help_given s k Named R news moves rules seq target o (always_relays s rules) r) (by_help_given seq target o sender named.0 r h)
     by_single (Ack initiator seq updates) o sender named r h =
@@ -930,6 +1053,11 @@ module _ (s : Setup) (k : Key) (Named : ℕ → Type 0) (R : State → Type 0) (
     by_single (Gossip updates) o sender named r h = by_timed (Gossip updates) o sender named tt r h
     by_single (Push entries) o sender named r h = by_timed (Push entries) o sender named tt r h
     by_single (Pull entries) o sender named r h = by_timed (Pull entries) o sender named tt r h
+    by_single (Restart contact) o sender named r h = by_timed (Restart contact) o sender named tt r h
+    by_single SettingTimer o sender named r h = by_timed SettingTimer o sender named tt r h
+    by_single (ConnectedTimer to) o sender named r h = by_timed (ConnectedTimer to) o sender named tt r h
+    by_single ReconnectTimer o sender named r h = by_timed ReconnectTimer o sender named tt r h
+    by_single ExitTimer o sender named r h = by_timed ExitTimer o sender named tt r h
 
   -- by the older rules a nack timer may send in any case
   may_send : (content : EventKind) → keeps_relays (profile_of s) ≡ false → MaySendWhileRunning s content
@@ -956,18 +1084,248 @@ module _ (s : Setup) (k : Key) (Named : ℕ → Type 0) (R : State → Type 0) (
   may_send (Gossip updates) old = tt
   may_send (Push entries) old = tt
   may_send (Pull entries) old = tt
+  may_send (Restart contact) old = tt
+  may_send SettingTimer old = tt
+  may_send (ConnectedTimer to) old = tt
+  may_send ReconnectTimer old = tt
+  may_send ExitTimer old = tt
+
+  -- ---- processes
+
+  by_dialed : (tells : What) (to : ℕ) (there : Option ℕ) (o : Effect) → ((at : ℕ) → there ≡ Some at → Timed at) → Tells tells → Named to → P o → P (dialed s k tells to there o)
+  by_dialed tells to None o timed told named h = makes.row tells (Some to) 0 true o told named h
+  by_dialed tells to (Some at) o timed told named h =
+      makes.event at k.to (ConnectedTimer to) (with_row k tells (Some to) 0 false o) (timed at refl) moves.own named (makes.row tells (Some to) 0 false o told named h)
+
+  by_push_dialed : (to : ℕ) (there : Option ℕ) (o : Effect) → ((at : ℕ) → there ≡ Some at → Timed at) → Named to → P o → P (push_dialed s k to there o)
+  by_push_dialed to None o timed named h = makes.row what.Push (Some to) 0 true o (may.plain what.Push tt) named h
+  by_push_dialed to (Some at) o timed named h = makes.event at k.to (ConnectedTimer to) o (timed at refl) moves.own named h
+
+  by_contact_asked : (contact : Option ℕ) (o : Effect) → IfSome contact Named → R o.state → P o → P (contact_asked s k contact o)
+  unfolding contact_dialed
+  by_contact_asked None o named r h = h
+  by_contact_asked (Some contact) o named r h =
+      makes.event _ k.to JoinTimer _ (times.retry o.state contact r) moves.own tt
+      (by_dialed what.Join contact (dial_drawn s k contact o.state).0 _ (λ at is. times.dial o.state contact at r is) (may.plain what.Join tt) named (makes.state _ o refl h))
+
+  by_contact_reached : (entries : List Update) (o : Effect) → Named k.from → P o → P (contact_reached k entries o)
+  by_contact_reached entries o sender h =
+      by_either (is_asked k.from o.state.life.contact) _ o (λ _. makes.row what.Joined (Some k.from) _ false _ (may.plain what.Joined tt) sender (makes.state _ o refl h)) (λ _. h)
+
+  by_setting_set : (gossip : Option settings.Gossip) (o : Effect) → s.gossip ≡ gossip → R o.state → P o → P (setting_set s k gossip o)
+  by_setting_set None o is r h = h
+  by_setting_set (Some gossip) o is r h = by_either (nat_eq gossip.push 0) o _ (λ _. h) (λ some. by_timer _ SettingTimer _ (times.setting_timer gossip is some o.state r) tt (makes.state _ o refl h))
+
+  by_reconnect_set : (serf : Option Serf) (o : Effect) → s.serf ≡ serf → P o → P (reconnect_set s k serf o)
+  by_reconnect_set None o is h = h
+  by_reconnect_set (Some serf) o is h = by_timer serf.reconnect ReconnectTimer o (times.try_timer serf is) tt h
+
+  by_own_beats : (o : Effect) → P o → P (own_beats_set s k o)
+  by_own_beats o h = by_timer s.swim.period PeriodTimer _ times.join_timer tt (makes.state _ o refl h)
+
+  by_alone : (contact : Option ℕ) (o : Effect) → IfSome contact Named → R (own_beats_set s k o).state → P o → P (alone_begun s k contact o)
+  unfolding alone_begun
+  by_alone contact o named r h =
+      let beaten = own_beats_set s k o in
+      let set = setting_set s k s.gossip beaten in
+      let there = on_setting_set s k Named R news moves s.gossip beaten r in
+      by_contact_asked contact (reconnect_set s k s.serf set) named (on_reconnect_set s k Named R news moves s.serf set there)
+      (by_reconnect_set s.serf set refl (by_setting_set s.gossip beaten refl r (by_own_beats o h)))
+
+  by_pushes_set : (gossip : Option settings.Gossip) (o : Effect) → s.gossip ≡ gossip → R o.state → P o → P (pushes_set s k gossip o)
+  by_pushes_set None o is r h = h
+  by_pushes_set (Some gossip) o is r h = by_either (nat_eq gossip.push 0) o _ (λ _. h) (λ _. by_timer _ PushTimer o (times.push_timer gossip is o.state r) tt h)
+
+  by_founders : (serf : Option Serf) (t : State) (o : Effect) → s.serf ≡ serf → o.state.beat ≡ k.at + (1 + (below_of t.words s.swim.spread).0) → R t → R o.state → P o → P (founders_reconnect_set s k serf o)
+  by_founders None t o is beat r r' h = h
+  by_founders (Some serf) t o is beat r r' h =
+      makes.event _ k.to ReconnectTimer _ (subst (λ b. Timed (b + (below_of o.state.words serf.reconnect).0)) (sym beat) (times.founders_try serf is t o.state r r')) moves.own tt (makes.state _ o refl h)
+
+  some_named : (o : Option ℕ) → ((c : ℕ) → o ≡ Some c → Named c) → IfSome o Named
+  some_named None h = tt
+  some_named (Some c) h = h c refl
+
+  by_process_started : (o : Effect) → R (at_once s k o.state) → R (at_alone s k o.state) → P o → P (process_started s k o)
+  unfolding process_started with_row
+  by_process_started o once alone h =
+      let told = with_row k what.Start None 0 false o in
+      let row = makes.row what.Start None 0 false o (may.plain what.Start tt) tt h in
+      by_either (nat_eq (start_of s k.to) 0) (founder_begun s k told) (latecomer_begun s k (contact_of s k.to) told)
+      (λ _. by_founders s.serf (first_round (profile_of s) (at_once s k o.state)) (began s k told) refl (began_beat s k told) (on_first_round s k Named R news moves (profile_of s) (at_once s k o.state) once)
+      (on_began s k Named R news moves told once) (by_began told once row))
+      (λ _. by_alone (contact_of s k.to) (on_state (at_alone s k) told) (some_named (contact_of s k.to) carries.contact) (on_own_beats s k Named R news moves (on_state (at_alone s k) told) alone) (makes.state (at_alone s k o.state) told refl row))
+
+  by_restarted : (contact : Option ℕ) (o : Effect) → profile_of s ≡ Hashicorp → IfSome contact Named → R o.state → P o → P (restarted s k contact o)
+  unfolding restarted with_timer with_event with_row
+  by_restarted contact o rules named r h =
+      by_alone contact (with_row k what.Restart None 0 false (on_state (reborn s k.to contact) o)) named (moves.again o.state contact rules named r)
+      (makes.row what.Restart None 0 false (on_state (reborn s k.to contact) o) (may.plain what.Restart tt) tt (makes.state (reborn s k.to contact o.state) o refl h))
+
+  -- ---- pushes over connections
+
+  by_push_opened_to : (gossip : settings.Gossip) (v : State) (chosen : List ℕ) (o : Effect) → s.gossip ≡ Some gossip → AllByRecursion Named chosen → R v → R o.state → P o
+      → P (push_opened_to s k (push_period gossip.push (size_by (profile_of s) v.table)) chosen o)
+  unfolding push_opened
+  by_push_opened_to gossip v [] o is named r r' h = by_timer _ PushTimer o (times.push_timer gossip is v r) tt h
+  by_push_opened_to gossip v (to ∷ others) o is named r r' h =
+      makes.event _ k.to PushTimer _ (times.next_push gossip is o.state v to r' r) moves.own tt
+      (by_push_dialed to (dial_drawn s k to o.state).0 _ (λ at there. times.dial o.state to at r' there) named.0 (makes.state _ o refl h))
+
+  by_dialed_push_due : (gossip : Option settings.Gossip) (o : Effect) → s.gossip ≡ gossip → R o.state → P o → P (dialed_push_due s k gossip o)
+  unfolding dialed_push
+  by_dialed_push_due None o is r h = h
+  by_dialed_push_due (Some gossip) o is r h =
+      by_either (nat_eq gossip.push 0) o _ (λ _. h)
+      (λ _. by_push_opened_to gossip o.state _ _ is (carries.sample o.state (AliveBut k.to) 1 r) r (moves.drawn o.state _ (sample_rest o.state.words 1 _) r) (makes.state _ o refl h))
+
+  -- ---- tables that are merged
+
+  by_entry_merged : (u : Update) (o : Effect) → Named u.subject → R o.state → P o → P (entry_merged s k u o)
+  by_entry_merged u o named r h =
+      let heard = applied s Aloud k (entry_claim k.to u) o in
+      makes.state (leave_noted s.serf k.to u heard.state) heard (noted_number s.serf k.to u heard.state) (by_applied Aloud (entry_claim k.to u) o (entry_named s k Named R news moves u named) r h)
+
+  by_table_merged : (us : List Update) (o : Effect) → AllNamed Named us → R o.state → P o → P (table_merged s k us o)
+  unfolding table_merged
+  by_table_merged [] o named r h = h
+  by_table_merged (u ∷ us) o named r h = by_table_merged us (entry_merged s k u o) named.1 (on_entry_merged s k Named R news moves u o named.0 r) (by_entry_merged u o named.0 r h)
+
+  by_push_merged : (us : List Update) (o : Effect) → Named k.from → AllNamed Named us → R o.state → P o → P (push_merged s k us o)
+  unfolding push_merged
+  by_push_merged us o sender named r h = by_table_merged us _ named (on_pull s k Named R news moves k.from o r) (by_pull k.from o sender r h)
+
+  -- ---- leaves of processes
+
+  by_lingered : (o : Effect) → P o → P (lingered s k o)
+  by_lingered o h = by_timer _ ExitTimer _ times.exit_timer tt (makes.state _ o refl h)
+
+  by_left_said : (o : Effect) → P o → P (left_said s k o)
+  unfolding left_said
+  by_left_said o h =
+      let told = with_row k what.Left (Some k.to) o.state.incarnation false (on_state (with_leaving Says) o) in
+      let row : P told = makes.row what.Left (Some k.to) o.state.incarnation false (on_state (with_leaving Says) o) (may.plain what.Left tt) moves.own (makes.state (with_leaving Says o.state) o refl h) in
+      by_either (is_anybody_up told.state) (with_put s k (own_left k.to told.state.incarnation) told) (lingered s k told) (λ _. by_put (own_left k.to told.state.incarnation) told row) (λ _. by_lingered told row)
+
+  by_leave_begun : SomeLeave → (o : Effect) → P o → P (leave_begun s k o)
+  unfolding leave_begun
+  by_leave_begun some o h =
+      let told = with_row k what.Leave None 0 false o in
+      let row : P told = makes.row what.Leave None 0 false o (may.plain what.Leave some) tt h in
+      by_either (does_stay o.state.life.leaving) (leave_told s k told) o
+      (λ _. by_either (is_some s.serf && is_anybody_up told.state) _ (left_said s k told) (λ _. by_gossip_set s.gossip _ refl (makes.state _ told refl row)) (λ _. by_left_said told row)) (λ _. h)
+
+  by_leave_gone_on : (o : Effect) → P o → P (leave_gone_on s k o)
+  unfolding leave_gone_on
+  by_leave_gone_on o h =
+      let sent = intent_sent s k o in
+      let there : P sent = by_either (does_intend o.state.life.leaving && not (contains_key o.state.life.intents k.to)) (left_said s k o) o (λ _. by_left_said o h) (λ _. h) in
+      by_either (is_running o.state.phase) (left_sent s k sent) o
+      (λ _. by_either (does_say sent.state.life.leaving && not (is_claim_held s.queue k.to sent.state)) (lingered s k sent) sent (λ _. by_lingered sent there) (λ _. there)) (λ _. h)
+
+  by_exited : (o : Effect) → P o → P (exited k o)
+  unfolding exited
+  by_exited o h = makes.state _ _ refl (makes.row what.Exit None 0 false o (may.plain what.Exit tt) tt h)
+
+  -- ---- those that failed
+
+  by_failed_dialed : (serf : Serf) (to : ℕ) (o : Effect) → s.serf ≡ Some serf → Named to → R o.state → P o → P (failed_dialed s k serf to o)
+  unfolding failed_dialed
+  by_failed_dialed serf to o is named r h =
+      makes.event _ k.to ReconnectTimer _ (times.next_try serf is o.state to r) moves.own tt
+      (by_dialed what.Reconnect to (dial_drawn s k to o.state).0 _ (λ at there. times.dial o.state to at r there) (may.plain what.Reconnect tt) named (makes.state _ o refl h))
+
+  by_any_tried : (serf : Serf) (failed : List ℕ) (o : Effect) → s.serf ≡ Some serf → failed_among (member_count s) o.state.life.regards ≡ failed → R o.state → P o → P (any_tried s k serf failed o)
+  by_any_tried serf [] o is are r h = makes.event _ k.to ReconnectTimer o (times.try_timer serf is) moves.own tt h
+  by_any_tried serf (m ∷ failed) o is are r h =
+      let live = live_count o.state.table in
+      let chance = below_of o.state.words live in
+      let drawn = on_state (with_words chance.1) o in
+      let place = below_of drawn.state.words (length (m ∷ failed)) in
+      let there : R drawn.state = moves.drawn o.state chance.1 (below_rest o.state.words live) r in
+      let made : P drawn = makes.state (with_words chance.1 o.state) o refl h in
+      by_either (nat_lt chance.0 (length (m ∷ failed))) (one_dialed s k serf (m ∷ failed) drawn) (next_try_set s k serf k.at drawn)
+      (λ _. by_failed_dialed serf (slice_index (m ∷ failed) place.0) (on_state (with_words place.1) drawn) is (carries.failed o.state m place.0 failed r are)
+      (moves.drawn drawn.state place.1 (below_rest drawn.state.words (length (m ∷ failed))) there) (makes.state (with_words place.1 drawn.state) drawn refl made))
+      (λ _. makes.event _ k.to ReconnectTimer drawn (times.try_timer serf is) moves.own tt made)
+
+  by_reconnect_due : (serf : Option Serf) (o : Effect) → s.serf ≡ serf → R o.state → P o → P (reconnect_due s k serf o)
+  unfolding reconnect_due
+  by_reconnect_due None o is r h = h
+  by_reconnect_due (Some serf) o is r h =
+      let regards : Regards = λ m. reaped k.at serf.reap (o.state.life.regards m) in
+      by_any_tried serf _ (on_state (failures_reaped k.at serf.reap) o) is refl (news.regarding o.state regards r) (makes.state (failures_reaped k.at serf.reap o.state) o refl h)
+
+  -- ---- gossip of claims and intents
+
+  by_whole_gossip : (gossip : Option settings.Gossip) (o : Effect) → s.gossip ≡ gossip → R o.state → P o → P (whole_gossip_due s k gossip o)
+  by_whole_gossip None o is r h = h
+  by_whole_gossip (Some gossip) o is r h =
+      let unset = on_state (λ t. record t { gossips = false }) o in
+      let free : P unset = makes.state (record o.state { gossips = false }) o refl h in
+      let spread = gossip_spread s k gossip unset in
+      let told : P spread = by_spread gossip unset (news.gossiping o.state false r) free in
+      by_either (is_all_told s unset.state) unset (round_set_again s k gossip spread) (λ _. free)
+      (λ _. by_either (is_all_told s spread.state) spread (next_round_set s k gossip spread) (λ _. told)
+      (λ _. makes.event _ k.to GossipTimer (on_state (λ t. record t { gossips = true }) spread) (times.next_round gossip is (spread.state.beat - 1)) moves.own tt (makes.state _ spread refl told)))
+
+  -- ---- by memberlist 0.5.0's and Serf's rules
+
+  by_process : (content : EventKind) (o : Effect) → profile_of s ≡ Hashicorp → Named k.from → NamesOnly Named SomeLeave content → R o.state → P o → P (process_handled s k content o)
+  unfolding process_handled
+  by_process (Restart contact) o rules sender named r h = by_restarted contact o rules named r h
+  by_process Leave o rules sender named r h = by_leave_begun named o h
+  by_process JoinTimer o rules sender named r h = by_contact_asked o.state.life.contact o (some_named o.state.life.contact (λ c is. moves.asked o.state c r is)) r h
+  by_process SettingTimer o rules sender named r h = by_pushes_set s.gossip o refl r h
+  by_process (ConnectedTimer to) o rules sender named r h = by_push_sent to o named r h
+  by_process PushTimer o rules sender named r h = by_dialed_push_due s.gossip o refl r h
+  by_process (Push entries) o rules sender named r h = by_push_merged entries o sender named r h
+  by_process (Pull entries) o rules sender named r h = by_table_merged entries _ named (on_contact_reached s k Named R news moves entries o r) (by_contact_reached entries o sender h)
+  by_process GossipTimer o rules sender named r h = by_whole_gossip s.gossip o refl r h
+  by_process ReconnectTimer o rules sender named r h = by_reconnect_due s.serf o refl r h
+  by_process ExitTimer o rules sender named r h = by_exited o h
+  by_process Join o rules sender named r h = h
+  by_process (Welcome entries) o rules sender named r h = h
+  by_process Bye o rules sender named r h = h
+  by_process content o rules sender named r h = by_single rules content o sender named r h
+
+  by_start_handled : (content : EventKind) (o : Effect) → R (at_once s k o.state) → R (at_alone s k o.state) → P o → P (start_handled s k content o)
+  by_start_handled Start o once alone h = by_process_started o once alone h
+  by_start_handled _ o once alone h = h
+
+  by_restart_handled : (content : EventKind) (o : Effect) → profile_of s ≡ Hashicorp → NamesOnly Named SomeLeave content → R o.state → P o → P (restart_handled s k content o)
+  by_restart_handled (Restart contact) o rules named r h = by_restarted contact o rules named r h
+  by_restart_handled _ o rules named r h = h
+
+  downs : ¬ (Down ≡ Waiting)
+  downs is = absurd (let e = is in cc)
+
+  by_phases : (content : EventKind) (phase : Phase) (o : Effect) → profile_of s ≡ Hashicorp → Named k.from → NamesOnly Named SomeLeave content → (¬ (phase ≡ Waiting) → R o.state)
+      → (phase ≡ Waiting → R (at_once s k o.state)) → (phase ≡ Waiting → R (at_alone s k o.state)) → P o → P (phase_handled phase s k content o)
+  by_phases content Waiting o rules sender named r once alone h = by_start_handled content o (once refl) (alone refl) h
+  by_phases content Joining o rules sender named r once alone h = h
+  by_phases content Running o rules sender named r once alone h = by_leave_gone_on _ (by_process content o rules sender named (r runs) h)
+  by_phases content Down o rules sender named r once alone h = by_restart_handled content o rules named (r downs) h
+
+  by_lived : (content : EventKind) (phase : Phase) (o : Effect) → profile_of s ≡ Hashicorp → Named k.from → NamesOnly Named SomeLeave content → (¬ (phase ≡ Waiting) → R o.state)
+      → (phase ≡ Waiting → R (at_once s k o.state)) → (phase ≡ Waiting → R (at_alone s k o.state)) → P o → P (process_lived phase s k content o)
+  unfolding process_lived
+  by_lived content phase o rules sender named r once alone h =
+      by_either (is_of_former_life k content o.state.life.birth) o (phase_handled phase s k content o) (λ _. h) (λ _. by_phases content phase o rules sender named r once alone h)
 
   by_by : (content : EventKind) (phase : Phase) (profile : Profile) (o : Effect) → profile_of s ≡ profile → Named k.from → NamesOnly Named SomeLeave content → (¬ (phase ≡ Waiting) → R o.state)
-      → (phase ≡ Waiting → R (at_once s k o.state)) → (phase ≡ Waiting → R (at_late o.state)) → P o → P (handled_by phase profile s k content o)
-  by_by content Running Memberlist o rules sender named r once late h = by_timed content o sender named (may_send content (ap keeps_relays rules)) (r runs) h
-  by_by content Running Hashicorp o rules sender named r once late h = by_single rules content o sender named (r runs) h
-  by_by content Running Papers o rules sender named r once late h = by_handled content Running o sender named (may_send content (ap keeps_relays rules)) r once late h
-  by_by content Waiting profile o rules sender named r once late h = by_handled content Waiting o sender named tt r once late h
-  by_by content Joining profile o rules sender named r once late h = by_handled content Joining o sender named tt r once late h
-  by_by content Down profile o rules sender named r once late h = by_handled content Down o sender named tt r once late h
+      → (phase ≡ Waiting → R (at_once s k o.state)) → (phase ≡ Waiting → R (at_late o.state)) → (phase ≡ Waiting → profile_of s ≡ Hashicorp → R (at_alone s k o.state)) → P o → P (handled_by phase profile s k content o)
+  by_by content phase Hashicorp o rules sender named r once late alone h = by_lived content phase o rules sender named r once (λ waits. alone waits rules) h
+  by_by content Running Memberlist o rules sender named r once late alone h = by_timed content o sender named (may_send content (ap keeps_relays rules)) (r runs) h
+  by_by content Waiting Memberlist o rules sender named r once late alone h = by_handled content Waiting o sender named tt r once late h
+  by_by content Joining Memberlist o rules sender named r once late alone h = by_handled content Joining o sender named tt r once late h
+  by_by content Down Memberlist o rules sender named r once late alone h = by_handled content Down o sender named tt r once late h
+  by_by content Running Papers o rules sender named r once late alone h = by_handled content Running o sender named (may_send content (ap keeps_relays rules)) r once late h
+  by_by content Waiting Papers o rules sender named r once late alone h = by_handled content Waiting o sender named tt r once late h
+  by_by content Joining Papers o rules sender named r once late alone h = by_handled content Joining o sender named tt r once late h
+  by_by content Down Papers o rules sender named r once late alone h = by_handled content Down o sender named tt r once late h
 
   -- Of a member that waits the fact is needed where it starts alone.
   pub by_step : (content : EventKind) (t : State) → Named k.from → NamesOnly Named SomeLeave content → (¬ (t.phase ≡ Waiting) → R t)
-      → (t.phase ≡ Waiting → R (at_once s k t)) → (t.phase ≡ Waiting → R (at_late t)) → P (unchanged t) → P (step s k content t)
+      → (t.phase ≡ Waiting → R (at_once s k t)) → (t.phase ≡ Waiting → R (at_late t)) → (t.phase ≡ Waiting → profile_of s ≡ Hashicorp → R (at_alone s k t)) → P (unchanged t) → P (step s k content t)
   unfolding step
-  by_step content t sender named r once late h = by_by content t.phase (profile_of s) (unchanged t) refl sender named r once late h
+  by_step content t sender named r once late alone h = by_by content t.phase (profile_of s) (unchanged t) refl sender named r once late alone h

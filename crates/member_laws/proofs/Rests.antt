@@ -5,7 +5,11 @@ use Rattle.streams.specs.Draw.{Words, IsRestOf, rest_after, below_of, lost_of}
 use Rattle.streams.proofs.PlaceLemmas.{below_rest, lost_rest, rest-rest, rest_after-zero}
 use Rattle.links.specs.Arrival.{uncut_arrival_of, arrival_of}
 use Rattle.links.specs.Trips.{uncut_try_of, try_of, or_else, tried_of, trip_of, and_then, comes_of, call_of, answer_of, kept_arrival_of}
+use Rattle.links.specs.Dials.{up_to, dial_of}
 use Rattle.links.proofs.Arrivals.{whether_cut}
+use Rattle.base.specs.declared.key.Key.{Key}
+use Rattle.scenario.specs.Profile.{profile_of}
+use Rattle.member.specs.Blocks.{Way, departs_by, on_its_way}
 use Rattle.membership.specs.declared.candidates.Candidate.{Candidate}
 use Rattle.probing.specs.Samples.{with_drawn, candidate_at, sampled_by, sample_of}
 
@@ -82,6 +86,20 @@ module _ (s : Setup) where
   kept_rest from to now words =
       let link = link_between s from to in
       lost_or_not words (is_cut s from to now) _ _ (0, rest_after-zero words) (below_rest words (link.jitter + 1))
+
+  up_rest : (most : ℕ) (p : Option ℕ × Words) (words : Words) → IsRestOf words p.1 → IsRestOf words (up_to most p).1
+  up_rest most (None, left) words rest = rest
+  up_rest most (Some at, left) words rest = rest
+
+  pub dial_rest : (from to now limit : ℕ) (words : Words) → IsRestOf words (dial_of s from to now limit words).1
+  unfolding dial_of
+  dial_rest from to now limit words =
+      up_rest (now + limit) _ words (rest_next (λ there. trip_of s to from there s.stream.connect) (trip_of s from to now s.stream.connect words) words (trip_rest from to now s.stream.connect words)
+      (λ there left. trip_rest to from there s.stream.connect left))
+
+  -- whenever a message departs
+  pub way_rest : (k : Key) (to : ℕ) (way : Way) (words : Words) → ((now : ℕ) (left : Words) → IsRestOf left (way now left).1) → IsRestOf words (on_its_way (profile_of s) s k to way words).1
+  way_rest k to way words rest = rest (departs_by (profile_of s) s k) words
 
 -- ---- and those that a sample leaves
 

@@ -9,7 +9,7 @@ use Rattle.base.specs.declared.profile.Profile.TheVariants.{Memberlist}
 use Rattle.scenario.specs.Setup.{Setup}
 use Rattle.scenario.specs.Profile.{profile_of}
 use Rattle.incarnation.specs.declared.Claim.{Claim}
-use Rattle.incarnation.specs.declared.Claim.TheVariants.{Alive, Suspect, Confirm}
+use Rattle.incarnation.specs.declared.Claim.TheVariants.{Alive, Suspect, Confirm, Left, Intent}
 use Rattle.incarnation.specs.declared.Update.{Update}
 use Rattle.lifeguard.specs.Health.{LocalHealth}
 use Rattle.membership.specs.Table.{Known, does_override}
@@ -29,6 +29,8 @@ abbrev pub Over : ℕ → Claim × ℕ → Type 0
 Over j (Alive, i) = j < i
 Over j (Suspect, i) = j < i
 Over j (Confirm, i) = j ≤ i
+Over j (Left, i) = j ≤ i
+Over j (Intent, i) = ⊥
 
 -- and what overrides such a claim is one
 over_after : (j : ℕ) (new old : Claim × ℕ) → does_override Memberlist new old ≡ true → Over j old → Over j new
@@ -41,6 +43,15 @@ over_after j (Suspect, i) (Confirm, n) h over = absurd (false≢true h)
 over_after j (Confirm, i) (Alive, n) h over = let more = leb-true n i h in omega (arith, more, over)
 over_after j (Confirm, i) (Suspect, n) h over = let more = leb-true n i h in omega (arith, more, over)
 over_after j (Confirm, i) (Confirm, n) h over = absurd (false≢true h)
+over_after j (Alive, i) (Left, n) h over = let more = ltb-true n i h in omega (arith, more, over)
+over_after j (Suspect, i) (Left, n) h over = absurd (false≢true h)
+over_after j (Confirm, i) (Left, n) h over = absurd (false≢true h)
+over_after j (Left, i) (Alive, n) h over = let more = leb-true n i h in omega (arith, more, over)
+over_after j (Left, i) (Suspect, n) h over = let more = leb-true n i h in omega (arith, more, over)
+over_after j (Left, i) (Confirm, n) h over = absurd (false≢true h)
+over_after j (Left, i) (Left, n) h over = absurd (false≢true h)
+over_after j (Intent, i) old h over = absurd (false≢true h)
+over_after j new (Intent, n) h over = absurd over
 
 -- somebody is held so
 abbrev pub HeldOver : ℕ → ℕ → Known → Type 0
@@ -72,6 +83,8 @@ moves s rules k q j = record {
   forgotten = λ t who held others here dead h. absurd (let e = sym rules ∙ others in cc);
   began = λ t waits h. absurd (h.1 waits);
   late = λ t waits h. absurd (h.1 waits);
+  alone = λ t waits others h. absurd (h.1 waits);
+  again = λ t contact others h. absurd (let e = sym rules ∙ others in cc);
 }
 
 -- who knows somebody has started

@@ -11,7 +11,7 @@ use Rattle.base.specs.Order.{key_cmp, key_total}
 use Rattle.base.specs.World.{Machine, World, settled, rows_of, Run}
 use Rattle.base.proofs.Rising.{all_append}
 use Rattle.base.proofs.Kept.{HoldsOfAll, all_with_events}
-use Rattle.base.specs.declared.profile.Profile.TheVariants.{Papers, Memberlist}
+use Rattle.base.specs.declared.profile.Profile.TheVariants.{Papers, Memberlist, Hashicorp}
 use Rattle.scenario.specs.Profile.{profile_of}
 use Rattle.scenario.specs.Setup.{Setup}
 use Rattle.incarnation.specs.declared.Claim.TheVariants.{Alive, Confirm}
@@ -19,10 +19,15 @@ use Rattle.member.specs.declared.event_kind.EventKind.{EventKind}
 use Rattle.member.specs.State.{State}
 use Rattle.member.specs.Opening.{opening_state, opening, numbers}
 use Rattle.member.specs.Step.{step}
-use Rattle.member_laws.specs.Words.{WaitsAsOpened}
+use Rattle.std.specs.Option.{option_map_or, option_or}
+use Rattle.base.specs.declared.profile.Profile.{Profile}
+use Rattle.scenario.specs.Setup.{crash_of, leave_of}
+use Rattle.member.specs.Opening.{first_number_by}
+use Rattle.member_laws.specs.Words.{WaitsAsOpened, IsBorn}
+use Rattle.member_laws.proofs.Lives.{born_step}
 use Rattle.member_laws.specs.Runs.{Cluster, LeadsTo, IsReached}
 use Rattle.member_laws.proofs.Tables.{get_put}
-use Rattle.member_laws.proofs.Numbers.{never_falls}
+use Rattle.member_laws.proofs.Numbers.{never_falls, never_falls_by_older}
 use Rattle.member_laws.proofs.Confirms.{stays_confirmed}
 use Rattle.member_laws.proofs.Revivals.{HeldOver, stays_over, confirmed_over, alive_over}
 use Rattle.member_laws.proofs.Healths.{waits_step}
@@ -106,9 +111,31 @@ waiting_opened s w reached =
     (run_kept (step s) (WaitsAsOpened s) AnyEvent s.end (λ k c t _ _ h. (waits_step s k c t h, all_any _)) reached.0 (opening s) w reached.1 reached.2
     (record { members = λ m t here _. opened s (numbers s) m t here; events = λ k c here. tt })).members
 
+pub opening_born : (s : Setup) (m : ℕ) → IsBorn (opening_state s m)
+unfolding opening_state
+opening_born s m = by_profile (profile_of s)
+  where
+    one_or_two : (o : Option ℕ) → 0 < option_map_or (λ at. 2) o 1
+    one_or_two None = omega arith
+    one_or_two (Some at) = omega arith
+
+    by_profile : (profile : Profile) → 0 < first_number_by profile s m
+    by_profile Papers = one_or_two (option_or (crash_of s m) (leave_of s m))
+    by_profile Memberlist = one_or_two (option_or (crash_of s m) (leave_of s m))
+    by_profile Hashicorp = omega arith
+
+pub all_born : (s : Setup) (w : Cluster) → IsReached s w → (m : ℕ) (t : State) → get w.members m ≡ Some t → IsBorn t
+all_born s w reached =
+    (run_kept (step s) (λ m t. IsBorn t) AnyEvent s.end (λ k c t _ _ h. ((born_step s k c t h).1, all_any _)) reached.0 (opening s) w reached.1 reached.2
+    (record { members = λ m t here. subst IsBorn (sym (opened s (numbers s) m t here)) (opening_born s m); events = λ k c here. tt })).members
+
 -- no less than in the earlier world
 abbrev NoLessThan : Setup → Cluster → ℕ → State → Type 0
-NoLessThan s w m u = WaitsAsOpened s m u × ((t : State) → get w.members m ≡ Some t → t.incarnation ≤ u.incarnation)
+NoLessThan s w m u = WaitsAsOpened s m u × IsBorn u × ((t : State) → get w.members m ≡ Some t → (t.life.birth ≤ u.life.birth) × (t.life.birth ≡ u.life.birth → t.incarnation ≤ u.incarnation))
+
+-- the same by the older rules, by which nobody starts again
+abbrev AtLeastAs : Setup → Cluster → ℕ → State → Type 0
+AtLeastAs s w m u = WaitsAsOpened s m u × ((t : State) → get w.members m ≡ Some t → t.incarnation ≤ u.incarnation)
 
 abbrev AsConfirmed : Setup → Cluster → ℕ → State → Type 0
 AsConfirmed s w m u =
@@ -118,10 +145,37 @@ abbrev AsRevived : Setup → Cluster → ℕ → State → Type 0
 AsRevived s w m u = WaitsAsOpened s m u × ((t : State) (q j : ℕ) → get w.members m ≡ Some t → get t.table q ≡ Some (Confirm, j) → HeldOver q j u.table)
 
 module _ (s : Setup) (w v : Cluster) (reached : IsReached s w) (leads : LeadsTo s w v) (m : ℕ) (t u : State) (before : get w.members m ≡ Some t) (behind : get v.members m ≡ Some u) where
-  pub rises : t.incarnation ≤ u.incarnation
+  -- what is no less than in the earlier world stays so
+  rises_on : (k : Key) (c : EventKind) (x y : State) → WaitsAsOpened s k.to x → IsBorn x → (y.life.birth ≤ x.life.birth) × (y.life.birth ≡ x.life.birth → y.incarnation ≤ x.incarnation)
+      → (y.life.birth ≤ (step s k c x).state.life.birth) × (y.life.birth ≡ (step s k c x).state.life.birth → y.incarnation ≤ (step s k c x).state.incarnation)
+  rises_on k c x y waits born h =
+      let later = (born_step s k c x born).0 in
+      let first = h.0 in (
+        omega (arith, later, first),
+        λ same. let one : (step s k c x).state.life.birth ≡ x.life.birth = omega (arith, later, first, same) in
+            let least = h.1 (omega (arith, later, first, same)) in
+            let more = never_falls s k c x waits born one in
+            omega (arith, least, more),
+      )
+
+  pub rises : (t.life.birth ≤ u.life.birth) × (t.life.birth ≡ u.life.birth → t.incarnation ≤ u.incarnation)
   rises =
       ((run_kept (step s) (NoLessThan s w) AnyEvent s.end
-      (λ k c x _ _ h. ((waits_step s k c x h.0, λ y here. let least = h.1 y here in let more = never_falls s k c x h.0 in omega arith), all_any _))
+      (λ k c x _ _ h. ((waits_step s k c x h.0, (born_step s k c x h.1).1, λ y here. rises_on k c x y h.0 h.1 (h.2 y here)), all_any _))
+      leads.0 w v leads.1 leads.2
+      (record {
+        members = λ n x here. (
+          waiting_opened s w reached n x here,
+          all_born s w reached n x here,
+          λ y at. let same : x ≡ y = same_Some x y (sym here ∙ at) in (omega (arith, ap (λ (z : State). z.life.birth) same), λ _. omega (arith, ap (λ (z : State). z.incarnation) same)),
+        );
+        events = λ k c here. tt;
+      })).members m u behind).2 t before
+
+  pub rises_by_older : ¬ (profile_of s ≡ Hashicorp) → t.incarnation ≤ u.incarnation
+  rises_by_older older =
+      ((run_kept (step s) (AtLeastAs s w) AnyEvent s.end
+      (λ k c x _ _ h. ((waits_step s k c x h.0, λ y here. let least = h.1 y here in let more = never_falls_by_older s k c x older h.0 in omega (arith, least, more)), all_any _))
       leads.0 w v leads.1 leads.2
       (record {
         members = λ n x here. (waiting_opened s w reached n x here, λ y at. let same : x ≡ y = same_Some x y (sym here ∙ at) in omega (arith, ap (λ (z : State). z.incarnation) same));

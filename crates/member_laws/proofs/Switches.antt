@@ -30,10 +30,15 @@ use Rattle.member.specs.Opening.{opening_health}
 use Rattle.member.specs.Step.{step}
 use Rattle.member_laws.specs.Words.{keeps_relays, HasTerms, OwesNoneWithout, IsConsistent}
 use Rattle.member_laws.specs.Rows.{IsOn}
-use Rattle.member_laws.proofs.Moves.{NewsMoves, Moves, kept_either, death_either, Anyone}
+use Rattle.scenario.specs.declared.settings.Queue.{Queue}
+use Rattle.std.specs.FinSet.{contains-empty}
+use Rattle.lifeguard.specs.Relays.{relay_cmp}
+use Rattle.member.specs.Opening.{opening_state}
+use Rattle.member.specs.Riding.{without_claims, without_both, room_of}
+use Rattle.member_laws.proofs.Moves.{NewsMoves, Moves, at_again, kept_either, death_either, put_either, Anyone}
 use Rattle.member_laws.proofs.Walk.{all_anyone, anyone_named}
 use Rattle.member_laws.proofs.Made.{IsPlain, MayTell, SendsNacks, Makes, AnyTime, any_time, by_step, Carries}
-use Rattle.member_laws.proofs.Tables.{OfAll, of_put, of_left, of_accused}
+use Rattle.member_laws.proofs.Tables.{OfAll, of_put, of_left, of_accused, none_suspects}
 use Rattle.member_laws.proofs.Consistency.{IsHealthy, healthy_raised, healthy_lowered, relay_gone}
 
 -- ---- what the switches stand on
@@ -50,7 +55,10 @@ module _ (s : Setup) (k : Key) where
   news : NewsMoves s k Anyone (IsSet s)
   news = record {
     counted = λ t h. record { terms = h.terms; relays = h.relays; health = h.health };
-    put = λ t u named h. record { terms = h.terms; relays = h.relays; health = h.health };
+    put = λ t u named h.
+        put_either (IsSet s) s s.queue u t (λ buffer. record { terms = h.terms; relays = h.relays; health = h.health }) (λ queue. record { terms = h.terms; relays = h.relays; health = h.health });
+    regarding = λ t regards h. record { terms = h.terms; relays = h.relays; health = h.health };
+    intended = λ t u named h. record { terms = h.terms; relays = h.relays; health = h.health };
     alive = λ t u named says e h. ended t u h;
     suspect = λ t u x named says e begins h. begun t u x begins.terms h;
     confirm = λ t u named says e h. out t u h;
@@ -84,6 +92,22 @@ module _ (s : Setup) (k : Key) where
           kept_either (λ v. IsSet s (record v { suspicions = insert v.suspicions u.subject x })) (profile_of s) u t
           (record { terms = more t u x own h; relays = h.relays; health = h.health }) (record { terms = more t u x own h; relays = h.relays; health = h.health }) (record { terms = more t u x own h; relays = h.relays; health = h.health }) (record { terms = more t u x own h; relays = h.relays; health = h.health })
 
+  rides : (queue : Option Queue) (room : ℕ) (t : State) → IsSet s t → IsSet s (without_claims s queue room t)
+  rides None room t h = record { terms = h.terms; relays = h.relays; health = h.health }
+  rides (Some q) room t h = record { terms = h.terms; relays = h.relays; health = h.health }
+
+  rides_both : (t : State) (bearer : _) → IsSet s t → IsSet s (without_both s k.to bearer t)
+  unfolding without_both
+  rides_both t bearer h = let left = rides s.queue (room_of s k.to bearer s.queue) t h in record { terms = left.terms; relays = left.relays; health = left.health }
+
+  born_again : (t : State) (contact : Option ℕ) → IsSet s t → IsSet s (at_again s k contact t)
+  unfolding opening_state
+  born_again t contact h = record {
+    terms = (none_suspects (terms_of s)).settled;
+    relays = λ off relay. contains-empty relay_cmp relay;
+    health = record { within = omega arith; same = refl };
+  }
+
   moves : Moves s k Anyone (IsSet s)
   moves = record {
     own = tt;
@@ -112,6 +136,12 @@ module _ (s : Setup) (k : Key) where
     downed = λ t h. record { terms = h.terms; relays = h.relays; health = h.health };
     began = λ t waits h. record { terms = h.terms; relays = h.relays; health = h.health };
     late = λ t waits h. record { terms = h.terms; relays = h.relays; health = h.health };
+    ridden = rides_both;
+    asked = λ t contact h is. tt;
+    answered = λ t h. record { terms = h.terms; relays = h.relays; health = h.health };
+    leaving = λ t leaving h. record { terms = h.terms; relays = h.relays; health = h.health };
+    alone = λ t waits rules h. record { terms = h.terms; relays = h.relays; health = h.health };
+    again = λ t contact rules named h. born_again t contact h;
   }
 
 -- ---- rows
@@ -166,12 +196,14 @@ each_anyone (x ∷ xs) = (tt, each_anyone xs)
 -- anyone may be named
 pub carries_anyone : (s : Setup) (k : Key) (R : State → Type 0) → Carries s k Anyone R
 carries_anyone s k R = record {
-  plain = λ t h. all_anyone _;
+  plain = λ t bearer h. all_anyone _;
   ping = λ t to h. all_anyone _;
   contact = λ c is. tt;
   helpers = λ t but count h. each_anyone _;
   sample = λ t fitting count h. each_anyone _;
   whole = λ t h. all_anyone _;
+  known = λ t h. all_anyone _;
+  failed = λ t m place failed h are. tt;
 }
 
 abbrev AllOn : Setup → Effect → Type 0
@@ -197,7 +229,7 @@ pub each_row_is_on : (s : Setup) (k : Key) (c : EventKind) (t : State) → IsCon
 each_row_is_on s k c t h =
     let is : IsSet s t = record { terms = h.terms; relays = h.relays; health = record { within = h.health; same = h.ceiling } } in
     by_step s k Anyone (IsSet s) (news s k) (moves s k) (Unit {0}) (IsOn s) (may s) (carries_anyone s k (IsSet s)) AnyTime (any_time s k (IsSet s)) (AllOn s) (makes s k) c t tt (anyone_named c)
-    (λ _. is) (λ waits. (moves s k).began t waits is) (λ waits. (moves s k).late t waits is) tt
+    (λ _. is) (λ waits. (moves s k).began t waits is) (λ waits. (moves s k).late t waits is) (λ waits rules. (moves s k).alone t waits rules is) tt
 
 pub rows_are_on : (s : Setup) (k : Key) (c : EventKind) (t : State) → IsConsistent s k.to t → All (λ (row : Row). IsOn s row.what) (step s k c t).rows
 rows_are_on s k c t h = All-from_recursion (λ (row : Row). IsOn s row.what) (step s k c t).rows (each_row_is_on s k c t h)

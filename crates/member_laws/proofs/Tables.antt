@@ -387,11 +387,11 @@ module _ (s : Setup) (m : ℕ) where
   few_either n true e = omega arith
   few_either n false e = omega arith
 
-  high : (q : ℕ) (b : Bool) → contains_key (all_alive (first_others s m)) q ≡ b → member_count s ≤ 4096 → 2 ^ 16 ≤ q → ◌≡◌ {A = ℕ} (cond b 1 0) 0
+  high : (q : ℕ) (b : Bool) → contains_key (all_alive (first_others s m)) q ≡ b → member_count s ≤ 16384 → 2 ^ 16 ≤ q → ◌≡◌ {A = ℕ} (cond b 1 0) 0
   high q true here few h = let low = (first_known.others q here).0 in absurd (omega arith)
   high q false here few h = refl
 
-  pub first_probed : member_count s ≤ 4096 → ProbesAlike (all_alive (first_others s m)) (round_over (first_others s m))
+  pub first_probed : member_count s ≤ 16384 → ProbesAlike (all_alive (first_others s m)) (round_over (first_others s m))
   unfolding all_alive
   first_probed few = record {
     probes = λ q. first_counted q ∙ ap (λ b. cond b 1 0) (sym (live_alike (first_others s m) q));

@@ -14,7 +14,8 @@ use Rattle.incarnation.specs.declared.Claim.{Claim}
 use Rattle.incarnation.specs.declared.Claim.TheVariants.{Alive}
 use Rattle.incarnation.specs.declared.Update.{Update}
 use Rattle.membership.specs.Table.{Known, update_by, updates_by}
-use Rattle.member.specs.Send.{whole_table}
+use Rattle.member.specs.State.{State}
+use Rattle.member.specs.Wholes.{whole_table, whole_state, own_word}
 
 abbrev Entry : Type 0
 Entry = ℕ × (Claim × ℕ)
@@ -23,10 +24,17 @@ by_one : (me : ℕ) (es : List Entry) → AllByRecursion (λ (u : Update). u.acc
 by_one me [] = tt
 by_one me (e ∷ es) = (refl, by_one me es)
 
+accused_in : (me : ℕ) (table : Known) → All (λ (u : Update). u.accuser ≡ me) (updates_by me table)
+unfolding updates_by
+accused_in me table = All-from_recursion (λ (u : Update). u.accuser ≡ me) (map (update_by me) (entries table)) (by_one me (entries table))
+
 pub accused_by_sender : (me incarnation : ℕ) (table : Known) → All (λ (u : Update). u.accuser ≡ me) (whole_table me incarnation table)
-unfolding whole_table updates_by
-accused_by_sender me incarnation table =
-    All-from_recursion (λ (u : Update). u.accuser ≡ me) (map (update_by me) (entries (insert table me (Alive, incarnation)))) (by_one me (entries (insert table me (Alive, incarnation))))
+unfolding whole_table
+accused_by_sender me incarnation table = accused_in me (insert table me (Alive, incarnation))
+
+pub state_accused : (me : ℕ) (t : State) → All (λ (u : Update). u.accuser ≡ me) (whole_state me t)
+unfolding whole_state
+state_accused me t = accused_in me (insert t.table me (own_word t.life.leaving, t.incarnation))
 
 first : (a b : Bool) → T (a && b) → T a
 first true b h = tt
@@ -52,7 +60,14 @@ unfolding IsStrictlySortedBy
 sorted me [] h = tt
 sorted me (e ∷ es) h = (above e.0 me es (first _ _ h), sorted me es (second _ _ h))
 
+rising : (me : ℕ) (table : Known) → IsStrictlyIncreasing (map (λ (u : Update). u.subject) (updates_by me table))
+unfolding updates_by
+rising me table = IsStrictlyIncreasing-from_sorted _ (sorted me (entries table) (entries_sorted table))
+
 pub subjects_rise : (me incarnation : ℕ) (table : Known) → IsStrictlyIncreasing (map (λ (u : Update). u.subject) (whole_table me incarnation table))
-unfolding whole_table updates_by
-subjects_rise me incarnation table =
-    IsStrictlyIncreasing-from_sorted _ (sorted me (entries (insert table me (Alive, incarnation))) (entries_sorted (insert table me (Alive, incarnation))))
+unfolding whole_table
+subjects_rise me incarnation table = rising me (insert table me (Alive, incarnation))
+
+pub state_rises : (me : ℕ) (t : State) → IsStrictlyIncreasing (map (λ (u : Update). u.subject) (whole_state me t))
+unfolding whole_state
+state_rises me t = rising me (insert t.table me (own_word t.life.leaving, t.incarnation))

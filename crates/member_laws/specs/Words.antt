@@ -1,6 +1,9 @@
 -- What the laws say of a member, in the words of the protocol.
 use Rattle.std.specs.Prelude.{◌≡◌, ◌≢◌, ℕ, ◌<◌, ◌≤◌, Bool, true, false, not, ◌||◌, if◌then◌else◌, Some}
-use Rattle.std.specs.Option.{option_map_or}
+use Rattle.std.specs.Option.{option_map_or, IfSome}
+use Rattle.std.specs.List.{AllByRecursion}
+use Rattle.lives.specs.Lives.{LifeState}
+use Rattle.broadcast_queue.specs.declared.items.Item.{Item}
 use Rattle.std.specs.FinMap.{get, contains_key}
 use Rattle.std.specs.FinSet as set
 use Rattle.base.specs.declared.key.Key.{Key}
@@ -8,7 +11,7 @@ use Rattle.base.specs.declared.profile.Profile.{Profile}
 use Rattle.base.specs.declared.profile.Profile.TheVariants.{Papers, Memberlist, Hashicorp}
 use Rattle.scenario.specs.Setup.{Setup, member_count}
 use Rattle.scenario.specs.Profile.{profile_of}
-use Rattle.incarnation.specs.Refutations.{does_refute}
+use Rattle.member.specs.Apply.{is_refuted}
 use Rattle.streams.specs.Draw.{AreWords}
 use Rattle.incarnation.specs.declared.Claim.{Claim}
 use Rattle.incarnation.specs.declared.Claim.TheVariants.{Suspect}
@@ -21,10 +24,13 @@ use Rattle.suspicion.specs.Settings.{terms_of}
 use Rattle.suspicion.specs.Suspicions.{HeldSuspicion}
 use Rattle.member.specs.declared.member.Phase.TheVariants.{Waiting}
 use Rattle.member.specs.declared.event_kind.EventKind.{EventKind}
+use Rattle.member.specs.declared.event_kind.EventKind.TheVariants.{Restart}
 use Rattle.membership.specs.Table.{Known, is_suspect, is_confirm}
 use Rattle.member.specs.State.{State}
 use Rattle.member.specs.Here.{MentionsMembers}
 use Rattle.member.specs.Opening.{opening_state, opening_health}
+use Rattle.member.specs.Effects.{unchanged}
+use Rattle.member.specs.Leaves.{leave_gone_on}
 
 -- the update says that the member itself is suspected, at its present incarnation number (SWIM, section 4.2)
 pub record AccusesOneself (me : ℕ) (t : State) (u : Update) : Type 0 where
@@ -35,11 +41,15 @@ pub record AccusesOneself (me : ℕ) (t : State) (u : Update) : Type 0 where
 -- the update is about the member itself, and it refutes it
 pub record IsRefuted (profile : Profile) (me : ℕ) (t : State) (u : Update) : Type 0 where
   pub own : u.subject ≡ me
-  pub refutes : does_refute profile t.incarnation u.claim u.inc ≡ true
+  pub refutes : is_refuted profile t u.claim u.inc ≡ true
 
 -- a member that waits for its start is as in the opening world
 abbrev pub WaitsAsOpened : Setup → ℕ → State → Type 0
 WaitsAsOpened s m t = t.phase ≡ Waiting → t ≡ opening_state s m
+
+-- nothing is left to do of the member's leave before its next event
+abbrev pub HasSettledLeave : Setup → ℕ → State → Type 0
+HasSettledLeave s m t = (k : Key) → k.to ≡ m → leave_gone_on s k (unchanged t) ≡ unchanged t
 
 -- Lifeguard's local health is within its ceiling (LHA-Probe)
 abbrev pub IsWithinCeiling : LocalHealth → Type 0
@@ -90,6 +100,21 @@ SendsOfMembers s t = (q : ℕ) (it : Counted) → get t.buffer q ≡ Some it →
 abbrev pub ProbesAMember : Setup → State → Type 0
 ProbesAMember s t = (probe : Probe) → t.probe ≡ Some probe → probe.target < member_count s
 
+-- so are those that stand in memberlist's queue, and the intents; and whom it asks for all that is known is a member
+pub record LivesAmongMembers (s : Setup) (life : LifeState) : Type 0 where
+  pub asked : IfSome life.contact (λ c. c < member_count s)
+  pub intents : (q : ℕ) (it : Counted) → get life.intents q ≡ Some it → it.0.subject < member_count s
+  pub queue : AllByRecursion (λ (it : Item). it.update.subject < member_count s) life.queue.items
+
+-- the numbers of a life's timers are used from its birth on: the next life has a later one
+abbrev pub IsBorn : State → Type 0
+IsBorn t = t.life.birth < t.next_number
+
+-- an event with which a member starts again
+abbrev pub is_restart : EventKind → Bool
+is_restart (Restart contact) = true
+is_restart _ = false
+
 -- each suspicion that stands began at a moment no later than the end, among at least one and at most all members
 abbrev pub IsTimely : Setup → State → Type 0
 IsTimely s t = (q : ℕ) (x : HeldSuspicion) → get t.suspicions q ≡ Some x → (x.since ≤ s.end) × (1 ≤ x.members) × (x.members ≤ member_count s)
@@ -108,6 +133,7 @@ pub record IsConsistent (s : Setup) (m : ℕ) (t : State) : Type 0 where
   pub words : AreWords t.words
   pub buffer : SendsOfMembers s t
   pub target : ProbesAMember s t
+  pub life : LivesAmongMembers s t.life
 
 -- an event among the members of the scenario
 pub record IsAmongMembers (s : Setup) (k : Key) (c : EventKind) : Type 0 where

@@ -23,22 +23,25 @@ ghost use Rattle.member.specs.declared.event_kind.EventKind.{EventKind};
 ghost use Rattle.member.specs.declared.event_kind.EventKind.TheVariants.{Start, Leave, Bye, PeriodTimer, DeadlineTimer};
 ghost use Rattle.member.specs.declared.member.Phase.TheVariants.{Waiting, Running, Down};
 ghost use Rattle.member.specs.State.{State};
-ghost use Rattle.member.specs.Opening.{opening_state, opening};
+ghost use Rattle.member.specs.Opening.{opening_state, opening_health, opening};
 ghost use Rattle.member.specs.declared.announce.Announce.{Announce};
 ghost use Rattle.member.specs.Effects.{Effect, unchanged};
 ghost use Rattle.member.specs.Forgetting.{kept_for, is_long_dead, round_ended};
 ghost use Rattle.member.specs.LoneBuddy.{lone_buddy_of};
 ghost use Rattle.member.specs.SingleBeat.{is_in_step};
+ghost use Rattle.member.specs.Leaves.{leave_gone_on};
 ghost use Rattle.member.specs.Send.{whole_table, buddy_of};
+ghost use Rattle.member.specs.Wholes.{whole_state};
 ghost use Rattle.member.specs.Apply.{applied};
 ghost use Rattle.member.specs.Step.{needs_timer, is_under_way, step, plain_step};
-ghost use Rattle.member_laws.specs.Words.{has_relays, AccusesOneself, IsRefuted, WaitsAsOpened, IsWithinCeiling, IsTimely, IsConsistent, IsAmongMembers};
+ghost use Rattle.member_laws.specs.Words.{has_relays, AccusesOneself, IsRefuted, WaitsAsOpened, HasSettledLeave, IsWithinCeiling, IsTimely, IsConsistent, IsAmongMembers, IsBorn, is_restart};
 ghost use Rattle.member_laws.specs.Rows.{IsOn};
 ghost use Rattle.member_laws.specs.Runs.{Cluster, IsRunOf, IsPlainRunOf, LeadsTo, IsReached};
 
 /// A member's incarnation number becomes the one after that of a claim which it refutes, and stays at
 /// whatever else it hears. By the papers' rules it so rises by one where it hears itself suspected at
-/// its present number, and stays at all else. No step lowers it.
+/// its present number, and stays at all else. By the older rules, the papers' and memberlist's, no step lowers
+/// it. By memberlist 0.5.0's rules none does but a start anew, which begins a life with a later birth.
 pub fn an_incarnation_rises_to_refute_alone()
     ensures refuted { (s : Setup) (telling : Announce) (k : Key) (u : Update) (o : Effect)
         → IsRefuted (profile_of s) k.to o.state u
@@ -52,8 +55,10 @@ pub fn an_incarnation_rises_to_refute_alone()
     ensures stays_by_papers { (s : Setup) (telling : Announce) (k : Key) (u : Update) (o : Effect)
         → profile_of s ≡ Papers → ¬ AccusesOneself k.to o.state u
         → (applied s telling k u o).state.incarnation ≡ o.state.incarnation }
-    ensures never_falls { (s : Setup) (k : Key) (c : EventKind) (t : State) → WaitsAsOpened s k.to t
-        → t.incarnation ≤ (step s k c t).state.incarnation }
+    ensures never_falls { (s : Setup) (k : Key) (c : EventKind) (t : State) → WaitsAsOpened s k.to t → IsBorn t
+        → (step s k c t).state.life.birth ≡ t.life.birth → t.incarnation ≤ (step s k c t).state.incarnation }
+    ensures never_falls_by_older_rules { (s : Setup) (k : Key) (c : EventKind) (t : State) → ¬ (profile_of s ≡ Hashicorp)
+        → WaitsAsOpened s k.to t → t.incarnation ≤ (step s k c t).state.incarnation }
 {}
 
 /// By the papers' rules what is confirmed stays confirmed: a step leaves such an entry as it is.
@@ -83,11 +88,14 @@ pub fn the_long_dead_alone_are_forgotten()
         → get (round_ended s k o).state.table q ≡ None }
 {}
 
-/// A member that is down does nothing, and one that waits does nothing before its start: nothing of
-/// its state changes, no word is drawn, no event is made and no row is written.
+/// A member that is down does nothing until it starts again, which by the older rules it never does; and one that
+/// waits does nothing before its start: nothing of its state changes, no word is drawn, no event is made and no row
+/// is written.
 pub fn a_silent_member_keeps_silent()
-    ensures down { (s : Setup) (k : Key) (c : EventKind) (t : State) → t.phase ≡ Down
+    ensures down { (s : Setup) (k : Key) (c : EventKind) (t : State) → t.phase ≡ Down → is_restart c ≡ false
         → step s k c t ≡ unchanged t }
+    ensures down_for_good { (s : Setup) (k : Key) (c : EventKind) (t : State) → ¬ (profile_of s ≡ Hashicorp)
+        → t.phase ≡ Down → step s k c t ≡ unchanged t }
     ensures waiting { (s : Setup) (k : Key) (c : EventKind) (t : State) → t.phase ≡ Waiting → c ≢ Start
         → step s k c t ≡ unchanged t }
 {}
@@ -95,8 +103,9 @@ pub fn a_silent_member_keeps_silent()
 /// By memberlist's rules a beat ends the probe whose deadline has come, so the timer that it spares a
 /// probe would change nothing: only a timer for the beat's very moment is spared, after that beat the
 /// probe isn't under way, and a deadline timer of a probe that isn't under way changes nothing. By memberlist
-/// 0.5.0's rules a timer is spared for each moment that is in step with the beat, and the period timer, which
-/// comes by then, ends the probe.
+/// 0.5.0's rules a timer is spared for each moment that is in step with the beat, and the period timer of the same
+/// life, which comes by then, ends the probe. (There each event ends by what its member's leave still does, if
+/// anything.)
 pub fn a_beat_ends_a_probe_at_its_deadline()
     ensures spared { (beat period now : ℕ) (health : LocalHealth)
         → needs_timer (Some (next_in_step beat period now)) (now + scaled health period) ≡ false
@@ -107,18 +116,41 @@ pub fn a_beat_ends_a_probe_at_its_deadline()
     ensures in_step { (beat period now deadline : ℕ) → 0 < period → now < deadline → is_in_step beat period deadline ≡ true
         → next_in_step beat period now ≤ deadline }
     ensures once { (s : Setup) (k : Key) (its : Probe) (t : State) → profile_of s ≡ Hashicorp → t.phase ≡ Running
-        → t.probe ≡ Some its → its.deadline ≤ k.at → its.seq ≤ t.sequence
+        → t.life.birth ≤ k.number → t.probe ≡ Some its → its.deadline ≤ k.at → its.seq ≤ t.sequence
         → is_under_way its.seq (step s k PeriodTimer t).state.probe ≡ false }
     ensures idle { (s : Setup) (k : Key) (seq : ℕ) (t : State) → is_under_way seq t.probe ≡ false
+        → (profile_of s ≡ Hashicorp → leave_gone_on s k (unchanged t) ≡ unchanged t)
+        → step s k (DeadlineTimer seq) t ≡ unchanged t }
+    ensures idle_by_older_rules { (s : Setup) (k : Key) (seq : ℕ) (t : State) → ¬ (profile_of s ≡ Hashicorp)
+        → is_under_way seq t.probe ≡ false
         → step s k (DeadlineTimer seq) t ≡ unchanged t }
 {}
 
-/// Lifeguard's local health stays within its ceiling, which never changes (LHA-Probe).
+/// By memberlist 0.5.0's rules each event ends with what its member's leave still does, of which nothing is left to do
+/// before the next one: neither at the opening, nor after a step, nor wherever a run has come. So by no rules does the
+/// deadline timer of another probe than the one under way change anything in a run.
+pub fn an_event_settles_what_a_leave_does()
+    ensures opening { (s : Setup) (m : ℕ) → HasSettledLeave s m (opening_state s m) }
+    ensures step { (s : Setup) (k : Key) (c : EventKind) (t : State) → profile_of s ≡ Hashicorp
+        → WaitsAsOpened s k.to t → HasSettledLeave s k.to t → HasSettledLeave s k.to (step s k c t).state }
+    ensures run { (s : Setup) (w : Cluster) (m : ℕ) (t : State) → profile_of s ≡ Hashicorp → IsReached s w
+        → get w.members m ≡ Some t → HasSettledLeave s m t }
+    ensures idle { (s : Setup) (w : Cluster) (k : Key) (seq : ℕ) (t : State) → IsReached s w
+        → get w.members k.to ≡ Some t → is_under_way seq t.probe ≡ false
+        → step s k (DeadlineTimer seq) t ≡ unchanged t }
+{}
+
+/// Lifeguard's local health stays within its ceiling (LHA-Probe). By the older rules no step changes a ceiling,
+/// whatever it is. By memberlist 0.5.0's rules a start anew sets the scenario's ceiling, with which each member begins,
+/// so no step changes that one.
 pub fn health_stays_within_its_ceiling()
     ensures opening { (s : Setup) (m : ℕ) → IsWithinCeiling (opening_state s m).health }
     ensures counter { (s : Setup) (k : Key) (c : EventKind) (t : State) → IsWithinCeiling t.health
         → IsWithinCeiling (step s k c t).state.health }
     ensures ceiling { (s : Setup) (k : Key) (c : EventKind) (t : State)
+        → t.health.ceiling ≡ (opening_health s).ceiling
+        → (step s k c t).state.health.ceiling ≡ (opening_health s).ceiling }
+    ensures ceiling_by_older_rules { (s : Setup) (k : Key) (c : EventKind) (t : State) → ¬ (profile_of s ≡ Hashicorp)
         → (step s k c t).state.health.ceiling ≡ t.health.ceiling }
 {}
 
@@ -159,17 +191,27 @@ pub fn what_is_off_is_not_done()
 {}
 
 /// What a welcome holds, and a push and a pull, is sent in the sender's own name: the sender is the
-/// accuser of each entry. The entries come in the order of the members' numbers, one for a member.
+/// accuser of each entry. The entries come in the order of the members' numbers, one for a member. So it is of the
+/// whole state that is sent by memberlist 0.5.0's rules, in which the sender may say of itself that it has left.
 pub fn a_whole_table_is_sent_in_ones_own_name()
     ensures accuser { (me incarnation : ℕ) (table : Known)
         → All (λ (u : Update). u.accuser ≡ me) (whole_table me incarnation table) }
     ensures order { (me incarnation : ℕ) (table : Known)
         → IsStrictlyIncreasing (map (λ (u : Update). u.subject) (whole_table me incarnation table)) }
+    ensures state_accuser { (me : ℕ) (t : State) → All (λ (u : Update). u.accuser ≡ me) (whole_state me t) }
+    ensures state_order { (me : ℕ) (t : State)
+        → IsStrictlyIncreasing (map (λ (u : Update). u.subject) (whole_state me t)) }
 {}
 
-/// Through a run a member's incarnation number never falls.
+/// Through a run a member's incarnation number never falls within one life, and by the older rules, by which no
+/// member starts again, it never falls at all. No life has an earlier birth than the one before.
 pub fn a_run_lowers_no_incarnation()
-    ensures { (s : Setup) (w v : Cluster) (m : ℕ) (before after : State) → IsReached s w → LeadsTo s w v
+    ensures within_one_life { (s : Setup) (w v : Cluster) (m : ℕ) (before after : State) → IsReached s w → LeadsTo s w v
+        → get w.members m ≡ Some before → get v.members m ≡ Some after
+        → (before.life.birth ≤ after.life.birth)
+        × (before.life.birth ≡ after.life.birth → before.incarnation ≤ after.incarnation) }
+    ensures by_older_rules { (s : Setup) (w v : Cluster) (m : ℕ) (before after : State) → ¬ (profile_of s ≡ Hashicorp)
+        → IsReached s w → LeadsTo s w v
         → get w.members m ≡ Some before → get v.members m ≡ Some after
         → before.incarnation ≤ after.incarnation }
 {}

@@ -1,5 +1,5 @@
 -- The figure of lanes, and the lanes as a table.
-use Rattle.std.specs.Prelude.{ℕ, Bool, ◌-◌, ◌*◌, ◌&&◌, ◌==◌, nat_le, nat_eq, not, if◌then◌else◌, List, [], ◌++◌, codes, decimal, length, flat_map, take, max, slice_index, Option}
+use Rattle.std.specs.Prelude.{ℕ, Bool, ◌-◌, ◌*◌, ◌&&◌, ◌||◌, ◌==◌, nat_le, nat_eq, not, if◌then◌else◌, List, [], ◌++◌, codes, decimal, length, flat_map, take, max, slice_index, Option}
 use Rattle.std.specs.List.{range_with_len}
 use Rattle.scenario.specs.Setup.{Setup, name_of}
 use Rattle.trace.specs.declared.row.Row.{Row}
@@ -21,11 +21,15 @@ use Rattle.ticks.specs.declared.tick.Tick.{Tick}
 abbrev pub entry_where : Bool → List ℕ → List ℕ → List ℕ
 entry_where there class words = if there then entry class words else []
 
--- what the colours of the lanes stand for, where some member is slow, paused or cut off
-unfoldable pub lane_legend : Bool → Bool → Bool → List ℕ
-lane_legend slow paused cut =
+-- what the colour of a pause stands for, where some member is blocked
+abbrev pub pause_words : Bool → List ℕ
+pause_words blocked = if blocked then codes "it is paused or blocked" else codes "it is paused"
+
+-- what the colours of the lanes stand for, where some member is slow, paused, blocked or cut off
+unfoldable pub lane_legend : Bool → Bool → Bool → Bool → List ℕ
+lane_legend slow paused blocked cut =
     entry (codes "suspect") (codes "suspect it") ++ entry (codes "dead") (codes "have declared it dead") ++ entry_where slow (codes "slow") (codes "it is slow")
-    ++ entry_where paused (codes "pause") (codes "it is paused") ++ entry_where cut (codes "cut") (codes "it is cut off")
+    ++ entry_where (paused || blocked) (codes "pause") (pause_words blocked) ++ entry_where cut (codes "cut") (codes "it is cut off")
 
 -- how long a column of a lane is, for nothing is drawn narrower
 unfoldable pub column_words : Option Tick → ℕ → List ℕ
@@ -37,7 +41,7 @@ column_words time width =
 unfoldable pub lane_words : Option Tick → Setup → List ℕ
 lane_words time s =
     codes "<p class=\"soft\">One lane per member. Its height stands for all other members: how many of them suspect it, and how many have declared it dead.</p><ul class=\"legend\">"
-    ++ lane_legend (not (nat_eq (length s.slows) 0)) (not (nat_eq (length s.pauses) 0)) (not (nat_eq (length s.cuts) 0))
+    ++ lane_legend (not (nat_eq (length s.slows) 0)) (not (nat_eq (length s.pauses) 0)) (not (nat_eq (length s.blocks) 0)) (not (nat_eq (length s.cuts) 0))
     ++ codes "</ul><p class=\"soft\">Solid vertical line: the member crashes; dashed: it leaves or starts; dotted: others declare it alive again; dot: it refutes a claim.</p>"
     ++ column_words time (span_width s)
 

@@ -1,8 +1,10 @@
 -- Lanes: one for each member that was accused, or that the scenario has something happen to.
 use Rattle.std.specs.Prelude.{ℕ, Bool, ◌+◌, ◌-◌, ◌*◌, ◌/◌, ◌||◌, ◌==◌, nat_lt, nat_le, ◌&&◌, if◌then◌else◌, Option, List, ◌++◌, [], codes, flat_map, count_by, min, max}
-use Rattle.std.specs.Option.{option_map_or}
 use Rattle.std.specs.List.{range_with_len}
-use Rattle.scenario.specs.Setup.{Setup, member_count, name_of, group_at, start_of, crash_of, leave_of}
+use Rattle.scenario.specs.Setup.{Setup, member_count, name_of, group_at, start_of, script_of}
+use Rattle.scenario.specs.declared.script.ScriptKind.{ScriptKind}
+use Rattle.scenario.specs.declared.script.ScriptKind.TheVariants.{Crash, Leave, Restart}
+use Rattle.scenario.specs.declared.script.ScriptEvent.{ScriptEvent}
 use Rattle.scenario.specs.declared.settings.Slow.{Slow}
 use Rattle.scenario.specs.declared.settings.Cut.{Cut}
 use Rattle.scenario.specs.declared.settings.Pause.{Pause}
@@ -11,7 +13,6 @@ use Rattle.reports.specs.Rows.{rows_in_place}
 use Rattle.series.specs.Spans.{span_width, span_count}
 use Rattle.series.specs.Changes.{came, went}
 use Rattle.series.specs.Stories.{claims_of, refutes_in, revives_in}
-use Rattle.series.specs.Watched.{at_by}
 use Rattle.drawing.specs.Shapes.{plot_opening, plot_end, area, band, rule, dot}
 use Rattle.drawing.specs.Escaped.{escaped}
 use Rattle.member_timelines.specs.Told.{story_words}
@@ -34,7 +35,7 @@ time_band class s from until = band class (min from (moments s)) (min until (mom
 abbrev pub slow_band : Setup → ℕ → Slow → List ℕ
 slow_band s member slow = if slow.member == member then time_band (codes "slow") s slow.from slow.until else []
 
--- the time in which its process is paused
+-- the time in which its process is paused, or blocked
 abbrev pub pause_band : Setup → ℕ → Pause → List ℕ
 pause_band s member pause = if pause.member == member then time_band (codes "pause") s pause.from pause.until else []
 
@@ -46,10 +47,10 @@ is_cut_of group cut = cut.from == group || cut.to == group
 abbrev pub cut_band : Setup → ℕ → Cut → List ℕ
 cut_band s group cut = if is_cut_of group cut then time_band (codes "cut") s cut.at cut.until else []
 
--- when the member was slow, paused and cut off
+-- when the member was slow, paused, blocked and cut off
 unfoldable pub bands : Setup → ℕ → List ℕ
 bands s member =
-    flat_map (slow_band s member) s.slows ++ flat_map (pause_band s member) s.pauses
+    flat_map (slow_band s member) s.slows ++ flat_map (pause_band s member) s.pauses ++ flat_map (pause_band s member) s.blocks
     ++ flat_map (cut_band s (group_at s.groups member)) s.cuts
 
 -- how high a lane's span is for a state: how many others hold the member so
@@ -71,9 +72,15 @@ areas s rows member = stacked_areas s (held_heights s rows member 2) (held_heigh
 abbrev pub start_rule : Setup → ℕ → List ℕ
 start_rule s at = if nat_lt 0 at && nat_le at s.end then rule (codes "start") at (others s) else []
 
--- it crashes or leaves, where it does by the end
-abbrev pub departure_rule : List ℕ → Setup → Option ℕ → List ℕ
-departure_rule class s at = option_map_or (λ moment. rule class moment (others s)) (at_by s.end at) []
+-- by what class of rule it is drawn that a member crashes, leaves or starts again
+abbrev pub event_class : ScriptKind → List ℕ
+event_class Crash = codes "crash"
+event_class Leave = codes "leave"
+event_class (Restart contact) = codes "start"
+
+-- it does so, where that is by the end
+abbrev pub event_rule : Setup → ScriptEvent → List ℕ
+event_rule s event = if nat_le event.at s.end then rule (event_class event.kind) event.at (others s) else []
 
 -- the middle of a span
 abbrev pub middle : Setup → ℕ → ℕ
@@ -90,7 +97,7 @@ back_rule s rows member span = if nat_lt 0 (count_by (revives_in s member span) 
 -- what happened to the member and what it did
 unfoldable pub marks : Setup → List Row → ℕ → List ℕ
 marks s rows member =
-    start_rule s (start_of s member) ++ departure_rule (codes "crash") s (crash_of s member) ++ departure_rule (codes "leave") s (leave_of s member)
+    start_rule s (start_of s member) ++ flat_map (event_rule s) (script_of s member)
     ++ flat_map (back_rule s rows member) (range_with_len 0 (span_count s)) ++ flat_map (refute_dot s rows member) (range_with_len 0 (span_count s))
 
 -- the description of a lane for a screen reader

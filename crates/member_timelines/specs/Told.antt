@@ -1,8 +1,11 @@
 -- What happened to a member, in words.
-use Rattle.std.specs.Prelude.{ℕ, Bool, true, false, ◌-◌, ◌^◌, nat_lt, if◌then◌else◌, Option, Some, None, List, ◌++◌, [], codes, min, sum_by, count_by, slice_get}
+use Rattle.std.specs.Prelude.{ℕ, Bool, true, false, ◌-◌, ◌^◌, ◌&&◌, ◌==◌, nat_lt, nat_le, if◌then◌else◌, Option, Some, None, List, ◌++◌, [], codes, min, sum_by, count_by, slice_get, find, flat_map, option_map}
 use Rattle.std.specs.Option.{option_map_or}
-use Rattle.std.specs.List.{range_with_len, last_or}
-use Rattle.scenario.specs.Setup.{Setup, leave_of}
+use Rattle.std.specs.List.{range_with_len, last_or, list_any}
+use Rattle.scenario.specs.Setup.{Setup, script_of}
+use Rattle.scenario.specs.declared.script.ScriptKind.{ScriptKind}
+use Rattle.scenario.specs.declared.script.ScriptKind.TheVariants.{Crash, Leave, Restart}
+use Rattle.scenario.specs.declared.script.ScriptEvent.{ScriptEvent}
 use Rattle.trace.specs.declared.row.Row.{Row}
 use Rattle.trace.specs.declared.row.What.TheVariants as what
 use Rattle.reports.specs.Rows.{rows_in_place, tells_of}
@@ -10,7 +13,6 @@ use Rattle.series.specs.declared.lines.TraceLine.{TraceLine}
 use Rattle.series.specs.Spans.{span_count}
 use Rattle.series.specs.Lines.{lines_of}
 use Rattle.series.specs.Stories.{revives_in}
-use Rattle.series.specs.Watched.{at_by, crash_by_end}
 use Rattle.drawing.specs.Numbers.{grouped}
 use Rattle.member_timelines.specs.Numbers.{by_number}
 use Rattle.drawing.specs.Lengths.{time_text}
@@ -62,12 +64,54 @@ unharmed_words None = codes "never declared dead"
 abbrev pub out_words : Option Tick → ℕ → ℕ → Option TraceLine → List ℕ
 out_words time times back first = if nat_lt 0 times then wrongly_words time times back first else []
 
--- how it departed and when others declared it dead, after other words or alone; what became of it where it did neither crash nor leave
-unfoldable pub departed_words : Option Tick → Bool → Option TraceLine → Option TraceLine → Option ℕ → Option ℕ → List ℕ
-departed_words time out first last (Some at) leave = departure_words time out (codes "crashed at ") at ++ found_words time first
-departed_words time out first last None (Some at) = departure_words time out (codes "left at ") at ++ found_words time first
-departed_words time true first last None None = []
-departed_words time false first last None None = unharmed_words last
+-- what happened to a member by its script
+abbrev pub event_words : ScriptKind → List ℕ
+event_words Crash = codes "crashed at "
+event_words Leave = codes "left at "
+event_words (Restart contact) = codes "restarted at "
+
+-- the member departs so: it doesn't start again
+abbrev pub is_departure : ScriptKind → Bool
+is_departure Crash = true
+is_departure Leave = true
+is_departure (Restart contact) = false
+
+-- it does so by the end
+abbrev pub departs_by : ℕ → ScriptEvent → Bool
+departs_by end event = is_departure event.kind && nat_le event.at end
+
+-- when a member first departs, where it does by the end
+abbrev pub first_departure : Setup → ℕ → Option ℕ
+first_departure s member = option_map (λ event. event.at) (find (departs_by s.end) (script_of s member))
+
+-- it is a crash
+abbrev pub is_crash : ScriptKind → Bool
+is_crash Crash = true
+is_crash Leave = false
+is_crash (Restart contact) = false
+
+-- a member crashes by the event, then
+abbrev pub crashes_at : ℕ → ScriptEvent → Bool
+crashes_at at event = is_crash event.kind && event.at == at
+
+-- how it departs then: at one moment a crash comes before a leave
+abbrev pub departing_words : List ScriptEvent → ℕ → List ℕ
+departing_words script at = if list_any (crashes_at at) script then codes "crashed at " else codes "left at "
+
+-- how it first departed and when others declared it dead, after other words or alone; what became of it where it did neither crash nor leave
+unfoldable pub departed_words : Option Tick → Bool → Option TraceLine → Option TraceLine → List ScriptEvent → Option ℕ → List ℕ
+departed_words time out first last script (Some at) = departure_words time out (departing_words script at) at ++ found_words time first
+departed_words time true first last script None = []
+departed_words time false first last script None = unharmed_words last
+
+-- the event is that departure, or another at its moment
+abbrev pub is_told : Option ℕ → ScriptEvent → Bool
+is_told departure event = is_departure event.kind && option_map_or (λ at. at == event.at) departure false
+
+-- what else happened to the member by its script
+abbrev pub later_words : Option Tick → ℕ → Option ℕ → ScriptEvent → List ℕ
+later_words time end departure event =
+    if is_told departure event then [] else if nat_le event.at end then departure_words time true (event_words event.kind) event.at else []
 
 -- the first row that confirms that the member failed, and the last by which it refuted what was said of it
 abbrev pub first_confirm : List Row → ℕ → Option TraceLine
@@ -80,4 +124,5 @@ last_refute rows member = last_or None (lines_of (tells_of what.Refute member) r
 unfoldable pub story_words : Option Tick → Setup → List Row → ℕ → ℕ → List ℕ
 story_words time s rows member wrongly =
     out_words time wrongly (times_back s rows member) (first_confirm rows member)
-    ++ departed_words time (nat_lt 0 wrongly) (first_confirm rows member) (last_refute rows member) (crash_by_end s member) (at_by s.end (leave_of s member))
+    ++ departed_words time (nat_lt 0 wrongly) (first_confirm rows member) (last_refute rows member) (script_of s member) (first_departure s member)
+    ++ flat_map (later_words time s.end (first_departure s member)) (script_of s member)

@@ -2,18 +2,18 @@
 ghost use Rattle.std.specs.Prelude.{◌≡◌, ◌<◌, ◌≤◌, ◌++◌, OnOk, codes, flat_map};
 ghost use Rattle.std.specs.String.{string_bytes};
 ghost use Rattle.std.specs.List.{range_with_len};
-ghost use Rattle.scenario.specs.Setup.{member_count, name_of, crash_of, leave_of, start_of};
+ghost use Rattle.scenario.specs.Setup.{member_count, name_of, script_of, start_of};
 ghost use Rattle.series.specs.Spans.{span_count};
 ghost use Rattle.drawing.specs.Shapes.{plot_opening};
 ghost use Rattle.member_timelines.specs.Run.{IsTold};
-ghost use Rattle.member_timelines.specs.Lanes.{others, moments, lane_description, lane_opening, lane_plot, lane, bands, slow_band, pause_band, cut_band, is_cut_of, time_band, areas, stacked_areas, marks, start_rule, departure_rule, back_rule, refute_dot};
+ghost use Rattle.member_timelines.specs.Lanes.{others, moments, lane_description, lane_opening, lane_plot, lane, bands, slow_band, pause_band, cut_band, is_cut_of, time_band, areas, stacked_areas, marks, start_rule, event_class, event_rule, back_rule, refute_dot};
 
 use crate::counts::{flat, stacked};
 use crate::run::Run;
 use crate::told::push_told;
 use base::{MemberId, Memory, Moment};
 use drawing::{close_plot, open_plot, push_area, push_band, push_dot, push_escaped, push_rule};
-use scenario::{Cut, Pause, Slow};
+use scenario::{Cut, Pause, ScriptEvent, ScriptKind, Slow};
 use std::alloc::{AllocError, Global};
 
 /// Appends the lane of a member with so many false deaths.
@@ -89,7 +89,7 @@ fn open_lane_plot(text: &mut String, run: &Run, name: &str) -> Result<(), AllocE
     )
 }
 
-/// Appends when the member was slow, paused and cut off.
+/// Appends when the member was slow, paused, blocked and cut off.
 #[tactic(auto, unfolding(crate::specs::Lanes::bands))]
 fn push_bands(text: &mut String, run: &Run, member: MemberId) -> Result<(), AllocError>
     requires told { IsTold run.now }
@@ -98,6 +98,7 @@ fn push_bands(text: &mut String, run: &Run, member: MemberId) -> Result<(), Allo
 {
     push_slows(text, run, run.scenario.slows(), member)?;
     push_pauses(text, run, run.scenario.pauses(), member)?;
+    push_pauses(text, run, run.scenario.blocks(), member)?;
     push_cuts(
         text,
         run,
@@ -133,7 +134,7 @@ fn push_slow(text: &mut String, run: &Run, slow: &Slow, member: MemberId) -> Res
     Ok(())
 }
 
-/// Appends when its process was paused.
+/// Appends when its process was paused, or blocked.
 fn push_pauses(
     text: &mut String,
     run: &Run,
@@ -149,7 +150,7 @@ fn push_pauses(
     Ok(())
 }
 
-/// Appends a time in which a member's process is paused, where it is this one's.
+/// Appends a time in which a member's process is paused or blocked, where it is this one's.
 fn push_pause(
     text: &mut String,
     run: &Run,
@@ -263,8 +264,7 @@ fn push_marks(text: &mut String, run: &Run, member: MemberId) -> Result<(), Allo
     ensures { OnOk result (string_bytes text.new ≡ string_bytes text.old ++ marks run.now.scenario.now run.now.tallies.now member) }
 {
     push_start(text, run, run.scenario.start(member))?;
-    push_departure(text, run, "crash", run.scenario.crash(member))?;
-    push_departure(text, run, "leave", run.scenario.leave(member))?;
+    push_script(text, run, run.scenario.script(member))?;
     push_backs(text, run, member)?;
     push_refutes(text, run, member)
 }
@@ -281,19 +281,37 @@ fn push_start(text: &mut String, run: &Run, at: Moment) -> Result<(), AllocError
     Ok(())
 }
 
-/// Appends that a member departs, where it does by the end.
-fn push_departure(
-    text: &mut String,
-    run: &Run,
-    class: &str,
-    at: Option<Moment>,
-) -> Result<(), AllocError>
+/// Appends when a member with this script crashes, leaves and starts again.
+fn push_script(text: &mut String, run: &Run, script: &[ScriptEvent]) -> Result<(), AllocError>
     requires { IsTold run.now }
-    ensures { OnOk result (string_bytes text.new ≡ string_bytes text.old ++ departure_rule class.now run.now.scenario.now at) }
+    ensures { OnOk result (string_bytes text.new ≡ string_bytes text.old ++ flat_map (event_rule run.now.scenario.now) script.now) }
 {
-    match run.by_end(at) {
-        Some(at) => push_rule(text, class, at.ticks(), run.others()),
-        None => Ok(()),
+    for event in script {
+        push_event(text, run, event)?;
+    }
+    Ok(())
+}
+
+/// Appends an event of a member's script, where it is by the end.
+fn push_event(text: &mut String, run: &Run, event: &ScriptEvent) -> Result<(), AllocError>
+    requires { IsTold run.now }
+    ensures { OnOk result (string_bytes text.new ≡ string_bytes text.old ++ event_rule run.now.scenario.now event.now) }
+{
+    let at = event.at.ticks();
+    if at <= run.end() {
+        return push_rule(text, event_class(event.kind), at, run.others());
+    }
+    Ok(())
+}
+
+/// By what class of rule such an event is drawn.
+fn event_class(kind: ScriptKind) -> &'static str
+    ensures { result.now ≡ event_class kind }
+{
+    match kind {
+        ScriptKind::Crash => "crash",
+        ScriptKind::Leave => "leave",
+        ScriptKind::Restart(_) => "start",
     }
 }
 

@@ -1,9 +1,9 @@
 //! Lanes: one for each member that was accused, or that the scenario has something happen to.
-ghost use Rattle.std.specs.Prelude.{◌≡◌, ◌<◌, ◌≤◌, ◌^◌, ◌++◌, OnOk, All, codes, flat_map, take, length, not, nat_eq, if◌then◌else◌};
+ghost use Rattle.std.specs.Prelude.{◌≡◌, ◌<◌, ◌≤◌, ◌^◌, ◌++◌, ◌||◌, OnOk, All, codes, flat_map, take, length, not, nat_eq, if◌then◌else◌};
 ghost use Rattle.std.specs.String.{string_bytes};
 ghost use Rattle.scenario.specs.Setup.{member_count};
 ghost use Rattle.member_timelines.specs.Run.{IsTold};
-ghost use Rattle.member_timelines.specs.LaneTable.{entry_where, lane_legend, column_words, lane_words, time_axis, lane_axis, more_words, lane_rest, table_row, span_row, span_rows, member_rows, lane_table, lane_at, lanes_of, lanes_text};
+ghost use Rattle.member_timelines.specs.LaneTable.{entry_where, pause_words, lane_legend, column_words, lane_words, time_axis, lane_axis, more_words, lane_rest, table_row, span_row, span_rows, member_rows, lane_table, lane_at, lanes_of, lanes_text};
 
 use crate::chosen::{Chosen, first_lanes};
 use crate::counts::before;
@@ -111,30 +111,52 @@ fn push_column(text: &mut String, time: Option<Tick>, width: u64) -> Result<(), 
 /// Appends what the colours of the lanes of a run stand for.
 fn push_legend_of(text: &mut String, run: &Run) -> Result<(), AllocError>
     ensures { OnOk result (string_bytes text.new ≡ string_bytes text.old
-        ++ lane_legend (not (nat_eq (length run.now.scenario.now.slows) 0)) (not (nat_eq (length run.now.scenario.now.pauses) 0)) (not (nat_eq (length run.now.scenario.now.cuts) 0))) }
+        ++ lane_legend (not (nat_eq (length run.now.scenario.now.slows) 0)) (not (nat_eq (length run.now.scenario.now.pauses) 0)) (not (nat_eq (length run.now.scenario.now.blocks) 0)) (not (nat_eq (length run.now.scenario.now.cuts) 0))) }
 {
     let is_slow = !run.scenario.slows().is_empty();
     let is_paused = !run.scenario.pauses().is_empty();
+    let is_blocked = !run.scenario.blocks().is_empty();
     let is_cut = !run.scenario.cuts().is_empty();
-    push_legend(text, is_slow, is_paused, is_cut)
+    push_legend(text, is_slow, is_paused, is_blocked, is_cut)
 }
 
-/// Appends what the colours of the lanes stand for, where some member is slow, paused or cut off.
+/// Appends what the colours of the lanes stand for, where some member is slow, paused, blocked or cut
+/// off.
 #[tactic(auto, unfolding(crate::specs::LaneTable::lane_legend))]
 fn push_legend(
     text: &mut String,
     is_slow: bool,
     is_paused: bool,
+    is_blocked: bool,
     is_cut: bool,
 ) -> Result<(), AllocError>
-    ensures { OnOk result (string_bytes text.new ≡ string_bytes text.old ++ lane_legend is_slow is_paused is_cut) }
+    ensures { OnOk result (string_bytes text.new ≡ string_bytes text.old ++ lane_legend is_slow is_paused is_blocked is_cut) }
 {
     push_entry(text, "suspect", "suspect it")?;
     push_entry(text, "dead", "have declared it dead")?;
     push_entry_where(text, is_slow, "slow", "it is slow")?;
-    push_entry_where(text, is_paused, "pause", "it is paused")?;
+    push_pause_entry(text, is_paused, is_blocked)?;
     push_entry_where(text, is_cut, "cut", "it is cut off")?;
     Ok(())
+}
+
+/// Appends what the colour of a pause stands for, where some member is paused or blocked.
+fn push_pause_entry(text: &mut String, is_paused: bool, is_blocked: bool) -> Result<(), AllocError>
+    ensures { OnOk result (string_bytes text.new ≡ string_bytes text.old ++ entry_where (is_paused || is_blocked) (codes "pause") (pause_words is_blocked)) }
+{
+    let is_there = is_paused || is_blocked;
+    push_entry_where(text, is_there, "pause", pause_words(is_blocked))
+}
+
+/// What the colour of a pause stands for, where some member is blocked.
+fn pause_words(is_blocked: bool) -> &'static str
+    ensures { result.now ≡ pause_words is_blocked }
+{
+    if is_blocked {
+        "it is paused or blocked"
+    } else {
+        "it is paused"
+    }
 }
 
 /// Appends an entry of a legend, where what it stands for is there.

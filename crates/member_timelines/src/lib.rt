@@ -12,7 +12,7 @@ mod thrown_out;
 mod told;
 
 pub use chosen::{Chosen, all_chosen};
-pub use claims::claims_by_member;
+pub use claims::times_out;
 pub use counts::{axis_height, before, flat, greatest, heights, stacked};
 pub use lane::is_cut_of;
 pub use lanes::{push_lanes, push_time_axis};

@@ -3,11 +3,11 @@ ghost use Rattle.std.specs.Prelude.{◌≡◌, ◌+◌, ◌-◌, ◌*◌, ◌/�
 ghost use Rattle.scenario.specs.Setup.{member_count};
 ghost use Rattle.series.specs.Spans.{span_width, span_count};
 ghost use Rattle.series.specs.Stories.{IsStoryOf};
-ghost use Rattle.series.specs.Watched.{at_by};
 ghost use Rattle.member_timelines.specs.Lanes.{held_heights};
-ghost use Rattle.member_timelines.specs.Told.{first_confirm, last_refute};
+ghost use Rattle.member_timelines.specs.Told.{first_confirm, first_departure, last_refute};
 
 use crate::counts::heights;
+use crate::told::first_of;
 use base::{MemberId, Memory, Moment};
 use reports::Tallies;
 use scenario::Scenario;
@@ -38,7 +38,7 @@ impl<'a> Run<'a> {
     pub fn members(&self) -> usize
         requires told { IsTold self.now }
         ensures count { result ≡ member_count self.now.scenario.now }
-        ensures few { result ≤ 4096 }
+        ensures few { result ≤ 16384 }
     {
         self.scenario.members()
     }
@@ -48,7 +48,7 @@ impl<'a> Run<'a> {
         requires told { IsTold self.now }
         ensures value { result ≡ max (member_count self.now.scenario.now - 1) 1 }
         ensures some { 1 ≤ result }
-        ensures few { result ≤ 4096 }
+        ensures few { result ≤ 16384 }
     {
         (self.members() as u64).saturating_sub(1).max(1)
     }
@@ -61,14 +61,12 @@ impl<'a> Run<'a> {
         self.scenario.end().ticks()
     }
 
-    /// When something happens, where it does by the end: what comes later never happens.
-    pub(crate) fn by_end(&self, at: Option<Moment>) -> Option<Moment>
-        ensures { result ≡ at_by self.now.scenario.now.end at }
+    /// When a member first departs, where it does by the end: what comes later never happens.
+    pub(crate) fn first_departure(&self, member: MemberId) -> Option<Moment>
+        requires { member < member_count self.now.scenario.now }
+        ensures { result ≡ first_departure self.now.scenario.now member }
     {
-        match at {
-            Some(at) if at <= self.scenario.end() => Some(at),
-            _ => None,
-        }
+        first_of(self.scenario.script(member), self.end())
     }
 
     /// How long each span is, in ticks.

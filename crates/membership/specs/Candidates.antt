@@ -5,13 +5,14 @@ use Rattle.incarnation.specs.declared.Claim.{Claim}
 use Rattle.membership.specs.declared.candidates.Candidate.{Candidate}
 use Rattle.membership.specs.declared.candidates.Fitting.{Fitting}
 use Rattle.membership.specs.declared.candidates.Fitting.TheVariants.{AliveBut, Reachable}
-use Rattle.membership.specs.Table.{Known, is_alive, is_confirm}
+use Rattle.membership.specs.Table.{Known, is_alive, is_confirm, is_left}
 use Rattle.membership.specs.Deaths.{Since}
 
--- whether a member that is held so fits: held to be up, and not this one; or not held to be down for more than so many ticks, of which 0 stands for never
+-- whether a member that is held so fits: held to be up, and not this one; or not held to be down for more than so many ticks, of which 0 stands for never; nobody
+-- who has left fits that
 abbrev pub does_fit : Fitting → Since → ℕ → Claim → Bool
 does_fit (AliveBut other) since member claim = is_alive claim && not (nat_eq member other)
-does_fit (Reachable now dead) since member claim = not (is_confirm claim) || (nat_lt 0 dead && nat_le now (since member + dead))
+does_fit (Reachable now dead) since member claim = not (is_confirm claim) || (not (is_left claim) && nat_lt 0 dead && nat_le now (since member + dead))
 
 -- a member in the table
 abbrev pub known_candidate : (ℕ → Claim → Bool) → ℕ × (Claim × ℕ) → Candidate

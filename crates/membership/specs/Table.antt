@@ -5,7 +5,7 @@ use Rattle.std.specs.FinMap.{FinMap, entries, from_entries}
 use Rattle.base.specs.declared.profile.Profile.{Profile}
 use Rattle.base.specs.declared.profile.Profile.TheVariants.{Papers, Memberlist, Hashicorp}
 use Rattle.incarnation.specs.declared.Claim.{Claim}
-use Rattle.incarnation.specs.declared.Claim.TheVariants.{Alive, Suspect, Confirm}
+use Rattle.incarnation.specs.declared.Claim.TheVariants.{Alive, Suspect, Confirm, Left, Intent}
 use Rattle.incarnation.specs.declared.Update.{Update}
 
 -- what a member holds of others: for each that it knows, a claim with its incarnation number
@@ -20,25 +20,57 @@ abbrev pub is_alive : Claim → Bool
 is_alive Alive = true
 is_alive Suspect = false
 is_alive Confirm = false
+is_alive Left = false
+is_alive Intent = false
 
 abbrev pub is_suspect : Claim → Bool
 is_suspect Alive = false
 is_suspect Suspect = true
 is_suspect Confirm = false
+is_suspect Left = false
+is_suspect Intent = false
 
+-- whether a member is held to be down: confirmed, or gone by its own word
 abbrev pub is_confirm : Claim → Bool
 is_confirm Alive = false
 is_confirm Suspect = false
 is_confirm Confirm = true
+is_confirm Left = true
+is_confirm Intent = false
+
+-- whether a member is held to have left
+abbrev pub is_left : Claim → Bool
+is_left Alive = false
+is_left Suspect = false
+is_left Confirm = false
+is_left Left = true
+is_left Intent = false
+
+-- whether it is no claim, but says that a member is about to leave
+abbrev pub is_intent : Claim → Bool
+is_intent Alive = false
+is_intent Suspect = false
+is_intent Confirm = false
+is_intent Left = false
+is_intent Intent = true
+
+-- whether both are claims
+abbrev pub are_claims : Claim → Claim → Bool
+are_claims a b = not (is_intent a) && not (is_intent b)
+
+-- by memberlist's rules, whether the first claim overrides the second, where both are claims
+abbrev pub overrides_until_refuted : Claim × ℕ → Claim × ℕ → Bool
+overrides_until_refuted new old =
+    if is_alive new.0 then nat_lt old.1 new.1 else (is_alive old.0 || (is_confirm new.0 && is_suspect old.0)) && nat_le old.1 new.1
 
 -- whether the first claim overrides the second: the relation `Overrides` as a test
 abbrev pub does_override : Profile → Claim × ℕ → Claim × ℕ → Bool
 does_override Papers new old =
-    not (is_confirm old.0) && (is_confirm new.0 || nat_lt old.1 new.1 || (is_suspect new.0 && is_alive old.0 && nat_eq new.1 old.1))
+    are_claims new.0 old.0 && not (is_confirm old.0) && (is_confirm new.0 || nat_lt old.1 new.1 || (is_suspect new.0 && is_alive old.0 && nat_eq new.1 old.1))
 does_override Memberlist new old =
-    if is_alive new.0 then nat_lt old.1 new.1 else (is_alive old.0 || (is_confirm new.0 && is_suspect old.0)) && nat_le old.1 new.1
+    are_claims new.0 old.0 && overrides_until_refuted new old
 does_override Hashicorp new old =
-    if is_alive new.0 then nat_lt old.1 new.1 else (is_alive old.0 || (is_confirm new.0 && is_suspect old.0)) && nat_le old.1 new.1
+    are_claims new.0 old.0 && overrides_until_refuted new old
 
 -- n, the members that are not confirmed, oneself included
 unfoldable pub live_count : Known → ℕ

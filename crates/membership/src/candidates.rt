@@ -5,7 +5,7 @@ ghost use Rattle.membership.specs.Columns.{entries_from};
 ghost use Rattle.membership.specs.Deaths.{since_of};
 ghost use Rattle.membership.specs.Candidates.{does_fit, known_candidate};
 
-use crate::claims::{is_alive, is_confirm};
+use crate::claims::{is_alive, is_confirm, is_left};
 use crate::deaths::Deaths;
 use base::{MemberId, Memory, Moment};
 use incarnation::Claim;
@@ -22,7 +22,7 @@ pub struct Candidate {
 pub enum Fitting {
     /// Who is held to be up, but this one.
     AliveBut(MemberId),
-    /// Who isn't held to be down, or is so since at most `dead` ticks; with 0 nobody of these.
+    /// Who isn't held to be down, or is so since at most `dead` ticks; with 0 nobody of these, and nobody who has left.
     Reachable { now: Moment, dead: u64 },
 }
 
@@ -33,7 +33,8 @@ pub(crate) fn does_fit(fitting: &Fitting, deaths: &Deaths, member: MemberId, cla
     match fitting {
         Fitting::AliveBut(other) => is_alive(claim) && member != *other,
         Fitting::Reachable { now, dead } => {
-            !is_confirm(claim) || (*dead > 0 && is_lately(deaths.since(member), *now, *dead))
+            !is_confirm(claim)
+                || (!is_left(claim) && *dead > 0 && is_lately(deaths.since(member), *now, *dead))
         }
     }
 }

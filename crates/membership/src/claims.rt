@@ -1,7 +1,7 @@
 //! What a claim says of a member (alive, suspect or confirm), and which of two claims overrides the other (SWIM,
 //! section 4.2).
 ghost use Rattle.std.specs.Prelude.{◌≡◌};
-ghost use Rattle.membership.specs.Table.{is_alive, is_suspect, is_confirm, does_override};
+ghost use Rattle.membership.specs.Table.{is_alive, is_suspect, is_confirm, is_left, is_intent, does_override};
 
 use base::Profile;
 use incarnation::{Claim, overrides};
@@ -12,7 +12,7 @@ pub(crate) fn is_alive(claim: Claim) -> bool
 {
     match claim {
         Claim::Alive => true,
-        Claim::Suspect | Claim::Confirm => false,
+        Claim::Suspect | Claim::Confirm | Claim::Left | Claim::Intent => false,
     }
 }
 
@@ -22,17 +22,37 @@ pub fn is_suspect(claim: Claim) -> bool
 {
     match claim {
         Claim::Suspect => true,
-        Claim::Alive | Claim::Confirm => false,
+        Claim::Alive | Claim::Confirm | Claim::Left | Claim::Intent => false,
     }
 }
 
-/// Whether a member is held to be down.
+/// Whether a member is held to be down: confirmed, or gone by its own word.
 pub fn is_confirm(claim: Claim) -> bool
     ensures { result ≡ is_confirm claim }
 {
     match claim {
-        Claim::Confirm => true,
-        Claim::Alive | Claim::Suspect => false,
+        Claim::Confirm | Claim::Left => true,
+        Claim::Alive | Claim::Suspect | Claim::Intent => false,
+    }
+}
+
+/// Whether a member is held to have left.
+pub fn is_left(claim: Claim) -> bool
+    ensures { result ≡ is_left claim }
+{
+    match claim {
+        Claim::Left => true,
+        Claim::Alive | Claim::Suspect | Claim::Confirm | Claim::Intent => false,
+    }
+}
+
+/// Whether it is no claim, but says that a member is about to leave.
+pub fn is_intent(claim: Claim) -> bool
+    ensures { result ≡ is_intent claim }
+{
+    match claim {
+        Claim::Intent => true,
+        Claim::Alive | Claim::Suspect | Claim::Confirm | Claim::Left => false,
     }
 }
 

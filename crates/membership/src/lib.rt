@@ -8,6 +8,6 @@ mod numbers;
 mod table;
 
 pub use candidates::{Candidate, Fitting};
-pub use claims::{does_override, is_confirm, is_suspect};
+pub use claims::{does_override, is_confirm, is_intent, is_left, is_suspect};
 pub use deaths::Deaths;
 pub use table::Table;

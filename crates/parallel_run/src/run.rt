@@ -208,7 +208,7 @@ fn by_workers<
     let writer = Writer {
         scenario: rounds.cluster.scenario,
         takers,
-        tallies: Tallies::new(alloc),
+        tallies: Tallies::new(alloc, rounds.cluster.scenario),
     };
     let crew = &Crew::new(alloc, workers)?;
     let (board, seats): (RunBoard<K, Q>, Vec<RunSeat<K, Q>>) = Board::new(

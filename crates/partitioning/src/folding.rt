@@ -36,7 +36,7 @@ fn sizes_of(alloc: Global, scenario: &Scenario, division: &Division) -> Result<V
     ensures each { IfOk result (λ sizes. vec_len sizes ≡ division.now.parts) }
     ensures counted { IfOk result (λ sizes. EachIndex sizes.items (λ part. slice_index sizes.items part ≡ members_at division.now (λ p. p) part)) }
     ensures few { IfOk result (λ sizes. vec_len sizes ≤ 64) }
-    ensures bounded { IfOk result (λ sizes. All (λ size. size ≤ 4096) sizes.items) }
+    ensures bounded { IfOk result (λ sizes. All (λ size. size ≤ 16384) sizes.items) }
 {
     let mut sizes = vec![in alloc; 0; division.parts()]?;
     for member in 0..scenario.members() {

@@ -1,20 +1,22 @@
 -- A buffer's entries and the map that they stand for.
-use Rattle.std.proofs.Common.{◌≡◌, ℕ, ◌≤◌, Bool, true, false, cond, eqb, List, [], ◌∷◌, ◌++◌, map, filter, take, Option, Some, None, Result, Ok, Err, OnOk, OnErr, sym, ap, subst, ◌∙◌, refl}
+use Rattle.std.proofs.Common.{◌≡◌, ℕ, ◌≤◌, Bool, true, false, not, cond, eqb, List, [], ◌∷◌, ◌++◌, map, filter, length, take, Option, Some, None, Result, Ok, Err, OnOk, OnErr, sym, ap, subst, ◌∙◌, refl, arith}
 use Rattle.std.specs.List.{count_by}
 use Rattle.std.specs.Ordering.{nat_cmp, eq_by_cmp}
 use Rattle.std.specs.Option.{is_some, option_to_list, option_and_then}
 use Rattle.std.specs.Cmp.{nat_cmp_total}
 use Rattle.std.specs.FinMap.{from_entries, empty, values, get, insert, get-empty, get-entries, get-from_entries, get-insert, same_map, nat_cmp-IsAntisymmetric}
 use Rattle.std.proofs.lemmas.Bool.{false≢true, eq-eqb}
+use Rattle.std.proofs.lemmas.List.{length-map, take_all}
+use Rattle.std.proofs.lemmas.List.Filters.{length-filter_both}
 use Rattle.std.proofs.Math.Seq.{take-nil}
 use Rattle.std.specs.FinMap.Entries as by
 use Rattle.incarnation.specs.declared.Update.{Update}
-use Rattle.piggyback.specs.Picked.{Counted, HeldUpdates, IsOwn, left_after, is_candidate, in_order, picked}
+use Rattle.piggyback.specs.Picked.{Counted, HeldUpdates, IsOwn, left_after, is_candidate, in_order, picked, waiting}
 use Rattle.piggyback.specs.Keyed.{keyed, found_of, is_in_order, IsPut, IsSent}
 use Rattle.piggyback.proofs.Counts.{kept, get-left_after}
 use Rattle.piggyback.proofs.Rising.{rises}
 use Rattle.piggyback.proofs.Sorting.{in_order-all_placed, in_order-is, distinct-filter}
-use Rattle.piggyback.proofs.Once.{picked_once}
+use Rattle.piggyback.proofs.Once.{candidates_once, picked_once}
 use Rattle.piggyback.proofs.Owned.{Own, values_keyed, rising-values}
 use Rattle.piggyback.proofs.Sending.{order_is, differ_in_order, differ_rising, ties, own_found, found-placed_all, found-filter, if_passes, in_order-filter, same_order}
 
@@ -93,9 +95,25 @@ pub picked-keyed : (these : List Counted) (carry limit : ℕ) (buddy : Option Up
 picked-keyed these carry limit buddy ordered =
     ap (λ l. take carry (option_to_list buddy ++ map (λ (it : Counted). it.0) l)) (sym (in_order-values (is_candidate limit buddy) these ordered))
 
+-- and all the entries that may be sent are all that may be sent of the map
+pub waiting-keyed : (these : List Counted) (many limit : ℕ) → is_in_order these ≡ true → length these ≤ many → take many (map (λ it. it.0) (filter (is_candidate limit None) these)) ≡ waiting (held_by these) limit
+waiting-keyed these many limit ordered all =
+    let may = is_candidate limit None in
+    let updates = length-map (filter may these) (λ (it : Counted). it.0) in
+    let some = length-filter_both may (λ it. not (may it)) (λ it. refl) these in
+    take_all many (map (λ (it : Counted). it.0) (filter may these)) (omega (arith, all, updates, some))
+    ∙ ap (λ l. map (λ (it : Counted). it.0) l) (sym (in_order-values may these ordered))
+
+pub waiting-empty : (limit : ℕ) → waiting empty limit ≡ []
+waiting-empty limit = ap (λ (held : HeldUpdates). waiting held limit) (sym (empty-keyed [] refl)) ∙ sym (waiting-keyed [] 0 limit refl (omega arith))
+
 pub once-keyed : (these : List Counted) (carry limit : ℕ) (buddy : Option Update) (subject : ℕ) → count_by (λ (update : Update). eqb update.subject subject) (picked (held_by these) carry limit buddy) ≤ 1
 once-keyed these carry limit buddy subject =
     picked_once (values (held_by these)) (rising-values (held_by these) (own-held these)) limit carry buddy subject
+
+pub waiting-once : (these : List Counted) (limit subject : ℕ) → count_by (λ (update : Update). eqb update.subject subject) (waiting (held_by these) limit) ≤ 1
+waiting-once these limit subject =
+    candidates_once (values (held_by these)) (rising-values (held_by these) (own-held these)) limit None subject
 
 -- where there are no updates none is picked but the buddy, and none is left
 pub picked-empty : (held : HeldUpdates) (carry limit : ℕ) (buddy : Option Update) → held ≡ empty → is_some buddy ≡ false → picked held carry limit buddy ≡ []

@@ -76,7 +76,7 @@ candidate_apart limit buddy it candidate =
         both e = cc
 
 module _ (these : List Counted) (rising : is_rising these ≡ true) (limit : ℕ) where
-  candidates_once : (buddy : Option Update) (subject : ℕ) → count_by (about subject) (map (λ (it : Counted). it.0) (in_order (filter (is_candidate limit buddy) these))) ≤ 1
+  pub candidates_once : (buddy : Option Update) (subject : ℕ) → count_by (about subject) (map (λ (it : Counted). it.0) (in_order (filter (is_candidate limit buddy) these))) ≤ 1
   candidates_once buddy subject =
       let all = rises these rising in
       omega (

@@ -1,5 +1,5 @@
 -- Which updates ride on a message, and what that leaves in the buffer (SWIM, section 4.1; Lifeguard's Buddy System).
-use Rattle.std.specs.Prelude.{◌≡◌, ℕ, ◌+◌, ◌≤◌, ◌==◌, ◌||◌, ◌&&◌, Bool, not, nat_lt, if◌then◌else◌, Option, IfSome, List, ◌++◌, length, map, filter, find, take, count_by}
+use Rattle.std.specs.Prelude.{◌≡◌, ℕ, ◌+◌, ◌≤◌, ◌==◌, ◌||◌, ◌&&◌, Bool, not, nat_lt, if◌then◌else◌, Option, None, IfSome, List, ◌++◌, length, map, filter, find, take, count_by}
 use Rattle.std.specs.List.{list_any, filter_map, range_with_len}
 use Rattle.std.specs.Option.{option_to_list}
 use Rattle.std.specs.Ordering.{nat_cmp}
@@ -59,3 +59,7 @@ left_after held carried limit =
 -- what a pick leaves
 abbrev pub left_by_pick : HeldUpdates → ℕ → ℕ → Option Update → HeldUpdates
 left_by_pick held carry limit buddy = left_after held (picked held carry limit buddy) limit
+
+-- all that were sent fewer than limit times, in order
+abbrev pub waiting : HeldUpdates → ℕ → List Update
+waiting held limit = map (λ it. it.0) (in_order (filter (is_candidate limit None) (values held)))

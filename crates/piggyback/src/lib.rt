@@ -3,7 +3,7 @@
 
 ghost use Rattle.std.specs.Prelude.{◌≡◌, ℕ, ◌≤◌, ◌==◌, ◌↔◌, IsTrue, IsSome, IfSome, IsOk, IfOk, OnOk, OnErr, IsOkAnd, vec_len, count_by};
 ghost use Rattle.std.specs.FinMap.{empty, get, insert};
-ghost use Rattle.piggyback.specs.Picked.{picked, left_by_pick};
+ghost use Rattle.piggyback.specs.Picked.{picked, waiting, left_after, left_by_pick};
 
 mod entries;
 mod front;
@@ -85,6 +85,25 @@ impl Buffer {
         let updates = picked_of(alloc, &self.entries, carry, limit, buddy)?;
         count_sent(&mut self.entries, &updates, limit);
         Ok(updates)
+    }
+
+    /// The updates that were sent fewer than `limit` times, in the order in which they are sent.
+    pub fn waiting(&self, limit: u64) -> Result<Vec<Update>, Memory>
+        ensures waiting { IfOk result (λ updates. updates.items ≡ waiting self.now limit) }
+        ensures each_subject_once { IfOk result (λ updates. (subject : ℕ)
+            → count_by (λ update. update.subject == subject) updates.items ≤ 1) }
+    {
+        let alloc = *self.entries.allocator();
+        picked_of(alloc, &self.entries, self.entries.len(), limit, None)
+    }
+
+    /// A message carries these updates: what is about the subject of each was sent once more, and what was
+    /// sent `limit` times is dropped.
+    pub fn carried(&mut self, updates: &[Update], limit: u64)
+        requires once { (subject : ℕ) → count_by (λ update. update.subject == subject) updates.now ≤ 1 }
+        ensures { self.new ≡ left_after self.old updates.now limit }
+    {
+        count_sent(&mut self.entries, updates, limit);
     }
 
     /// Whether it has no updates.

@@ -8,7 +8,7 @@ use Rattle.std.proofs.lemmas.List.Elements.{filter-append}
 use Rattle.std.proofs.lemmas.List.Folds.{list_all-append}
 use Rattle.std.proofs.lemmas.Grind.{flat_map-append}
 use Rattle.presets.specs.declared.preset.Preset.{Preset}
-use Rattle.presets.specs.declared.preset.Preset.TheVariants.{Local, Lan, Wan, Swim}
+use Rattle.presets.specs.declared.preset.Preset.TheVariants.{Local, Lan, Wan, Serf, SerfWan, Consul, ConsulWan, Swim}
 use Rattle.presets.specs.declared.rows.Row.{Row}
 use Rattle.presets.specs.Rows.{row_text, setting_in, words_of, line_in, AreRows}
 use Rattle.presets.specs.Texts.{Line, line_text, is_on_line, is_there, no_settings, TellsSettings}
@@ -80,8 +80,12 @@ pub tells_none : (text : List ℕ) → text ≡ [] → TellsSettings [] text
 tells_none text is = record { lines = []; on_line = refl; same = refl; written = is }
 
 -- what holds of each preset
-pub each_preset : (P : Preset → Type 0) → P Local → P Lan → P Wan → P Swim → (preset : Preset) → P preset
-each_preset P local lan wan swim Local = local
-each_preset P local lan wan swim Lan = lan
-each_preset P local lan wan swim Wan = wan
-each_preset P local lan wan swim Swim = swim
+pub each_preset : (P : Preset → Type 0) → P Local → P Lan → P Wan → P Serf → P SerfWan → P Consul → P ConsulWan → P Swim → (preset : Preset) → P preset
+each_preset P local lan wan serf serf_wan consul consul_wan swim Local = local
+each_preset P local lan wan serf serf_wan consul consul_wan swim Lan = lan
+each_preset P local lan wan serf serf_wan consul consul_wan swim Wan = wan
+each_preset P local lan wan serf serf_wan consul consul_wan swim Serf = serf
+each_preset P local lan wan serf serf_wan consul consul_wan swim SerfWan = serf_wan
+each_preset P local lan wan serf serf_wan consul consul_wan swim Consul = consul
+each_preset P local lan wan serf serf_wan consul consul_wan swim ConsulWan = consul_wan
+each_preset P local lan wan serf serf_wan consul consul_wan swim Swim = swim

@@ -7,24 +7,37 @@ ghost use Rattle.presets.specs.Texts.{cluster_of, gossip_of, no_settings, probin
 pub(crate) enum Row {
     /// The same in each preset.
     Same(&'static str, &'static str),
-    /// The same in each of version 3 of the format.
-    Third(&'static str, &'static str),
-    /// A key and its value in each preset.
+    /// The same in each of version 4 of the format.
+    Newer(&'static str, &'static str),
+    /// The same in each of Serf's and Consul's.
+    Serf(&'static str, &'static str),
+    /// A key and its value, by where members are.
     Each(&'static str, Values, &'static str),
+    /// A key and its value, by whose program they run.
+    Owner(&'static str, Owners, &'static str),
 }
 
-/// The value of a key in each preset.
+/// The value of a key in the presets of each program: none where its presets don't have the key.
+#[derive(Clone, Copy)]
+pub(crate) struct Owners {
+    pub(crate) memberlist: Option<&'static str>,
+    pub(crate) serf: &'static str,
+    pub(crate) consul: &'static str,
+    pub(crate) consul_wan: &'static str,
+}
+
+/// The value of a key on one machine, in one data centre, between data centres, and in the papers' preset.
 #[derive(Clone, Copy)]
 pub(crate) struct Values {
     pub(crate) local: &'static str,
     pub(crate) lan: &'static str,
     pub(crate) wan: &'static str,
-    /// None where the key came with version 3.
+    /// None where the key came after version 2.
     pub(crate) swim: Option<&'static str>,
 }
 
 /// The lines on how long a run is, and how members probe.
-pub(crate) fn probing_rows() -> [Row; 15]
+pub(crate) fn probing_rows() -> [Row; 17]
     ensures { AreRows probing_of result }
 {
     PROBING_ROWS
@@ -37,8 +50,8 @@ pub(crate) fn suspicion_rows() -> [Row; 11]
     SUSPICION_ROWS
 }
 
-/// The lines on gossip and streams, which came with version 3.
-pub(crate) fn gossip_rows() -> [Row; 10]
+/// The lines on gossip and streams, and on Serf.
+pub(crate) fn gossip_rows() -> [Row; 20]
     ensures { AreRows gossip_of result }
 {
     GOSSIP_ROWS
@@ -58,6 +71,13 @@ pub(crate) fn leave_rows() -> [Row; 12]
     LEAVE_ROWS
 }
 
+/// The lines on restarts and blocked members: comments alone.
+pub(crate) fn restart_rows() -> [Row; 10]
+    ensures { AreRows no_settings result }
+{
+    RESTART_ROWS
+}
+
 /// The lines on what may happen to the links, and on pauses: comments alone.
 pub(crate) fn cut_rows() -> [Row; 17]
     ensures { AreRows no_settings result }
@@ -66,18 +86,26 @@ pub(crate) fn cut_rows() -> [Row; 17]
 }
 
 /// The lines on how long a run is, and how members probe.
-const PROBING_ROWS: [Row; 15] = [
+const PROBING_ROWS: [Row; 17] = [
     Row::Same("", "A tick stands for a millisecond here. To run it:"),
     Row::Same("", "  swimsim run FILE --trace TRACE --report REPORT"),
+    Row::Newer(
+        "",
+        "Failed probes, suspicions and false deaths are those of memberlist 0.2.2 to 0.5.0 within 10 %.",
+    ),
+    Row::Serf(
+        "",
+        "How a cluster heals after a cut is measured beside Serf 0.9.4, with its own code.",
+    ),
     Row::Each(
         "version = ",
         Values {
-            local: "3",
-            lan: "3",
-            wan: "3",
+            local: "4",
+            lan: "4",
+            wan: "4",
             swim: Some("2"),
         },
-        "3: memberlist's rules; 1 and 2: those of the papers on SWIM and Lifeguard",
+        "4: memberlist's rules; 1 and 2: those of the papers on SWIM and Lifeguard",
     ),
     Row::Same(
         "seed = 1",
@@ -125,7 +153,7 @@ const PROBING_ROWS: [Row; 15] = [
         },
         "how many others are then asked to ping the target (IndirectChecks)",
     ),
-    Row::Third(
+    Row::Newer(
         "fallback = true",
         "whether it is called over a stream then, too (not DisableTcpPings)",
     ),
@@ -225,10 +253,10 @@ const SUSPICION_ROWS: [Row; 11] = [
     ),
 ];
 
-/// The lines on gossip and streams, which came with version 3.
-const GOSSIP_ROWS: [Row; 10] = [
-    Row::Third("", ""),
-    Row::Third("[gossip]", ""),
+/// The lines on gossip and streams, and on Serf.
+const GOSSIP_ROWS: [Row; 20] = [
+    Row::Newer("", ""),
+    Row::Newer("[gossip]", ""),
     Row::Each(
         "interval = ",
         Values {
@@ -257,7 +285,7 @@ const GOSSIP_ROWS: [Row; 10] = [
             wan: "60000",
             swim: None,
         },
-        "for how many ticks the dead get updates, too (GossipToTheDeadTime)",
+        "for how many ticks the dead get updates, and are known, too (GossipToTheDeadTime)",
     ),
     Row::Each(
         "push = ",
@@ -269,15 +297,73 @@ const GOSSIP_ROWS: [Row; 10] = [
         },
         "ticks between two exchanges of whole tables, 0 for none (PushPullInterval)",
     ),
-    Row::Third("", ""),
-    Row::Third("[stream]", ""),
-    Row::Third(
+    Row::Newer(
+        "queue = true",
+        "whether updates wait as in memberlist's queue, with its fault (TransmitLimitedQueue)",
+    ),
+    Row::Newer(
+        "packet = 1400",
+        "bytes of a packet, which updates fill; with 0 `carry` counts them (UDPBufferSize)",
+    ),
+    Row::Owner(
+        "meta = ",
+        Owners {
+            memberlist: Some("0"),
+            serf: "2",
+            consul: "125",
+            consul_wan: "241",
+        },
+        "bytes of a member's tags (Consul's as remembered, not read)",
+    ),
+    Row::Newer("", ""),
+    Row::Newer("[stream]", ""),
+    Row::Newer(
         "connect = 1000",
         "ticks until a lost connection is first asked for again",
     ),
-    Row::Third(
+    Row::Newer(
         "again = 200",
         "ticks until what was lost on a stream is first sent again",
+    ),
+    Row::Each(
+        "limit = ",
+        Values {
+            local: "1000",
+            lan: "10000",
+            wan: "30000",
+            swim: None,
+        },
+        "how many ticks an exchange may take (TCPTimeout)",
+    ),
+    Row::Newer(
+        "retry = 30000",
+        "ticks until one who restarts asks its contact again (retry_interval)",
+    ),
+    Row::Serf("", ""),
+    Row::Serf("[serf]", ""),
+    Row::Serf(
+        "reconnect = 30000",
+        "ticks from one try to reach a failed member to the next (ReconnectInterval)",
+    ),
+    Row::Owner(
+        "reap = ",
+        Owners {
+            memberlist: None,
+            serf: "86400000",
+            consul: "259200000",
+            consul_wan: "259200000",
+        },
+        "after so many ticks a failed member is no longer tried (ReconnectTimeout)",
+    ),
+    Row::Owner(
+        "linger = ",
+        Owners {
+            memberlist: None,
+            serf: "1000",
+            consul: "3000",
+            consul_wan: "3000",
+        },
+        "ticks from saying that one leaves to one's exit (LeavePropagateDelay)",
     ),
 ];
 
@@ -321,7 +407,7 @@ const CLUSTER_ROWS: [Row; 16] = [
     Row::Same("", ""),
     Row::Same("[[crash]]", ""),
     Row::Same("member = \"node-7\"", "who crashes"),
-    Row::Same("at = 30000", "and at which tick; it is for good"),
+    Row::Same("at = 30000", "and at which tick"),
     Row::Same("", ""),
 ];
 
@@ -341,16 +427,36 @@ const LEAVE_ROWS: [Row; 12] = [
     Row::Same("", ""),
 ];
 
+/// The lines on restarts and blocked members: comments alone.
+const RESTART_ROWS: [Row; 10] = [
+    Row::Newer("", "[[restart]]"),
+    Row::Newer(
+        "",
+        "member = \"node-7\"     # who starts again, under its name",
+    ),
+    Row::Newer("", "at = 60000            # and at which tick"),
+    Row::Newer("", "contact = \"node-0\"    # whom it asks to let it in"),
+    Row::Newer("", ""),
+    Row::Newer("", "[[block]]"),
+    Row::Newer(
+        "",
+        "member = \"node-11\"    # who sends and receives nothing, while its timers run",
+    ),
+    Row::Newer("", "from = 60000          # from this tick"),
+    Row::Newer("", "until = 70000         # to before this one"),
+    Row::Newer("", ""),
+];
+
 /// The lines on what may happen to the links, and on pauses: comments alone.
 const CUT_ROWS: [Row; 17] = [
-    Row::Third("", "[[pause]]"),
-    Row::Third(
+    Row::Newer("", "[[pause]]"),
+    Row::Newer(
         "",
         "member = \"node-10\"    # who handles nothing, as a process that is stopped",
     ),
-    Row::Third("", "from = 60000          # from this tick"),
-    Row::Third("", "until = 70000         # to before this one"),
-    Row::Third("", ""),
+    Row::Newer("", "from = 60000          # from this tick"),
+    Row::Newer("", "until = 70000         # to before this one"),
+    Row::Newer("", ""),
     Row::Same("", "[[cut]]"),
     Row::Same(
         "",

@@ -1,12 +1,13 @@
 //! The text of a preset.
 ghost use Rattle.std.specs.Prelude.{◌≡◌, ◌++◌, flat_map, option_map, IfOk, OnOk};
 ghost use Rattle.std.specs.String.{string_bytes};
-ghost use Rattle.presets.specs.Rows.{row_text, setting_in, words_of};
+ghost use Rattle.presets.specs.Rows.{owners_value, row_text, setting_in, value_in, words_of};
 ghost use Rattle.presets.specs.Texts.{comment_behind, gap_behind, line_text, settings_of, TellsSettings};
 
 use crate::preset::Preset;
 use crate::rows::{
-    Row, cluster_rows, cut_rows, gossip_rows, leave_rows, probing_rows, suspicion_rows,
+    Owners, Row, Values, cluster_rows, cut_rows, gossip_rows, leave_rows, probing_rows,
+    restart_rows, suspicion_rows,
 };
 use std::alloc::{AllocError, Global};
 
@@ -25,6 +26,7 @@ impl Preset {
         push_rows(&mut text, self, &gossip_rows())?;
         push_rows(&mut text, self, &cluster_rows())?;
         push_rows(&mut text, self, &leave_rows())?;
+        push_rows(&mut text, self, &restart_rows())?;
         push_rows(&mut text, self, &cut_rows())?;
         Ok(text)
     }
@@ -56,16 +58,43 @@ fn setting_in(preset: Preset, row: &Row) -> Option<(&'static str, &'static str)>
 {
     match row {
         Row::Same(text, _) => Some((*text, "")),
-        Row::Third(text, _) => match preset {
-            Preset::Local | Preset::Lan | Preset::Wan => Some((*text, "")),
+        Row::Newer(text, _) => match preset {
             Preset::Swim => None,
+            _ => Some((*text, "")),
         },
-        Row::Each(head, values, _) => match preset {
-            Preset::Local => Some((*head, values.local)),
-            Preset::Lan => Some((*head, values.lan)),
-            Preset::Wan => Some((*head, values.wan)),
-            Preset::Swim => Some((*head, values.swim?)),
+        Row::Serf(text, _) => match preset {
+            Preset::Serf | Preset::SerfWan | Preset::Consul | Preset::ConsulWan => {
+                Some((*text, ""))
+            }
+            _ => None,
         },
+        Row::Each(head, values, _) => Some((*head, value_of(preset, values)?)),
+        Row::Owner(head, owners, _) => Some((*head, value_by_owner(preset, owners)?)),
+    }
+}
+
+/// A key's value in a preset, by where its members are.
+fn value_of(preset: Preset, values: &Values) -> Option<&'static str>
+    ensures { option_map (λ value. value.now) result ≡ value_in preset values.now }
+{
+    match preset {
+        Preset::Local => Some(values.local),
+        Preset::Lan | Preset::Serf | Preset::Consul => Some(values.lan),
+        Preset::Wan | Preset::SerfWan | Preset::ConsulWan => Some(values.wan),
+        Preset::Swim => values.swim,
+    }
+}
+
+/// A key's value in a preset, by whose program its members run.
+fn value_by_owner(preset: Preset, owners: &Owners) -> Option<&'static str>
+    ensures { option_map (λ value. value.now) result ≡ owners_value preset owners.now }
+{
+    match preset {
+        Preset::Local | Preset::Lan | Preset::Wan => owners.memberlist,
+        Preset::Serf | Preset::SerfWan => Some(owners.serf),
+        Preset::Consul => Some(owners.consul),
+        Preset::ConsulWan => Some(owners.consul_wan),
+        Preset::Swim => None,
     }
 }
 
@@ -75,8 +104,10 @@ fn words_of(row: &Row) -> &'static str
 {
     match row {
         Row::Same(_, words) => *words,
-        Row::Third(_, words) => *words,
+        Row::Newer(_, words) => *words,
+        Row::Serf(_, words) => *words,
         Row::Each(_, _, words) => *words,
+        Row::Owner(_, _, words) => *words,
     }
 }
 

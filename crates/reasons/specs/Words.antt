@@ -88,7 +88,7 @@ parts_text parts = codes "write a whole number per million: " ++ decimal parts
 -- which statistics there are
 abbrev pub no_statistic : List ℕ → List ℕ
 no_statistic name = codes "there is no statistic " ++ shown_name name
-    ++ codes "; the statistics are out, suspect_p50, confirm_p50, confirm_p99, confirm_greatest, last_p50, last_greatest, false_suspect, thrown_out and messages"
+    ++ codes "; the statistics are out, suspect_p50, confirm_p50, confirm_p99, confirm_greatest, last_p50, last_greatest, false_suspect, thrown_out and messages, and in version 4 alarms, deaths, deaths_well and deaths_day"
 
 -- what is wrong with the words
 abbrev pub word_reason_text : WordReason → List ℕ

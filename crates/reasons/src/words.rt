@@ -288,6 +288,6 @@ fn write_statistic<W: Write>(f: &mut Formatter<W>, name: &str) -> fmt::Result
     f.write_str("there is no statistic ")?;
     write_name(f, name)?;
     f.write_str(
-        "; the statistics are out, suspect_p50, confirm_p50, confirm_p99, confirm_greatest, last_p50, last_greatest, false_suspect, thrown_out and messages",
+        "; the statistics are out, suspect_p50, confirm_p50, confirm_p99, confirm_greatest, last_p50, last_greatest, false_suspect, thrown_out and messages, and in version 4 alarms, deaths, deaths_well and deaths_day",
     )
 }

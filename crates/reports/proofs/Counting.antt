@@ -12,7 +12,7 @@ use Rattle.trace.specs.contracts.row.What.{the_type}
 use Rattle.trace.specs.declared.row.What.{What}
 use Rattle.trace.specs.declared.row.What.TheVariants as what
 use Rattle.trace.specs.declared.row.Row.{Row}
-use Rattle.reports.specs.Rows.{has_kind, tells_lost, count_of, losses_of, worst_health}
+use Rattle.trace_rows.specs.Rows.{has_kind, tells_lost, count_of, losses_of, worst_health}
 use Rattle.reports.specs.Counts.{count_place}
 use Rattle.reports.proofs.Detections.{and-true}
 

@@ -1,6 +1,6 @@
 -- What one row more makes of the departures and of the false claims that are kept.
 use Rattle.std.proofs.Common.{◌≡◌, ℕ, ◌+◌, ◌-◌, ◌<◌, ◌^◌, ◌==◌, Bool, true, false, cond, ◌&&◌, ◌||◌, not, List, [], ◌∷◌, ◌++◌, length, get_or, set, take, drop, map, Option, Some, None, refl, sym, ap, subst, ◌∙◌, arith, add-zero, append-nil}
-use Rattle.std.specs.Prelude.{Result, Ok, Err, All, OnOk, OnErr, if◌then◌else◌}
+use Rattle.std.specs.Prelude.{All, if◌then◌else◌}
 use Rattle.std.specs.Option.{option_map_or}
 use Rattle.std.specs.List.{list_any}
 use Rattle.std.proofs.lemmas.List.{length-map, length-take-le, get_or-append_right, get_or-drop}
@@ -9,9 +9,10 @@ use Rattle.std.proofs.lemmas.List.Elements.{All-get_or}
 use Rattle.trace.specs.declared.row.What.{What}
 use Rattle.trace.specs.declared.row.What.TheVariants as what
 use Rattle.trace.specs.declared.row.Row.{Row}
+pub use Rattle.trace_rows.proofs.Outcomes.{on_ok, on_err, on_ok_three, on_err_three}
 use Rattle.reports.specs.declared.departure.DepartureReport.{DepartureReport}
 use Rattle.reports.specs.declared.false_positives.FalsePositive.{FalsePositive}
-use Rattle.reports.specs.Rows.{has_kind, is_about, tells_of}
+use Rattle.trace_rows.specs.Rows.{has_kind, is_about, tells_of}
 use Rattle.reports.specs.Departures.{departures_of, crashes_of, leaves_of}
 use Rattle.reports.specs.FalsePositives.{ways_to_depart, departed_by, departed_in, is_about_one}
 use Rattle.reports.specs.Failures.{departure_with, departure_at, is_about_departed, false_positive_told, false_positives_of}
@@ -20,7 +21,7 @@ use Rattle.reports.proofs.Pushes.{departures_of-push, false_positives_of-push, d
 
 -- ---- departures of which a row reports nothing
 
-untold : (row : Row) (departure : DepartureReport) → tells_of what.Suspect departure.member row ≡ false → tells_of what.Confirm departure.member row ≡ false → departure_with row departure ≡ departure
+pub untold : (row : Row) (departure : DepartureReport) → tells_of what.Suspect departure.member row ≡ false → tells_of what.Confirm departure.member row ≡ false → departure_with row departure ≡ departure
 untold row departure s c = ap (λ d. record departure { detection = d }) (sym (same_detection departure.member row departure.detection s c))
 
 -- a row that is no claim reports nothing of any departure
@@ -148,21 +149,3 @@ pub one_departure : (way : What) (rows : List Row) (row : Row) → has_kind way 
 one_departure way rows row departs suspect confirm =
     departures_of-push way rows row ∙ ap (λ b. map (departure_with row) (departures_of way rows) ++ cond b (departure_at row ∷ []) []) departs
     ∙ ap (λ l. l ++ departure_at row ∷ []) (unclaimed row (departures_of way rows) suspect confirm)
-
--- ---- a clause of what succeeds, and one of what fails
-
-pub on_ok : {A E : Type 0} (r : Result A E) {P Q : Type 0} → (P → Q) → OnOk r P → OnOk r Q
-on_ok (Ok x) f held = f held
-on_ok (Err e) f held = tt
-
-pub on_err : {A E : Type 0} (r : Result A E) {P Q : Type 0} → (P → Q) → OnErr r P → OnErr r Q
-on_err (Ok x) f held = tt
-on_err (Err e) f held = f held
-
-pub on_ok_three : {A E : Type 0} (r : Result A E) {P S T Q : Type 0} → (P → S → T → Q) → OnOk r P → OnOk r S → OnOk r T → OnOk r Q
-on_ok_three (Ok x) f held too also = f held too also
-on_ok_three (Err e) f held too also = tt
-
-pub on_err_three : {A E : Type 0} (r : Result A E) {P S T Q : Type 0} → (P → S → T → Q) → OnErr r P → OnErr r S → OnErr r T → OnErr r Q
-on_err_three (Ok x) f held too also = tt
-on_err_three (Err e) f held too also = f held too also

@@ -7,3 +7,8 @@ pub mod Keeping
 pub mod Makers
 pub mod Versions
 pub mod Returning
+pub mod Aways
+pub mod AwayLoops
+pub mod Watching
+pub mod Accounting
+pub mod AccountLines

@@ -8,7 +8,7 @@ use Rattle.scenario.specs.Setup.{Setup, member_count}
 use Rattle.trace.specs.declared.row.What.{What}
 use Rattle.trace.specs.declared.row.Row.{Row}
 use Rattle.trace.specs.Text.{NamesMembers}
-use Rattle.reports.specs.Rows.{rows_in_place}
+use Rattle.trace_rows.specs.Rows.{rows_in_place}
 use Rattle.reports.specs.FalsePositives.{ways_to_depart, is_false_positive, is_healthy_false_positive, false_positives, healthy_false_positives}
 use Rattle.reports.specs.Failures.{false_positives_of, is_healthy_maker}
 use Rattle.reports.proofs.Places.{All-placed_after}

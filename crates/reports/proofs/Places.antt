@@ -2,20 +2,14 @@
 use Rattle.std.proofs.Common.{ℕ, zero, suc, ◌≤◌, ◌<◌, List, [], ◌∷◌, ◌++◌, length, take, arith}
 use Rattle.std.specs.Prelude.{All, filter}
 use Rattle.std.proofs.lemmas.List.{length-append}
-use Rattle.std.proofs.lemmas.List.Elements.{All-nil, All-cons, All-head, All-tail, All-map, All-filter, All-weaker}
+use Rattle.std.proofs.lemmas.List.Elements.{All-map, All-filter, All-weaker}
 use Rattle.scenario.specs.Setup.{Setup, member_count}
 use Rattle.trace.specs.declared.row.What.{What}
 use Rattle.trace.specs.declared.row.Row.{Row}
 use Rattle.trace.specs.Text.{NamesMembers}
-use Rattle.reports.specs.Rows.{rows_in_place, placed_after}
+use Rattle.trace_rows.specs.Rows.{rows_in_place}
+pub use Rattle.trace_rows.proofs.Places.{All-placed_after}
 use Rattle.reports.specs.Departures.{departure_told, is_departure, departures_of}
-
--- what holds of each row holds of each in its place
-pub All-placed_after : (P : Row → Type 0) (earlier rows : List Row) → All P rows → All (λ p. P p.row) (placed_after earlier rows)
-All-placed_after P earlier [] all = All-nil (λ p. P p.row)
-All-placed_after P earlier (row ∷ later) all =
-    All-cons (λ p. P p.row) (record { earlier = earlier; row = row; later = later }) (placed_after (earlier ++ row ∷ []) later)
-    (All-head P row later all) (All-placed_after P (earlier ++ row ∷ []) later (All-tail P row later all))
 
 -- those who depart are members where the rows name members alone
 pub departed_are_members : (s : Setup) (way : What) (rows : List Row) → All (NamesMembers s) rows → All (λ departure. departure.member < member_count s) (departures_of way rows)

@@ -1,61 +1,22 @@
 -- Rows in their places, with one row more.
-use Rattle.std.proofs.Common.{◌≡◌, ℕ, ◌<◌, ◌≤◌, ◌^◌, Bool, true, false, cond, List, [], ◌∷◌, ◌++◌, length, map, refl, sym, ap, ◌∙◌, arith, append-nil, append_assoc}
+use Rattle.std.proofs.Common.{◌≡◌, ℕ, ◌<◌, ◌≤◌, ◌^◌, Bool, true, false, cond, List, [], ◌∷◌, ◌++◌, length, map, refl, ap, ◌∙◌, arith}
 use Rattle.std.specs.Prelude.{filter, All}
 use Rattle.std.proofs.lemmas.List.{map-append}
-use Rattle.std.proofs.lemmas.List.Elements.{filter-append, All-nil, All-cons, All-map, All-filter, All-weaker}
+use Rattle.std.proofs.lemmas.List.Elements.{All-map, All-filter, All-weaker}
 use Rattle.std.proofs.lemmas.List.Sums.{count_by-le-length}
 use Rattle.trace.specs.declared.row.What.{What}
 use Rattle.trace.specs.declared.row.What.TheVariants as what
 use Rattle.trace.specs.declared.row.Row.{Row}
+pub use Rattle.trace_rows.proofs.Places.{with_later, last_placed, kept-push}
+use Rattle.trace_rows.proofs.Places.{made-one, few_later}
 use Rattle.reports.specs.declared.departure.Detection.{Detection}
 use Rattle.reports.specs.declared.departure.DepartureReport.{DepartureReport}
 use Rattle.reports.specs.declared.false_positives.FalsePositive.{FalsePositive}
-use Rattle.reports.specs.Rows.{Placed, rows_in_place, placed_after, has_kind, tells_of}
+use Rattle.trace_rows.specs.Rows.{Placed, rows_in_place, placed_after, has_kind, tells_of}
 use Rattle.reports.specs.Departures.{departure_told, is_departure, departures_of}
 use Rattle.reports.specs.FalsePositives.{ways_to_depart, departed_by, departed_in, is_false_claim, is_false_positive}
 use Rattle.reports.specs.Failures.{departure_with, departure_at, false_positive_told, false_positives_of}
 use Rattle.reports.proofs.Detections.{detection-push}
-
--- a row in its place, with one row more after it
-abbrev pub with_later : Row → Placed → Placed
-with_later row p = record { earlier = p.earlier; row = p.row; later = p.later ++ row ∷ [] }
-
--- the last row in its place
-abbrev pub last_placed : List Row → Row → Placed
-last_placed earlier row = record { earlier = earlier; row = row; later = [] }
-
-placed_after-push : (earlier rows : List Row) (row : Row)
-    → placed_after earlier (rows ++ row ∷ []) ≡ map (with_later row) (placed_after earlier rows) ++ last_placed (earlier ++ rows) row ∷ []
-placed_after-push earlier [] row = ap (λ e. last_placed e row ∷ []) (sym (append-nil earlier))
-placed_after-push earlier (first ∷ rows) row =
-    ap (λ ps. with_later row (record { earlier = earlier; row = first; later = rows }) ∷ ps)
-    (placed_after-push (earlier ++ first ∷ []) rows row
-    ∙ ap (λ e. map (with_later row) (placed_after (earlier ++ first ∷ []) rows) ++ last_placed e row ∷ []) (append_assoc earlier (first ∷ []) rows))
-
-kept-one : (keep : Bool) (row : Row) (p : Placed) (now old : List Placed) → now ≡ map (with_later row) old
-    → cond keep (with_later row p ∷ now) now ≡ map (with_later row) (cond keep (p ∷ old) old)
-kept-one true row p now old is = ap (λ l. with_later row p ∷ l) is
-kept-one false row p now old is = is
-
--- a test that doesn't ask for later rows keeps the same of them
-kept-later : (test : Placed → Bool) (row : Row) → ((p : Placed) → test (with_later row p) ≡ test p) → (ps : List Placed)
-    → filter test (map (with_later row) ps) ≡ map (with_later row) (filter test ps)
-kept-later test row same [] = refl
-kept-later test row same (p ∷ ps) =
-    ap (λ b. cond b (with_later row p ∷ filter test (map (with_later row) ps)) (filter test (map (with_later row) ps))) (same p)
-    ∙ kept-one (test p) row p (filter test (map (with_later row) ps)) (filter test ps) (kept-later test row same ps)
-
-pub kept-push : (test : Placed → Bool) (rows : List Row) (row : Row) → ((p : Placed) → test (with_later row p) ≡ test p)
-    → filter test (rows_in_place (rows ++ row ∷ [])) ≡ map (with_later row) (filter test (rows_in_place rows)) ++ cond (test (last_placed rows row)) (last_placed rows row ∷ []) []
-kept-push test rows row same =
-    ap (filter test) (placed_after-push [] rows row)
-    ∙ filter-append test (map (with_later row) (rows_in_place rows)) (last_placed rows row ∷ [])
-    ∙ ap (λ l. l ++ cond (test (last_placed rows row)) (last_placed rows row ∷ []) []) (kept-later test row same (rows_in_place rows))
-
--- what is made of the last row, where it is kept
-made-one : {X : Type 0} (make : Placed → X) (keep : Bool) (p : Placed) → map make (cond keep (p ∷ []) []) ≡ cond keep (make p ∷ []) []
-made-one make true p = refl
-made-one make false p = refl
 
 -- ---- departures
 
@@ -117,11 +78,6 @@ pub departed_members : (way : What) (rows : List Row) → map departed_member (d
 departed_members way rows = departed_after way [] rows
 
 -- ---- how often a departure was confirmed
-
-few_later : (n : ℕ) (earlier rows : List Row) → length rows ≤ n → All (λ p. length p.later ≤ n) (placed_after earlier rows)
-few_later n earlier [] few = All-nil (λ p. length p.later ≤ n)
-few_later n earlier (row ∷ rows) few =
-    All-cons (λ p. length p.later ≤ n) (record { earlier = earlier; row = row; later = rows }) (placed_after (earlier ++ row ∷ []) rows) (omega (arith, few)) (few_later n (earlier ++ row ∷ []) rows (omega (arith, few)))
 
 -- a departure has no more confirmers than there are rows
 pub few_confirmers : (way : What) (rows : List Row) → length rows < 2 ^ 63 → All (λ d. d.detection.confirmers < 2 ^ 63) (departures_of way rows)

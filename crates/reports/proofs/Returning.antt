@@ -1,5 +1,5 @@
 -- What one row more makes of who holds whom to have failed, and of those that are taken for alive again.
-use Rattle.std.proofs.Common.{◌≡◌, ℕ, suc, ◌+◌, ◌≤◌, Bool, true, false, cond, ◌&&◌, List, [], ◌∷◌, ◌++◌, length, map, Option, Some, None, refl, sym, ap, ◌∙◌, arith, append-nil, length-append}
+use Rattle.std.proofs.Common.{◌≡◌, ℕ, ◌+◌, ◌≤◌, Bool, true, false, cond, ◌&&◌, List, [], ◌∷◌, ◌++◌, length, map, Option, Some, None, refl, sym, ap, ◌∙◌, arith, append-nil, length-append}
 use Rattle.std.specs.Prelude.{filter, if◌then◌else◌}
 use Rattle.std.specs.Option.{option_map_or}
 use Rattle.std.specs.List.{last_or}
@@ -9,7 +9,8 @@ use Rattle.std.proofs.lemmas.List.Elements.{filter-append}
 use Rattle.std.proofs.lemmas.List.Sums.{length-filter, count_by-le-length}
 use Rattle.trace.specs.declared.row.What.TheVariants as what
 use Rattle.trace.specs.declared.row.Row.{Row}
-use Rattle.reports.specs.Rows.{Placed, placed_after, rows_in_place, has_kind}
+use Rattle.trace_rows.specs.Rows.{rows_in_place, has_kind}
+pub use Rattle.trace_rows.proofs.Places.{length-one, length-placed}
 use Rattle.reports.specs.Revivals.{is_view_of, holds_failed, is_back, is_revival, revivals}
 use Rattle.reports.specs.Held.{failed_with}
 use Rattle.reports.proofs.Detections.{last-append}
@@ -33,10 +34,6 @@ held-push rows row member subject = ap (λ o. option_map_or (has_kind what.Confi
 
 -- ---- how often somebody is taken for alive again
 
-pub length-one : (keep : Bool) (p : Placed) → length (cond keep (p ∷ []) []) ≡ cond keep 1 0
-length-one true p = refl
-length-one false p = refl
-
 pub revivals-push : (rows : List Row) (row : Row) → revivals (rows ++ row ∷ []) ≡ revivals rows + cond (is_back (holds_failed rows) row) 1 0
 revivals-push rows row =
     let before = map (with_later row) (filter is_revival (rows_in_place rows)) in
@@ -46,10 +43,6 @@ revivals-push rows row =
     ∙ length-append before one
     ∙ ap (λ n. n + length one) (length-map (filter is_revival (rows_in_place rows)) (with_later row) ∙ length-filter is_revival (rows_in_place rows))
     ∙ ap (λ n. revivals rows + n) (length-one (is_back (holds_failed rows) row) (last_placed rows row))
-
-pub length-placed : (earlier rows : List Row) → length (placed_after earlier rows) ≡ length rows
-length-placed earlier [] = refl
-length-placed earlier (row ∷ rows) = ap suc (length-placed (earlier ++ row ∷ []) rows)
 
 pub few_revivals : (rows : List Row) → revivals rows ≤ length rows
 few_revivals rows = omega (arith, count_by-le-length is_revival (rows_in_place rows), length-placed [] rows)

@@ -13,10 +13,10 @@ use Rattle.trace.specs.declared.row.What.{What}
 use Rattle.trace.specs.declared.row.What.TheVariants as what
 use Rattle.trace.specs.declared.row.Row.{Row}
 use Rattle.reports.specs.declared.departure.DepartureReport.{DepartureReport}
-use Rattle.reports.specs.Rows.{Placed, placed_after, rows_in_place, has_kind, tells_lost, count_of, losses_of}
+use Rattle.trace_rows.specs.Rows.{Placed, placed_after, rows_in_place, has_kind, tells_lost, count_of, losses_of}
 use Rattle.reports.specs.Departures.{crashes_of, leaves_of}
 use Rattle.reports.specs.FalsePositives.{ways_to_depart, first_ways_to_depart, departed_by, is_false_claim, is_false_positive, is_healthy, is_healthy_false_positive, false_positives, healthy_false_positives}
-use Rattle.reports.specs.Text.{false_line, sent_line, crash_line, leave_line, size_lines, crash_lines, leave_lines, latencies_line, false_claim_line, revived_lines, protocol_lines, message_line, message_kinds, report_lines, report_text, first_report_text}
+use Rattle.reports.specs.Text.{false_line, sent_line, crash_line, leave_line, size_lines, crash_lines, leave_lines, latencies_line, false_claim_line, revived_lines, protocol_lines, message_line, message_kinds, lines_of_version, report_text, first_report_text}
 use Rattle.reports.proofs.Pushes.{row_member, departed_member, departed_members}
 
 -- where none passes a test, none is kept
@@ -71,7 +71,7 @@ with_claims version s rows suspected confirmed =
 pub first_report : (s : Setup) (rows : List Row) → s.version ≡ One → count_of what.Leave rows ≡ 0 → report_text s rows ≡ first_report_text s rows
 unfolding report_text first_report_text
 first_report s rows first none =
-    ap (λ v. report_lines v ways_to_depart s rows) first
+    ap (λ v. lines_of_version v s rows) first
     ∙ ap (λ l. with_claims One s rows l (false_claim_line s ways_to_depart rows what.Confirm)) (same_line s rows none what.Suspect)
     ∙ ap (with_claims One s rows (false_claim_line s first_ways_to_depart rows what.Suspect)) (same_line s rows none what.Confirm)
 
@@ -116,8 +116,9 @@ pub second_report : (s : Setup) (rows : List Row) → count_of what.Leave rows �
 unfolding report_text
 second_report s rows leaves byes =
     let two = record s { version = Two } in
-    let crash = crash_line (record s { version = One }) in
-    ap (λ c. told s rows c (flat_map (leave_line two) (leaves_of rows)) ++ flat_map (message_line rows) (message_kinds Two)) (same_crash_line s)
-    ∙ ap (λ ls. told s rows crash (flat_map (leave_line two) ls) ++ flat_map (message_line rows) (message_kinds Two)) (no_leaves rows leaves)
-    ∙ ap (λ l. told s rows crash [] ++ l) (bye_last rows byes)
-    ∙ sym (append_assoc (told s rows crash []) (flat_map (message_line rows) (message_kinds One)) (sent_line (codes "bye") 0 0))
+    let one = record s { version = One } in
+    let crash = crash_line one in
+    ap (λ c. told one rows c (flat_map (leave_line two) (leaves_of rows)) ++ flat_map (message_line rows) (message_kinds Two)) (same_crash_line s)
+    ∙ ap (λ ls. told one rows crash (flat_map (leave_line two) ls) ++ flat_map (message_line rows) (message_kinds Two)) (no_leaves rows leaves)
+    ∙ ap (λ l. told one rows crash [] ++ l) (bye_last rows byes)
+    ∙ sym (append_assoc (told one rows crash []) (flat_map (message_line rows) (message_kinds One)) (sent_line (codes "bye") 0 0))

@@ -4,7 +4,7 @@ use Rattle.trace.specs.declared.row.What.{What}
 use Rattle.trace.specs.declared.row.What.TheVariants as what
 use Rattle.trace.specs.declared.row.Row.{Row}
 use Rattle.reports.specs.declared.counts.Counts.{Counts}
-use Rattle.reports.specs.Rows.{count_of, losses_of, worst_health}
+use Rattle.trace_rows.specs.Rows.{count_of, losses_of, worst_health}
 
 -- the place of a kind of row among the counts
 abbrev pub count_place : What → ℕ

@@ -5,13 +5,10 @@ use Rattle.std.specs.List.{last_or}
 use Rattle.trace.specs.declared.row.What.{What}
 use Rattle.trace.specs.declared.row.What.TheVariants as what
 use Rattle.trace.specs.declared.row.Row.{Row}
+pub use Rattle.trace_rows.specs.Moments.{moment_of}
 use Rattle.reports.specs.declared.departure.Detection.{Detection}
 use Rattle.reports.specs.declared.departure.DepartureReport.{DepartureReport}
-use Rattle.reports.specs.Rows.{Placed, rows_in_place, has_kind, tells_of}
-
--- the moment of a row, if there is one
-abbrev pub moment_of : Option Row → Option ℕ
-moment_of row = option_map (λ r. r.at) row
+use Rattle.trace_rows.specs.Rows.{Placed, rows_in_place, has_kind, tells_of}
 
 -- what later rows report of a member's departure: when it was first suspected, when first and last confirmed to have failed, and how often
 abbrev pub detection_of : ℕ → List Row → Detection

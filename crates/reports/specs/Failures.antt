@@ -1,22 +1,19 @@
 -- What is kept of members that departed, and of claims that a member failed though it had not departed.
-use Rattle.std.specs.Prelude.{◌≡◌, ℕ, ◌+◌, Bool, cond, false, ◌==◌, Option, Some, None, List, [], map, filter}
+use Rattle.std.specs.Prelude.{◌≡◌, ℕ, ◌+◌, Bool, cond, false, ◌==◌, Some, List, [], map, filter}
 use Rattle.std.specs.Option.{option_or, option_map_or}
 use Rattle.std.specs.List.{list_any}
 use Rattle.scenario.specs.Setup.{Setup, extra_of}
 use Rattle.trace.specs.declared.row.What.{What}
 use Rattle.trace.specs.declared.row.What.TheVariants as what
 use Rattle.trace.specs.declared.row.Row.{Row}
+pub use Rattle.trace_rows.specs.Moments.{moment_if}
 use Rattle.reports.specs.declared.departure.Detection.{Detection}
 use Rattle.reports.specs.declared.departure.DepartureReport.{DepartureReport}
 use Rattle.reports.specs.declared.false_positives.FalsePositive.{FalsePositive}
 use Rattle.reports.specs.declared.failures.Failures.{Failures}
-use Rattle.reports.specs.Rows.{rows_in_place, tells_of}
+use Rattle.trace_rows.specs.Rows.{rows_in_place, tells_of}
 use Rattle.reports.specs.Departures.{detection_of, crashes_of, leaves_of}
 use Rattle.reports.specs.FalsePositives.{ways_to_depart, is_false_positive}
-
--- a moment, where a test holds
-abbrev pub moment_if : Bool → ℕ → Option ℕ
-moment_if test at = cond test (Some at) None
 
 -- what is known of a departure, with one moment more: whether the member was suspected then, and whether it was confirmed to have failed
 abbrev pub detection_if : Bool → Bool → ℕ → Detection → Detection

@@ -6,7 +6,7 @@ use Rattle.scenario.specs.Setup.{Setup, extra_of}
 use Rattle.trace.specs.declared.row.What.{What}
 use Rattle.trace.specs.declared.row.What.TheVariants as what
 use Rattle.trace.specs.declared.row.Row.{Row}
-use Rattle.reports.specs.Rows.{Placed, rows_in_place, has_kind}
+use Rattle.trace_rows.specs.Rows.{Placed, rows_in_place, has_kind}
 
 -- the ways in which members depart
 abbrev pub ways_to_depart : List What

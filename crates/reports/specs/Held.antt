@@ -6,7 +6,7 @@ use Rattle.trace.specs.declared.row.Row.{Row}
 use Rattle.reports.specs.declared.pairs.Marks.{Marks}
 use Rattle.reports.specs.declared.pairs.Pairs.{Pairs}
 use Rattle.reports.specs.declared.revivals.Revivals.{Revivals}
-use Rattle.reports.specs.Rows.{has_kind}
+use Rattle.trace_rows.specs.Rows.{has_kind}
 use Rattle.reports.specs.Revivals.{is_view_of, holds_failed, revivals}
 
 -- the places that are marked

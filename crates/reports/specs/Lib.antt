@@ -1,4 +1,4 @@
-pub mod Rows
+pub use Rattle.trace_rows.specs.Rows
 pub mod Departures
 pub mod FalsePositives
 pub mod Text
@@ -7,3 +7,8 @@ pub mod Counts
 pub mod Failures
 pub mod Revivals
 pub mod Held
+pub mod Absences
+pub mod Away
+pub mod Watched
+pub mod Accounts
+pub mod AccountText

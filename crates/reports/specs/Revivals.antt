@@ -5,7 +5,7 @@ use Rattle.std.specs.List.{last_or, list_any}
 use Rattle.trace.specs.declared.row.What.{What}
 use Rattle.trace.specs.declared.row.What.TheVariants as what
 use Rattle.trace.specs.declared.row.Row.{Row}
-use Rattle.reports.specs.Rows.{Placed, rows_in_place, has_kind, is_about}
+use Rattle.trace_rows.specs.Rows.{Placed, rows_in_place, has_kind, is_about}
 
 -- what a member may hold of another, as a row reports it
 abbrev pub views : List What

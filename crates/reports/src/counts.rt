@@ -1,11 +1,11 @@
 //! How many rows came, how many of each kind, and how bad a member's health got.
 ghost use Rattle.std.specs.Prelude.{◌≡◌, ◌<◌, ◌+◌, ◌^◌, ◌++◌, ◌∷◌, [], List, length, slice_index, slice_set, max, if◌then◌else◌};
 ghost use Rattle.trace.specs.declared.row.Row.{Row as AnyRow};
-ghost use Rattle.reports.specs.Rows.{has_kind};
+ghost use Rattle.trace_rows.specs.Rows.{has_kind};
 ghost use Rattle.reports.specs.Counts.{count_place, AreCountsOf};
 
-use crate::rows::has_kind;
 use trace::{Row, What};
+use trace_rows::has_kind;
 
 /// How many kinds of row there are.
 const KINDS: usize = 29;

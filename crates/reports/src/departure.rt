@@ -1,13 +1,13 @@
 //! The members that depart in a trace: they crash or leave.
-ghost use Rattle.std.specs.Prelude.{◌≡◌, ◌+◌, ◌<◌, ◌==◌, ◌^◌, ◌++◌, ◌∷◌, Some, [], map, All, OnOk, OnErr};
+ghost use Rattle.std.specs.Prelude.{◌≡◌, ◌+◌, ◌<◌, ◌==◌, ◌^◌, ◌++◌, ◌∷◌, Some, None, [], map, All, OnOk, OnErr};
 ghost use Rattle.std.specs.Option.{option_or};
 ghost use Rattle.std.specs.List.{list_any};
 ghost use Rattle.reports.specs.Departures.{latency_of};
 ghost use Rattle.reports.specs.Failures.{detection_with, departure_with, departure_at, is_about_departed};
 
-use crate::rows::is_about;
 use base::{MemberId, Memory, Moment};
 use trace::{Row, What};
+use trace_rows::is_about;
 
 /// What the rows after a member's departure report of it.
 #[derive(Clone, Copy)]
@@ -71,7 +71,7 @@ pub struct DepartureReport {
 
 impl DepartureReport {
     /// Takes in what one row more reports of the departure.
-    fn see(&mut self, row: &Row)
+    pub(crate) fn see(&mut self, row: &Row)
         requires { self.old.detection.confirmers < 2 ^ 63 }
         ensures { self.new ≡ departure_with row.now self.old }
     {
@@ -104,6 +104,30 @@ pub(crate) fn add_departure(departures: &mut Vec<DepartureReport>, row: &Row) ->
         detection,
     })?;
     Ok(())
+}
+
+/// No moment yet.
+fn never() -> Option<Moment>
+    ensures { result ≡ None }
+{
+    None
+}
+
+/// The departure that a row reports, before any other row reports of it.
+pub(crate) fn departure_at(row: &Row) -> DepartureReport
+    ensures { result ≡ departure_at row.now }
+{
+    let detection = Detection {
+        suspect: never(),
+        confirm: never(),
+        last: never(),
+        confirmers: 0,
+    };
+    DepartureReport {
+        member: row.member,
+        at: row.at,
+        detection,
+    }
 }
 
 /// Takes in what one row more reports of each departure.

@@ -63,7 +63,7 @@ pub fn healthy_false_positive_count(tallies: &Tallies, claim: What, scenario: &S
 }
 
 /// How many of these claims were made by healthy members.
-fn count_healthy(claims: &[FalsePositive], scenario: &Scenario) -> usize
+pub(crate) fn count_healthy(claims: &[FalsePositive], scenario: &Scenario) -> usize
     requires { All (λ claim. claim.member < member_count scenario.now) claims.now }
     ensures { result ≡ count_by (is_healthy_maker scenario.now) claims.now }
 {

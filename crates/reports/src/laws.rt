@@ -5,7 +5,7 @@ ghost use Rattle.schema.specs.declared.schema.Version.TheVariants.{One, Two};
 ghost use Rattle.scenario.specs.Setup.{Setup};
 ghost use Rattle.trace.specs.declared.row.What.TheVariants.{Leave, Bye};
 ghost use Rattle.trace.specs.declared.row.Row.{Row};
-ghost use Rattle.reports.specs.Rows.{count_of};
+ghost use Rattle.trace_rows.specs.Rows.{count_of};
 ghost use Rattle.reports.specs.Text.{report_text, first_report_text, sent_line};
 
 /// Where nobody leaves, a scenario of version 1 has the report that version 1 defined.

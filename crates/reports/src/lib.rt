@@ -1,6 +1,9 @@
 //! The report of a run: counts and latencies over its rows, as text.
 #![tactic(auto)]
 
+mod absence;
+mod absences;
+mod account;
 mod counts;
 mod departure;
 mod failures;
@@ -9,11 +12,13 @@ mod laws;
 mod pairs;
 mod past;
 mod reporting;
+mod return_text;
 mod revivals;
-mod rows;
 mod tallies;
 mod text;
+mod watch;
 
+pub use account::Account;
 pub use departure::{DepartureReport, Detection};
 pub use false_positives::{FalsePositive, false_positive_count, healthy_false_positive_count};
 pub use laws::{first_reports_stay, second_reports_add_a_line};

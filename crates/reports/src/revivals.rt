@@ -2,15 +2,15 @@
 ghost use Rattle.std.specs.Prelude.{◌≡◌, ◌+◌, ◌<◌, ◌^◌, ◌++◌, ◌∷◌, [], ℕ, List, true, false, OnOk, IfSome, length, if◌then◌else◌};
 ghost use Rattle.std.specs.Option.{option_map_or};
 ghost use Rattle.trace.specs.declared.row.Row.{Row as AnyRow};
-ghost use Rattle.reports.specs.Rows.{has_kind};
+ghost use Rattle.trace_rows.specs.Rows.{has_kind};
 ghost use Rattle.reports.specs.Revivals.{is_view, is_back};
 ghost use Rattle.reports.specs.Held.{are_marked, HasPlace, failed_of, failed_with, HasPlaceFor, AreRevivalsOf};
 
 use crate::pairs::Pairs;
-use crate::rows::has_kind;
 use base::Memory;
 use std::alloc::Global;
 use trace::{Row, What};
+use trace_rows::has_kind;
 
 /// How many of the rows so far report a recovery, and who holds whom to have failed.
 #[derive(Drop)]

@@ -1,18 +1,24 @@
 //! What is kept of a run for its report.
-ghost use Rattle.std.specs.Prelude.{◌≡◌, ◌≢◌, ◌≤◌, ◌<◌, ◌^◌, [], ◌∷◌, ◌++◌, ◌⊎◌, length, OnOk, OnErr, IfErr, IsErrOf};
-ghost use Rattle.reports.specs.Rows.{count_of, losses_of, worst_health};
+ghost use Rattle.std.specs.Prelude.{All, IfOk, ◌≡◌, ◌≢◌, ◌≤◌, ◌<◌, ◌^◌, [], ◌∷◌, ◌++◌, ◌⊎◌, length, OnOk, OnErr, IfErr, IsErrOf};
+ghost use Rattle.trace_rows.specs.Rows.{count_of, losses_of, worst_health};
 ghost use Rattle.reports.specs.Departures.{crashes_of, leaves_of};
 ghost use Rattle.reports.specs.Failures.{false_positives_of};
 ghost use Rattle.reports.specs.Revivals.{revivals};
+ghost use Rattle.reports.specs.Accounts.{IsAccountOf};
+ghost use Rattle.trace.specs.Text.{NamesMembers};
 
+use crate::account::Account;
 use crate::counts::Counts;
 use crate::departure::DepartureReport;
 use crate::failures::Failures;
 use crate::false_positives::FalsePositive;
 use crate::past::Past;
 use crate::revivals::Revivals;
-use base::Fault;
+use crate::watch::{Watch, kept_of, see, watch_of};
 use base::limits::COUNTER_LIMIT;
+use base::{Fault, Memory};
+use incidents::Cluster;
+use scenario::Scenario;
 use std::alloc::Global;
 use std::marker::Model;
 use trace::{Row, What};
@@ -26,14 +32,17 @@ pub struct Tallies {
     counts: Counts,
     failures: Failures,
     revivals: Revivals,
+    /// What version 4 of the format asks besides, as long as there is memory for it.
+    watch: Option<Watch>,
 }
 
 impl Model for Tallies {
-    ghost use Rattle.std.specs.Prelude.{List, ◌≤◌, ◌^◌};
+    ghost use Rattle.std.specs.Prelude.{List, IfSome, ◌≤◌, ◌^◌};
     ghost use Rattle.trace.specs.declared.row.Row.{Row};
     ghost use Rattle.reports.specs.Counts.{AreCountsOf};
     ghost use Rattle.reports.specs.Failures.{AreFailuresOf};
     ghost use Rattle.reports.specs.Held.{AreRevivalsOf};
+    ghost use Rattle.reports.specs.Watched.{IsWatchOf};
 
     ghost Value = { List Row };
 
@@ -42,12 +51,14 @@ impl Model for Tallies {
     ghost invariant = { λ tallies. AreCountsOf tallies.counts tallies.past
         × AreFailuresOf tallies.failures tallies.past
         × AreRevivalsOf tallies.revivals tallies.past
-        × (tallies.counts.rows ≤ 2 ^ 63) };
+        × (tallies.counts.rows ≤ 2 ^ 63)
+        × IfSome tallies.watch (λ watch. IsWatchOf watch tallies.past) };
 }
 
 impl Tallies {
-    /// No rows. It takes no memory.
-    pub fn new(alloc: Global) -> Self
+    /// No rows of a run of a scenario. It takes no memory, but where the scenario is one of version
+    /// 4: some for each member.
+    pub fn new(alloc: Global, scenario: &Scenario) -> Self
         ensures { result ≡ [] }
     {
         Tallies {
@@ -55,6 +66,7 @@ impl Tallies {
             counts: Counts::new(),
             failures: Failures::new(alloc),
             revivals: Revivals::new(alloc),
+            watch: watch_of(alloc, scenario),
         }
     }
 
@@ -75,6 +87,7 @@ impl Tallies {
         self.failures.follow(row)?;
         self.revivals.follow(row);
         self.counts.count(row);
+        see(&mut self.watch, row);
         self.past.append(row);
         Ok(())
     }
@@ -155,5 +168,18 @@ impl Tallies {
             What::Suspect => self.failures.suspicions.as_slice(),
             _ => self.failures.confirmations.as_slice(),
         }
+    }
+
+    /// What a report of version 4 says besides, where that is the scenario's version and the tallies
+    /// were made for it. The rows must name members of its cluster alone.
+    ///
+    /// It is refused where there is no memory for it, or was none on the way.
+    pub fn account(&self, alloc: Global, scenario: &Scenario) -> Result<Account, Memory>
+        requires { All (NamesMembers scenario.now) self.now }
+        ensures { IfOk result (λ account. IsAccountOf account scenario.now self.now) }
+    {
+        let cluster = Cluster::of(alloc, scenario)?;
+        let watch = kept_of(&self.watch, &cluster)?;
+        Account::of(alloc, watch, scenario)
     }
 }

@@ -19,7 +19,7 @@ use trace::What;
 
 /// A figure, or a dash where there is none.
 #[derive(Clone, Copy)]
-struct Figure(Option<u64>);
+pub(crate) struct Figure(pub(crate) Option<u64>);
 
 impl fmt::Display for Figure {
     ghost output = { λ shown. Some (figure shown.0) };
@@ -33,7 +33,7 @@ impl fmt::Display for Figure {
 }
 
 /// The ticks of a moment that may be there.
-fn ticks(moment: Option<Moment>) -> Figure
+pub(crate) fn ticks(moment: Option<Moment>) -> Figure
     ensures { result.0 ≡ moment }
 {
     match moment {
@@ -44,7 +44,7 @@ fn ticks(moment: Option<Moment>) -> Figure
 
 /// Appends a line of a word and a number.
 #[tactic(auto, unfolding(crate::specs::Text::count_line))]
-fn push_count(text: &mut String, word: &str, number: u64) -> Result<(), AllocError>
+pub(crate) fn push_count(text: &mut String, word: &str, number: u64) -> Result<(), AllocError>
     ensures { OnOk result (string_bytes text.new ≡ string_bytes text.old ++ count_line word.now number) }
 {
     writeln!(text, "{word} {number}")
@@ -120,7 +120,7 @@ pub(crate) fn push_leaves(
 }
 
 /// Appends a line for each of these leaves.
-fn push_each_leave(
+pub(crate) fn push_each_leave(
     text: &mut String,
     leaves: &[DepartureReport],
     scenario: &Scenario,

@@ -3,3 +3,4 @@ mod Counted
 mod Stored
 mod Ending
 mod Paged
+mod Checked

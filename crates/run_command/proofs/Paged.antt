@@ -1,5 +1,5 @@
 -- What the files hold that a run was written to with its page.
-use Rattle.std.proofs.Common.{◌≡◌, ◌≢◌, ◌∙◌, ◌⊎◌, ℕ, List, [], Option, Some, None, IfSome, ap, append-nil, sym, subst, refl, inl, inr}
+use Rattle.std.proofs.Common.{◌≡◌, ◌≢◌, ◌∙◌, ◌⊎◌, ℕ, List, [], Option, Some, None, IfSome, ap, append-nil, sym, refl, inl, inr}
 use Rattle.std.specs.Io.KnownBytes.{Appends, Keeps}
 use Rattle.clap.specs.Words.{Text}
 use Rattle.base.specs.declared.fault.Fault.{Fault}
@@ -9,7 +9,7 @@ use Rattle.trace.specs.Sinks.{AppendsBeginning}
 use Rattle.trace.specs.Text.{trace_text}
 use Rattle.trace.proofs.Beginnings.{Appends-none}
 use Rattle.reports.specs.Text.{report_text}
-use Rattle.files.specs.Files.{KnownFile, HoldsNow, ClosesAs, KeepsOthers, KeepsAllOthers, KeepsAllButThree, DifferEach}
+use Rattle.files.specs.Files.{HoldsNow, ClosesAs, KeepsOthers, KeepsAllOthers, KeepsAllButThree, DifferEach}
 use Rattle.member_laws.specs.Runs.{CounterOverflows}
 use Rattle.run_output.specs.Promise.{ReportOverflows}
 use Rattle.page_runs.specs.Pages.{BeginsPage, BeginsRunAndPage, IsPageOf, WritesRunAndPage}

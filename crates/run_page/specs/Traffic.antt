@@ -23,7 +23,7 @@ use Rattle.run_page.specs.Stacks.{Layer, layers, tops, greatest}
 use Rattle.drawing.specs.Lengths.{lasting, moment_alone}
 use Rattle.ticks.specs.declared.tick.Tick.{Tick}
 
--- the class of a kind of message
+-- the class of a kind of message: no version's members send both bye and reconnect
 abbrev pub class_of : What → List ℕ
 class_of what.Ping = codes "one"
 class_of what.Ack = codes "two"
@@ -32,6 +32,7 @@ class_of what.Nack = codes "four"
 class_of what.Join = codes "three"
 class_of what.Welcome = codes "six"
 class_of what.Bye = codes "seven"
+class_of what.Reconnect = codes "seven"
 class_of what.Gossip = codes "eight"
 class_of what.Push = codes "nine"
 class_of what.Pull = codes "ten"

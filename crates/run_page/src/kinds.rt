@@ -30,7 +30,7 @@ pub(crate) fn class_of(kind: What) -> &'static str
         What::Nack => "four",
         What::Join => "three",
         What::Welcome => "six",
-        What::Bye => "seven",
+        What::Bye | What::Reconnect => "seven",
         What::Gossip => "eight",
         What::Push => "nine",
         What::Pull => "ten",

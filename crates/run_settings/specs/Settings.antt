@@ -9,14 +9,15 @@ use Rattle.schema.specs.declared.schema.KeyRule.{KeyRule}
 use Rattle.schema.specs.declared.schema.FormatKey.{FormatKey}
 use Rattle.schema.specs.declared.schema.Section.{Section}
 use Rattle.schema.specs.declared.schema.Section.TheVariants as section
-use Rattle.scenario.specs.Setup.{Setup, Group, member_count, name_of}
+use Rattle.scenario.specs.Setup.{Setup, Group}
 use Rattle.scenario.specs.declared.settings.Link.{Link}
 use Rattle.scenario.specs.declared.settings.Path.{Path}
 use Rattle.scenario.specs.declared.settings.Gossip.{Gossip}
+use Rattle.scenario.specs.declared.settings.Serf.{Serf}
 use Rattle.drawing.specs.Escaped.{escaped}
 use Rattle.drawing.specs.Numbers.{grouped}
 use Rattle.drawing.specs.Shapes.{figure_opening, figure_end}
-use Rattle.run_settings.specs.Events.{group_name, events}
+use Rattle.run_settings.specs.Events.{contact_words, group_name, events}
 use Rattle.run_settings.specs.Nearest.{nearest, usual, usual_switch, is_other_number, is_other_switch}
 use Rattle.run_settings.specs.Values.{value_of, switch_of}
 
@@ -50,25 +51,22 @@ abbrev pub gossip_entries : Setup → Preset → Option Gossip → List ℕ
 gossip_entries s preset (Some gossip) = section_entries s preset (codes "gossip.") section.Gossip
 gossip_entries s preset None = []
 
--- the keys of the tables that only version 3 has
+-- the keys of how members leave and reconnect, where they do as Serf's
+abbrev pub serf_entries : Setup → Preset → Option Serf → List ℕ
+serf_entries s preset (Some serf) = section_entries s preset (codes "serf.") section.Serf
+serf_entries s preset None = []
+
+-- the keys of the tables that versions 3 and 4 add
 abbrev pub third_entries : Setup → Preset → Version → List ℕ
 third_entries s preset One = []
 third_entries s preset Two = []
 third_entries s preset Three = gossip_entries s preset s.gossip ++ section_entries s preset (codes "stream.") section.Stream
-third_entries s preset Four = gossip_entries s preset s.gossip ++ section_entries s preset (codes "stream.") section.Stream
+third_entries s preset Four =
+    gossip_entries s preset s.gossip ++ section_entries s preset (codes "stream.") section.Stream ++ serf_entries s preset s.serf
 
 -- when the members of a group start, where that is later than at 0
 abbrev pub start_words : ℕ → List ℕ
 start_words at = if nat_lt 0 at then codes ", start " ++ grouped at else []
-
--- the name of a contact: one of the members
-abbrev pub contact_name : Setup → ℕ → List ℕ
-contact_name s contact = if nat_lt contact (member_count s) then name_of s contact else []
-
--- whom the members of a group ask to let them join, where they ask somebody
-unfoldable pub contact_words : Setup → Option ℕ → List ℕ
-contact_words s (Some contact) = codes ", contact " ++ escaped (contact_name s contact)
-contact_words s None = []
 
 -- when they start and whom they ask
 unfoldable pub joining_words : Setup → ℕ → Option ℕ → List ℕ

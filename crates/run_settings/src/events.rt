@@ -1,14 +1,14 @@
-//! What the scenario has happen: crashes, leaves, slow times and pauses of members, and cuts.
+//! What the scenario has happen: crashes, leaves, restarts, slow times, pauses and blocks of members, and cuts.
 ghost use Rattle.std.specs.Prelude.{◌≡◌, ◌<◌, ◌++◌, OnOk, flat_map};
 ghost use Rattle.std.specs.String.{string_bytes};
 ghost use Rattle.std.specs.List.{range_with_len};
 ghost use Rattle.scenario.specs.Setup.{member_count};
-ghost use Rattle.run_settings.specs.Events.{time_words, entry_opening, departure, departure_entry, slow_words, slow_entry, pause_words, pause_entry, member_entries, member_events, cut_entry, events};
+ghost use Rattle.run_settings.specs.Events.{time_words, entry_opening, asked_words, contact_name, contact_words, kind_words, script_words, slow_words, slow_entry, pause_words, pause_entry, block_words, block_entry, member_entries, member_events, cut_entry, events};
 
 use crate::settings::group_name;
 use base::{MemberId, Moment};
 use drawing::{push_escaped, push_grouped};
-use scenario::{Cut, Pause, Scenario, Slow};
+use scenario::{Cut, Pause, Scenario, ScriptEvent, ScriptKind, Slow};
 use std::alloc::AllocError;
 
 /// Appends what the scenario has happen to its members, in the order of their numbers, and its cuts.
@@ -45,53 +45,104 @@ fn push_member_of(
         scenario,
         member,
         scenario.name(member),
-        scenario.crash(member),
-        scenario.leave(member),
+        scenario.script(member),
     )
 }
 
-/// Appends what happens to a member of that name, which crashes or leaves then, where it does.
+/// Appends what happens to a member of that name with this script.
 #[tactic(auto, unfolding(crate::specs::Events::member_entries))]
 fn push_member(
     text: &mut String,
     scenario: &Scenario,
     member: MemberId,
     name: &str,
-    crash: Option<Moment>,
-    leave: Option<Moment>,
+    script: &[ScriptEvent],
 ) -> Result<(), AllocError>
-    ensures { OnOk result (string_bytes text.new ≡ string_bytes text.old ++ member_entries scenario.now member name.now crash leave) }
+    ensures { OnOk result (string_bytes text.new ≡ string_bytes text.old ++ member_entries scenario.now member name.now script.now) }
 {
-    push_departure_of(text, name, ": crash at ", crash)?;
-    push_departure_of(text, name, ": leave at ", leave)?;
+    push_script(text, scenario, name, script)?;
     push_slows(text, name, member, scenario.slows())?;
-    push_pauses(text, name, member, scenario.pauses())
+    push_pauses(text, name, member, scenario.pauses())?;
+    push_blocks(text, name, member, scenario.blocks())
 }
 
-/// Appends how and when a member departs, where it does.
-fn push_departure_of(
+/// Appends how and when a member goes and starts again.
+fn push_script(
     text: &mut String,
+    scenario: &Scenario,
     name: &str,
-    words: &str,
-    at: Option<Moment>,
+    script: &[ScriptEvent],
 ) -> Result<(), AllocError>
-    ensures { OnOk result (string_bytes text.new ≡ string_bytes text.old ++ departure_entry name.now words.now at) }
+    ensures { OnOk result (string_bytes text.new ≡ string_bytes text.old ++ flat_map (script_words scenario.now name.now) script.now) }
 {
-    match at {
-        Some(at) => push_departure(text, name, words, at),
-        None => Ok(()),
+    for event in script {
+        push_event(text, scenario, name, event)?;
+    }
+    Ok(())
+}
+
+/// Appends an event of a member's script.
+#[tactic(auto, unfolding(crate::specs::Events::script_words))]
+fn push_event(
+    text: &mut String,
+    scenario: &Scenario,
+    name: &str,
+    event: &ScriptEvent,
+) -> Result<(), AllocError>
+    ensures { OnOk result (string_bytes text.new ≡ string_bytes text.old ++ script_words scenario.now name.now event.now) }
+{
+    open_entry(text, name)?;
+    text.push_str(kind_words(event.kind))?;
+    push_grouped(text, event.at.ticks())?;
+    push_asked(text, scenario, event.kind)?;
+    text.push_str("</li>")
+}
+
+/// What happens to a member.
+fn kind_words(kind: ScriptKind) -> &'static str
+    ensures { result.now ≡ kind_words kind }
+{
+    match kind {
+        ScriptKind::Crash => ": crash at ",
+        ScriptKind::Leave => ": leave at ",
+        ScriptKind::Restart(_) => ": restart at ",
     }
 }
 
-/// Appends how and when a member departs.
-#[tactic(auto, unfolding(crate::specs::Events::departure))]
-fn push_departure(text: &mut String, name: &str, words: &str, at: Moment) -> Result<(), AllocError>
-    ensures { OnOk result (string_bytes text.new ≡ string_bytes text.old ++ departure name.now words.now at) }
+/// Appends whom a member asks that starts again.
+fn push_asked(text: &mut String, scenario: &Scenario, kind: ScriptKind) -> Result<(), AllocError>
+    ensures { OnOk result (string_bytes text.new ≡ string_bytes text.old ++ asked_words scenario.now kind) }
 {
-    open_entry(text, name)?;
-    text.push_str(words)?;
-    push_grouped(text, at.ticks())?;
-    text.push_str("</li>")
+    match kind {
+        ScriptKind::Crash | ScriptKind::Leave => Ok(()),
+        ScriptKind::Restart(contact) => push_contact(text, scenario, contact),
+    }
+}
+
+/// Appends whom members ask to let them join, where they ask somebody.
+#[tactic(auto, unfolding(crate::specs::Events::contact_words))]
+pub(crate) fn push_contact(
+    text: &mut String,
+    scenario: &Scenario,
+    contact: Option<MemberId>,
+) -> Result<(), AllocError>
+    ensures { OnOk result (string_bytes text.new ≡ string_bytes text.old ++ contact_words scenario.now contact) }
+{
+    if let Some(contact) = contact {
+        text.push_str(", contact ")?;
+        return push_escaped(text, contact_name(scenario, contact));
+    }
+    Ok(())
+}
+
+/// The name of a contact: one of the members.
+fn contact_name(scenario: &Scenario, contact: MemberId) -> &str
+    ensures { result.now ≡ contact_name scenario.now contact }
+{
+    if contact.index() < scenario.members() {
+        return scenario.name(contact);
+    }
+    ""
 }
 
 /// Begins the entry of a member of that name.
@@ -182,6 +233,46 @@ fn push_pause(text: &mut String, name: &str, pause: &Pause) -> Result<(), AllocE
     open_entry(text, name)?;
     text.push_str(": paused")?;
     push_time(text, pause.from, pause.until)
+}
+
+/// Appends when a member is blocked.
+fn push_blocks(
+    text: &mut String,
+    name: &str,
+    member: MemberId,
+    blocks: &[Pause],
+) -> Result<(), AllocError>
+    ensures { OnOk result (string_bytes text.new ≡ string_bytes text.old ++ flat_map (block_entry name.now member) blocks.now) }
+{
+    for block in blocks {
+        push_block_of(text, name, member, block)?;
+    }
+    Ok(())
+}
+
+/// Appends a block, where it is the member's.
+fn push_block_of(
+    text: &mut String,
+    name: &str,
+    member: MemberId,
+    block: &Pause,
+) -> Result<(), AllocError>
+    ensures { OnOk result (string_bytes text.new ≡ string_bytes text.old ++ block_entry name.now member block.now) }
+{
+    if block.member == member {
+        return push_block(text, name, block);
+    }
+    Ok(())
+}
+
+/// Appends a block.
+#[tactic(auto, unfolding(crate::specs::Events::block_words))]
+fn push_block(text: &mut String, name: &str, block: &Pause) -> Result<(), AllocError>
+    ensures { OnOk result (string_bytes text.new ≡ string_bytes text.old ++ block_words name.now block.now) }
+{
+    open_entry(text, name)?;
+    text.push_str(": blocked")?;
+    push_time(text, block.from, block.until)
 }
 
 /// Ends an entry by its time.

@@ -1,6 +1,7 @@
 //! Which preset a scenario is nearest to, and what that one sets.
 ghost use Rattle.std.specs.Prelude.{◌≡◌, count_by};
-ghost use Rattle.run_settings.specs.Nearest.{in_each, in_three, usual, usual_switch, is_memberlists, is_other_number, is_other_switch, is_other, differs, differing_in, differing, of_least, nearest_in, nearest};
+ghost use Rattle.run_settings.specs.Nearest.{by_owner, in_each, in_each_or, in_three, usual, usual_switch, is_memberlists, is_other_number, is_other_switch, is_other, differs, differing_in, differing, of_least, of_least_of_four, nearest_fourth, nearest_in, nearest};
+ghost use Rattle.presets.specs.declared.preset.Preset.TheVariants as AnyPreset;
 
 use crate::values::{switch_of, value_of};
 use presets::Preset;
@@ -8,18 +9,41 @@ use scenario::{Scenario, Version};
 use schema::{FormatKey, KeyRule, Section};
 
 /// The preset from which the fewest keys of a scenario differ, of those of its version; of several
-/// the first of lan, wan and local.
+/// the first of lan, wan and local, or of serf, serf-wan, consul and consul-wan.
 pub(crate) fn nearest(scenario: &Scenario) -> Preset
     ensures { result ≡ nearest scenario.now }
 {
     match scenario.version() {
         Version::One | Version::Two => Preset::Swim,
-        Version::Three | Version::Four => of_least(
-            differing(scenario, Preset::Lan),
-            differing(scenario, Preset::Wan),
-            differing(scenario, Preset::Local),
-        ),
+        Version::Three => nearest_memberlists(scenario),
+        Version::Four => nearest_fourth(scenario),
     }
+}
+
+/// The preset of version 4 from which the fewest keys differ.
+fn nearest_fourth(scenario: &Scenario) -> Preset
+    ensures { result ≡ nearest_fourth scenario.now scenario.now.serf }
+{
+    match scenario.serf() {
+        Some(_) => of_least_of_four(
+            differing(scenario, Preset::Serf),
+            differing(scenario, Preset::SerfWan),
+            differing(scenario, Preset::Consul),
+            differing(scenario, Preset::ConsulWan),
+        ),
+        None => nearest_memberlists(scenario),
+    }
+}
+
+/// The preset of memberlist's from which the fewest keys differ.
+fn nearest_memberlists(scenario: &Scenario) -> Preset
+    ensures { result ≡ of_least (differing scenario.now AnyPreset.Lan) (differing scenario.now AnyPreset.Wan) (differing scenario.now AnyPreset.Local) }
+{
+    of_least(
+        differing(scenario, Preset::Lan),
+        differing(scenario, Preset::Wan),
+        differing(scenario, Preset::Local),
+    )
 }
 
 /// The preset from which the fewest keys differ.
@@ -35,6 +59,21 @@ fn of_least(lan: u128, wan: u128, local: u128) -> Preset
     }
 }
 
+/// The preset of Serf's and Consul's from which the fewest keys differ.
+fn of_least_of_four(serf: u128, serf_wan: u128, consul: u128, consul_wan: u128) -> Preset
+    ensures { result ≡ of_least_of_four serf serf_wan consul consul_wan }
+{
+    if serf <= serf_wan && (serf <= consul && serf <= consul_wan) {
+        Preset::Serf
+    } else if serf_wan <= consul && serf_wan <= consul_wan {
+        Preset::SerfWan
+    } else if consul <= consul_wan {
+        Preset::Consul
+    } else {
+        Preset::ConsulWan
+    }
+}
+
 /// How many keys of a scenario aren't as in a preset.
 #[tactic(auto, unfolding(crate::specs::Nearest::differing))]
 fn differing(scenario: &Scenario, preset: Preset) -> u128
@@ -46,12 +85,14 @@ fn differing(scenario: &Scenario, preset: Preset) -> u128
     let link = differing_in(scenario, preset, Section::Link);
     let gossip = differing_in(scenario, preset, Section::Gossip);
     let stream = differing_in(scenario, preset, Section::Stream);
+    let serf = differing_in(scenario, preset, Section::Serf);
     u128::from(swim)
         + u128::from(suspicion)
         + u128::from(lifeguard)
         + u128::from(link)
         + u128::from(gossip)
         + u128::from(stream)
+        + u128::from(serf)
 }
 
 /// How many keys of a table aren't.
@@ -138,6 +179,13 @@ pub(crate) fn usual(preset: Preset, key: FormatKey) -> Option<u64>
         FormatKey::Push => in_three(preset, 15000, 30000, 60000),
         FormatKey::Connect => in_three(preset, 1000, 1000, 1000),
         FormatKey::Again => in_three(preset, 200, 200, 200),
+        FormatKey::Packet => in_three(preset, 1400, 1400, 1400),
+        FormatKey::Meta => by_owner(preset, Some(0), 2, 125, 241),
+        FormatKey::Limit => in_three(preset, 1000, 10000, 30000),
+        FormatKey::Retry => in_three(preset, 30000, 30000, 30000),
+        FormatKey::Reconnect => by_owner(preset, None, 30000, 30000, 30000),
+        FormatKey::Reap => by_owner(preset, None, 86_400_000, 259_200_000, 259_200_000),
+        FormatKey::Linger => by_owner(preset, None, 1000, 3000, 3000),
         _ => None,
     }
 }
@@ -146,42 +194,69 @@ pub(crate) fn usual(preset: Preset, key: FormatKey) -> Option<u64>
 fn in_each(preset: Preset, local: u64, lan: u64, wan: u64, swim: u64) -> Option<u64>
     ensures { result ≡ in_each local lan wan swim preset }
 {
-    match preset {
-        Preset::Local => Some(local),
-        Preset::Lan => Some(lan),
-        Preset::Wan => Some(wan),
-        Preset::Swim => Some(swim),
-    }
+    in_each_or(preset, local, lan, wan, Some(swim))
 }
 
-/// A number in each of memberlist's, for a key that the format's own doesn't have.
+/// A number in each but the format's own, which doesn't have the key.
 fn in_three(preset: Preset, local: u64, lan: u64, wan: u64) -> Option<u64>
     ensures { result ≡ in_three local lan wan preset }
 {
+    in_each_or(preset, local, lan, wan, None)
+}
+
+/// A number on one machine, in one data centre and between data centres, and in the format's own preset.
+fn in_each_or(preset: Preset, local: u64, lan: u64, wan: u64, swim: Option<u64>) -> Option<u64>
+    ensures { result ≡ in_each_or local lan wan swim preset }
+{
     match preset {
         Preset::Local => Some(local),
-        Preset::Lan => Some(lan),
-        Preset::Wan => Some(wan),
+        Preset::Lan | Preset::Serf | Preset::Consul => Some(lan),
+        Preset::Wan | Preset::SerfWan | Preset::ConsulWan => Some(wan),
+        Preset::Swim => swim,
+    }
+}
+
+/// A number by whose program the members run, for a key that the format's own preset doesn't have.
+fn by_owner(
+    preset: Preset,
+    memberlist: Option<u64>,
+    serf: u64,
+    consul: u64,
+    consul_wan: u64,
+) -> Option<u64>
+    ensures { result ≡ by_owner memberlist serf consul consul_wan preset }
+{
+    match preset {
+        Preset::Local | Preset::Lan | Preset::Wan => memberlist,
+        Preset::Serf | Preset::SerfWan => Some(serf),
+        Preset::Consul => Some(consul),
+        Preset::ConsulWan => Some(consul_wan),
         Preset::Swim => None,
     }
 }
 
-/// The switch that `init` prints: all are on, and the fallback in memberlist's presets alone.
+/// The switch that `init` prints: all are on, and the fallback and the queue by memberlist's rules alone.
 pub(crate) fn usual_switch(preset: Preset, key: FormatKey) -> bool
     ensures { result ≡ usual_switch preset key }
 {
     match key {
-        FormatKey::Fallback => is_memberlists(preset),
+        FormatKey::Fallback | FormatKey::Queue => is_memberlists(preset),
         _ => true,
     }
 }
 
-/// Whether a preset is one of memberlist's.
+/// Whether a preset has memberlist's rules.
 fn is_memberlists(preset: Preset) -> bool
     ensures { result ≡ is_memberlists preset }
 {
     match preset {
         Preset::Swim => false,
-        Preset::Local | Preset::Lan | Preset::Wan => true,
+        Preset::Local
+        | Preset::Lan
+        | Preset::Wan
+        | Preset::Serf
+        | Preset::SerfWan
+        | Preset::Consul
+        | Preset::ConsulWan => true,
     }
 }

@@ -5,9 +5,9 @@ ghost use Rattle.schema.specs.Schema.{spelling_of};
 ghost use Rattle.scenario.specs.SetupOf.{group_of};
 ghost use Rattle.run_settings.specs.Events.{group_name};
 ghost use Rattle.presets.specs.Presets.{word_of};
-ghost use Rattle.run_settings.specs.Settings.{bold_words, chip_opening, chip, switch, entry_of, key_entry, section_entries, gossip_entries, third_entries, group_entry, start_words, contact_name, contact_words, joining_words, path_entry, is_other_link, link_words, version_number, top_entries, last_entries, entries, settings_beside, settings_text};
+ghost use Rattle.run_settings.specs.Settings.{bold_words, chip_opening, chip, switch, entry_of, key_entry, section_entries, gossip_entries, third_entries, serf_entries, group_entry, start_words, joining_words, path_entry, is_other_link, link_words, version_number, top_entries, last_entries, entries, settings_beside, settings_text};
 
-use crate::events::push_events;
+use crate::events::{push_contact, push_events};
 use crate::nearest::{is_other_number, is_other_switch, nearest, usual, usual_switch};
 use crate::values::{switch_of, value_of};
 use base::MemberId;
@@ -70,6 +70,10 @@ fn word_of(preset: Preset) -> &'static str
         Preset::Local => "local",
         Preset::Lan => "lan",
         Preset::Wan => "wan",
+        Preset::Serf => "serf",
+        Preset::SerfWan => "serf-wan",
+        Preset::Consul => "consul",
+        Preset::ConsulWan => "consul-wan",
         Preset::Swim => "swim",
     }
 }
@@ -121,16 +125,31 @@ fn version_number(version: Version) -> u64
     }
 }
 
-/// Appends the keys of the tables that only version 3 has.
+/// Appends the keys of the tables that versions 3 and 4 add.
 fn push_third(text: &mut String, scenario: &Scenario, preset: Preset) -> Result<(), AllocError>
     ensures { OnOk result (string_bytes text.new ≡ string_bytes text.old ++ third_entries scenario.now preset scenario.now.version) }
 {
     match scenario.version() {
         Version::One | Version::Two => Ok(()),
-        Version::Three | Version::Four => {
+        Version::Three => {
             push_gossip(text, scenario, preset)?;
             push_section(text, scenario, preset, "stream.", Section::Stream)
         }
+        Version::Four => {
+            push_gossip(text, scenario, preset)?;
+            push_section(text, scenario, preset, "stream.", Section::Stream)?;
+            push_serf(text, scenario, preset)
+        }
+    }
+}
+
+/// Appends the keys of how members leave and reconnect, where they do as Serf's.
+fn push_serf(text: &mut String, scenario: &Scenario, preset: Preset) -> Result<(), AllocError>
+    ensures { OnOk result (string_bytes text.new ≡ string_bytes text.old ++ serf_entries scenario.now preset scenario.now.serf) }
+{
+    match scenario.serf() {
+        Some(_) => push_section(text, scenario, preset, "serf.", Section::Serf),
+        None => Ok(()),
     }
 }
 
@@ -307,32 +326,6 @@ fn push_joining(
     push_start(text, start)?;
     push_contact(text, scenario, contact)?;
     Ok(())
-}
-
-/// Appends whom the members of a group ask to let them join, where they ask somebody.
-#[tactic(auto, unfolding(crate::specs::Settings::contact_words))]
-fn push_contact(
-    text: &mut String,
-    scenario: &Scenario,
-    contact: Option<MemberId>,
-) -> Result<(), AllocError>
-    ensures { OnOk result (string_bytes text.new ≡ string_bytes text.old ++ contact_words scenario.now contact) }
-{
-    if let Some(contact) = contact {
-        text.push_str(", contact ")?;
-        return push_escaped(text, contact_name(scenario, contact));
-    }
-    Ok(())
-}
-
-/// The name of a contact: one of the members.
-fn contact_name(scenario: &Scenario, contact: MemberId) -> &str
-    ensures { result.now ≡ contact_name scenario.now contact }
-{
-    if contact.index() < scenario.members() {
-        return scenario.name(contact);
-    }
-    ""
 }
 
 /// Appends when the members of a group start, where that is later than at 0.

@@ -1,8 +1,10 @@
 //! The values of the scenario's keys.
 ghost use Rattle.std.specs.Prelude.{◌≡◌};
-ghost use Rattle.run_settings.specs.Values.{swim_value, suspicion_value, lifeguard_value, link_value, gossip_value, gossip_value_of, stream_value, value_of, switch_of};
+ghost use Rattle.run_settings.specs.Values.{swim_value, suspicion_value, lifeguard_value, link_value, gossip_value, gossip_value_of, queue_switch, queue_value, serf_value, serf_value_of, stream_value, value_of, switch_of};
 
-use scenario::{Gossip, Lifeguard, Link, Scenario, StreamTimes, Suspicion, Swim};
+use scenario::{
+    DialTimes, Gossip, Lifeguard, Link, Queue, Scenario, Serf, StreamTimes, Suspicion, Swim,
+};
 use schema::{FormatKey, Section};
 
 /// The whole number that a key of a table has in the scenario.
@@ -14,8 +16,9 @@ pub(crate) fn value_of(scenario: &Scenario, section: Section, key: FormatKey) ->
         Section::Suspicion => suspicion_value(&scenario.suspicion(), key),
         Section::Lifeguard => lifeguard_value(&scenario.lifeguard(), key),
         Section::Link => link_value(&scenario.link(), key),
-        Section::Gossip => gossip_value_of(scenario.gossip(), key),
-        Section::Stream => stream_value(&scenario.stream(), key),
+        Section::Gossip => gossip_value_of(scenario.gossip(), scenario.queue(), key),
+        Section::Stream => stream_value(&scenario.stream(), &scenario.dial(), key),
+        Section::Serf => serf_value_of(scenario.serf(), key),
         _ => None,
     }
 }
@@ -66,11 +69,29 @@ fn link_value(link: &Link, key: FormatKey) -> Option<u64>
     }
 }
 
-fn gossip_value_of(gossip: Option<Gossip>, key: FormatKey) -> Option<u64>
-    ensures { result ≡ gossip_value_of gossip key }
+/// The number of a key of how members gossip, and of their packets, where they gossip.
+fn gossip_value_of(gossip: Option<Gossip>, queue: Option<Queue>, key: FormatKey) -> Option<u64>
+    ensures { result ≡ gossip_value_of gossip queue key }
 {
     match gossip {
-        Some(gossip) => gossip_value(&gossip, key),
+        Some(gossip) => match key {
+            FormatKey::Packet | FormatKey::Meta => queue_value(queue, key),
+            _ => gossip_value(&gossip, key),
+        },
+        None => None,
+    }
+}
+
+/// The number of a key of packets, which counts where they are filled from memberlist's queue.
+fn queue_value(queue: Option<Queue>, key: FormatKey) -> Option<u64>
+    ensures { result ≡ queue_value queue key }
+{
+    match queue {
+        Some(queue) => match key {
+            FormatKey::Packet => Some(queue.packet),
+            FormatKey::Meta => Some(queue.meta),
+            _ => None,
+        },
         None => None,
     }
 }
@@ -87,13 +108,45 @@ fn gossip_value(gossip: &Gossip, key: FormatKey) -> Option<u64>
     }
 }
 
-fn stream_value(stream: &StreamTimes, key: FormatKey) -> Option<u64>
-    ensures { result ≡ stream_value stream.now key }
+fn stream_value(stream: &StreamTimes, dial: &DialTimes, key: FormatKey) -> Option<u64>
+    ensures { result ≡ stream_value stream.now dial.now key }
 {
     match key {
         FormatKey::Connect => Some(stream.connect),
         FormatKey::Again => Some(stream.again),
+        FormatKey::Limit => Some(dial.limit),
+        FormatKey::Retry => Some(dial.retry),
         _ => None,
+    }
+}
+
+fn serf_value_of(serf: Option<Serf>, key: FormatKey) -> Option<u64>
+    ensures { result ≡ serf_value_of serf key }
+{
+    match serf {
+        Some(serf) => serf_value(&serf, key),
+        None => None,
+    }
+}
+
+fn serf_value(serf: &Serf, key: FormatKey) -> Option<u64>
+    ensures { result ≡ serf_value serf.now key }
+{
+    match key {
+        FormatKey::Reconnect => Some(serf.reconnect),
+        FormatKey::Reap => Some(serf.reap),
+        FormatKey::Linger => Some(serf.linger),
+        _ => None,
+    }
+}
+
+/// Whether packets are filled from memberlist's queue, where members gossip.
+fn queue_switch(gossip: Option<Gossip>, queue: Option<Queue>) -> Option<bool>
+    ensures { result ≡ queue_switch gossip queue }
+{
+    match gossip {
+        Some(_) => Some(queue.is_some()),
+        None => None,
     }
 }
 
@@ -106,6 +159,7 @@ pub(crate) fn switch_of(scenario: &Scenario, key: FormatKey) -> Option<bool>
         FormatKey::Probe => Some(scenario.lifeguard().probe),
         FormatKey::Suspicion => Some(scenario.lifeguard().suspicion),
         FormatKey::Buddy => Some(scenario.lifeguard().buddy),
+        FormatKey::Queue => queue_switch(scenario.gossip(), scenario.queue()),
         _ => None,
     }
 }

@@ -51,7 +51,7 @@ pub(crate) fn news(
     step: u64,
 ) -> Result<Heard, Memory>
     requires told { IsTold run.now }
-    requires few { staying ≤ 4096 }
+    requires few { staying ≤ 16384 }
     ensures reached { IfOk result (λ news. news.reached.items ≡ reached (times run.now.scenario.now (learned moments.now from)) step) }
     ensures shares { IfOk result (λ news. news.shares ≡ shares staying (times run.now.scenario.now (learned moments.now from))) }
 {
@@ -140,7 +140,7 @@ fn come_before(times: &[u64], end: u64) -> u64
 
 /// After which of these times shares of so many members had learned of it.
 fn shares(times: Vec<u64>, staying: u64) -> Result<ShareTimes, Memory>
-    requires { staying ≤ 4096 }
+    requires { staying ≤ 16384 }
     ensures { IfOk result (λ told. told ≡ shares staying times.items) }
 {
     let sorted = sorted(times)?;
@@ -150,7 +150,7 @@ fn shares(times: Vec<u64>, staying: u64) -> Result<ShareTimes, Memory>
 /// The same of times in rising order.
 fn shares_of(times: &[u64], staying: u64) -> ShareTimes
     requires order { IsSorted nat_cmp times.now }
-    requires few { staying ≤ 4096 }
+    requires few { staying ≤ 16384 }
     ensures { (given : List ℕ) → IsPermutation given times.now → result ≡ shares staying given }
 {
     ShareTimes {
@@ -175,7 +175,7 @@ fn sorted(times: Vec<u64>) -> Result<Vec<u64>, Memory>
 /// The time, of these in rising order, by which so many percent of so many members had learned of it.
 fn time_of_share(times: &[u64], staying: u64, percent: u64) -> Option<u64>
     requires order { IsSorted nat_cmp times.now }
-    requires few { staying ≤ 4096 }
+    requires few { staying ≤ 16384 }
     requires part { percent ≤ 100 }
     ensures { (given : List ℕ) → IsPermutation given times.now → result ≡ at_rank (rank percent staying) given }
 {
@@ -245,7 +245,7 @@ fn or_at_once(time: Option<u64>) -> u64
 pub(crate) fn staying(run: &Run) -> u64
     requires { IsTold run.now }
     ensures value { result ≡ staying run.now.scenario.now }
-    ensures few { result ≤ 4096 }
+    ensures few { result ≤ 16384 }
 {
     let mut staying = 0;
     for number in 0..run.members() {

@@ -1,5 +1,5 @@
 -- What happened, in a few words.
-use Rattle.std.specs.Prelude.{ℕ, Bool, false, nat_lt, nat_eq, if◌then◌else◌, Option, Some, None, List, [], ◌∷◌, ◌++◌, codes, decimal, length, count_by, min, max}
+use Rattle.std.specs.Prelude.{ℕ, Bool, false, ◌&&◌, nat_le, nat_lt, nat_eq, if◌then◌else◌, Option, Some, None, List, [], ◌∷◌, ◌++◌, codes, decimal, length, count_by, map, min, max}
 use Rattle.std.specs.Option.{is_some}
 use Rattle.std.specs.List.{reduce, list_any}
 use Rattle.schema.specs.declared.schema.Version.{Version}
@@ -14,6 +14,9 @@ use Rattle.reports.specs.Rows.{count_of, worst_health}
 use Rattle.reports.specs.Departures.{crashes_of, latencies_of}
 use Rattle.reports.specs.Revivals.{revivals}
 use Rattle.reports.specs.FalsePositives.{ways_to_depart, false_positives}
+use Rattle.reports.specs.Absences.{with_left, with_others_left, absences_of, wrongs_of}
+use Rattle.incidents.specs.Incidents.{alarms}
+use Rattle.incidents.specs.Returns.{returns_of}
 use Rattle.drawing.specs.Numbers.{grouped}
 use Rattle.member_timelines.specs.Numbers.{by_number}
 use Rattle.member_timelines.specs.Wrongly.{count_out, is_claim_about}
@@ -25,9 +28,9 @@ unfoldable pub size_words : Option Tick → Setup → List ℕ
 size_words time s =
     grouped (member_count s) ++ by_number (member_count s) (codes " member, ") (codes " members, ") ++ grouped s.end ++ by_number s.end (codes " tick") (codes " ticks") ++ lasting time s.end ++ codes ". "
 
--- how many crashed
-unfoldable pub crashed_words : ℕ → List ℕ
-crashed_words count = if nat_eq count 1 then codes "1 member crashed" else decimal count ++ codes " members crashed"
+-- how many crashed, by the words for one and what stands behind the number of several
+unfoldable pub crashed_words : List ℕ → List ℕ → ℕ → List ℕ
+crashed_words one several count = if nat_eq count 1 then one else decimal count ++ several
 
 -- how many of them were detected, where not all were
 unfoldable pub some_found : ℕ → List ℕ
@@ -75,15 +78,19 @@ latency_words time _ _ = []
 abbrev pub is_found : DepartureReport → Bool
 is_found crash = is_some crash.detection.confirm
 
--- nobody did, but one of these false claims, all made before it crashed, is about the member
-abbrev pub is_known : List FalsePositive → DepartureReport → Bool
-is_known claims crash = if is_found crash then false else list_any (is_claim_about crash.member) claims
+-- the false claim is about the member that crashed, and was made by then
+abbrev pub is_earlier : DepartureReport → FalsePositive → Bool
+is_earlier crash claim = is_claim_about crash.member claim && nat_le claim.at crash.at
 
--- how many crashed, and how soon they were detected, where these are the false claims that members are dead
-unfoldable pub crash_words : Option Tick → List DepartureReport → List FalsePositive → List ℕ
-crash_words time crashes claims =
+-- nobody did, but there is such a claim among these
+abbrev pub is_known : List FalsePositive → DepartureReport → Bool
+is_known claims crash = if is_found crash then false else list_any (is_earlier crash) claims
+
+-- how many crashed, by these words, and how soon they were detected, where these are the false claims that members are dead
+unfoldable pub crash_words : Option Tick → List ℕ → List ℕ → List DepartureReport → List FalsePositive → List ℕ
+crash_words time one several crashes claims =
     if nat_eq (length crashes) 0 then codes "Nobody crashed. "
-    else crashed_words (length crashes) ++ found_words (length crashes) (count_by is_found crashes) (count_by (is_known claims) crashes)
+    else crashed_words one several (length crashes) ++ found_words (length crashes) (count_by is_found crashes) (count_by (is_known claims) crashes)
     ++ latency_words time (reduce min (latencies_of crashes)) (reduce max (latencies_of crashes))
 
 -- how many members have a false death
@@ -138,7 +145,7 @@ last_figures_of rows = last_figures (false_positives ways_to_depart what.Suspect
 abbrev pub some_figure : ℕ → List ℕ → List ℕ → List ℕ
 some_figure number one several = if nat_lt 0 number then figure (codes "") number one several else []
 
--- the rows that only the members of a harness write, and that count in no other figure but that of all rows
+-- the rows that before version 4 only the members of a harness write, and that then count in no other figure but that of all rows
 unfoldable pub harness_figures : ℕ → ℕ → ℕ → List ℕ
 harness_figures left forgotten reconnects =
     some_figure left (codes "row <code>left</code>") (codes "rows <code>left</code>")
@@ -156,9 +163,57 @@ figures version out rows = first_figures_of out rows ++ back_figure version rows
 -- what happened, where so many members have a false death
 unfoldable pub summary_of : Option Tick → Setup → ℕ → List Row → List ℕ
 summary_of time s out rows =
-    codes "<p class=\"lead\">" ++ size_words time s ++ crash_words time (crashes_of rows) (false_positives_of what.Confirm rows) ++ out_words out
+    codes "<p class=\"lead\">" ++ size_words time s ++ crash_words time (codes "1 member crashed") (codes " members crashed") (crashes_of rows) (false_positives_of what.Confirm rows) ++ out_words out
     ++ codes "</p><ul class=\"figures\">" ++ figures s.version out rows ++ codes "</ul>\n"
+
+-- how often members were declared dead while they were up
+unfoldable pub death_words : ℕ → List ℕ
+death_words deaths =
+    if nat_eq deaths 0 then codes "No member that was up was declared dead."
+    else if nat_eq deaths 1 then codes "<b>A member was declared dead while it was up.</b>"
+    else codes "<b>Members were declared dead " ++ decimal deaths ++ codes " times while they were up.</b>"
+
+-- the figures of a run of version 4, in which members start again: how many crashes, restarts, false alarms and false deaths there are
+unfoldable pub account_figures : ℕ → ℕ → ℕ → ℕ → ℕ → List ℕ
+account_figures crashes restarts alarms deaths back =
+    figure (codes "") crashes (codes "crash") (codes "crashes") ++ figure (codes "") restarts (codes "restart") (codes "restarts")
+    ++ figure (codes "") alarms (codes "incident") (codes "incidents") ++ figure (out_class deaths) deaths (codes "false death") (codes "false deaths")
+    ++ figure (codes "") back (codes "time declared alive again") (codes "times declared alive again")
+
+-- the figures of the protocol and of the trace, where there are so many false suspicions
+abbrev pub other_figures : ℕ → List Row → List ℕ
+other_figures suspicions rows = last_figures suspicions (count_of what.Refute rows) (count_of what.Fail rows) (worst_health rows) (length rows)
+
+-- what happened in such a run, where these are its crashes and its false deaths
+unfoldable pub account_lead : Option Tick → Setup → List DepartureReport → List FalsePositive → ℕ → List ℕ
+account_lead time s crashes claims deaths =
+    codes "<p class=\"lead\">" ++ size_words time s ++ crash_words time (codes "1 crash") (codes " crashes") crashes claims ++ death_words deaths
+
+-- all its figures
+unfoldable pub account_list : ℕ → ℕ → ℕ → ℕ → ℕ → ℕ → List Row → List ℕ
+account_list crashes restarts alarms deaths back suspicions rows =
+    codes "</p><ul class=\"figures\">" ++ account_figures crashes restarts alarms deaths back ++ other_figures suspicions rows ++ harness_figures_of rows
+    ++ codes "</ul>\n"
+
+-- both
+unfoldable pub account_words : Option Tick → Setup → List DepartureReport → List FalsePositive → ℕ → ℕ → ℕ → ℕ → ℕ → List Row → List ℕ
+account_words time s crashes claims restarts alarms deaths back suspicions rows =
+    account_lead time s crashes claims deaths ++ account_list (length crashes) restarts alarms deaths back suspicions rows
+
+-- the same of these rows: as its report counts
+abbrev pub account_text : Option Tick → Setup → List Row → List ℕ
+account_text time s rows =
+    account_words time s (absences_of what.Crash (map with_others_left rows)) (wrongs_of what.Confirm (map with_others_left rows)) (length (returns_of (member_count s) rows))
+    (alarms (member_count s) rows) (length (wrongs_of what.Confirm (map with_others_left rows))) (revivals (map with_left rows))
+    (length (wrongs_of what.Suspect (map with_others_left rows))) rows
+
+-- what happened in a run of a version
+abbrev pub summary_by : Version → Option Tick → Setup → List Row → List ℕ
+summary_by One time s rows = summary_of time s (count_out s rows) rows
+summary_by Two time s rows = summary_of time s (count_out s rows) rows
+summary_by Three time s rows = summary_of time s (count_out s rows) rows
+summary_by Four time s rows = account_text time s rows
 
 -- what happened
 abbrev pub summary_text : Option Tick → Setup → List Row → List ℕ
-summary_text time s rows = summary_of time s (count_out (member_count s) rows) rows
+summary_text time s rows = summary_by s.version time s rows

@@ -1,19 +1,19 @@
 //! What happened, in a few words.
-ghost use Rattle.std.specs.Prelude.{◌≡◌, ◌++◌, ℕ, OnOk, IfOk, nat_lt, codes, length, count_by, min, max};
+ghost use Rattle.std.specs.Prelude.{◌≡◌, ◌++◌, ℕ, OnOk, IfOk, nat_lt, codes, decimal, length, count_by, min, max};
 ghost use Rattle.std.specs.String.{string_bytes};
 ghost use Rattle.std.specs.List.{reduce, list_any};
-ghost use Rattle.scenario.specs.Setup.{member_count};
+ghost use Rattle.reports.specs.Accounts.{IsAccountOf};
 ghost use Rattle.reports.specs.Departures.{crashes_of, latencies_of};
 ghost use Rattle.drawing.specs.Numbers.{grouped};
 ghost use Rattle.member_timelines.specs.Numbers.{by_number};
 ghost use Rattle.member_timelines.specs.Run.{IsTold};
 ghost use Rattle.member_timelines.specs.Wrongly.{count_out, is_claim_about};
-ghost use Rattle.run_summary.specs.Summary.{size_words, crashed_words, some_found, known_words, unfound_words, part_found, found_words, greatest_words, lasting_from, between_words, latency_words, is_found, is_known, crash_words, out_words, figure_start, figure, out_class, back_figure, first_figures, first_figures_of, last_figures, last_figures_of, some_figure, harness_figures, harness_figures_of, figures, summary_of, summary_text};
+ghost use Rattle.run_summary.specs.Summary.{size_words, crashed_words, some_found, known_words, unfound_words, part_found, found_words, greatest_words, lasting_from, between_words, latency_words, is_found, is_earlier, is_known, crash_words, out_words, figure_start, figure, out_class, back_figure, first_figures, first_figures_of, last_figures, last_figures_of, some_figure, harness_figures, harness_figures_of, figures, summary_of, death_words, account_figures, other_figures, account_lead, account_list, account_words, account_text, summary_by, summary_text};
 
 use base::{MemberId, Memory};
 use drawing::{push_grouped, push_lasting, push_lasting_between};
-use member_timelines::{Run, by_number, claims_by_member};
-use reports::{DepartureReport, FalsePositive, Tallies, false_positive_count};
+use member_timelines::{Run, by_number, times_out};
+use reports::{Account, DepartureReport, FalsePositive, Tallies, false_positive_count};
 use scenario::Version;
 use std::alloc::{AllocError, Global};
 use ticks::Tick;
@@ -24,18 +24,178 @@ pub fn push_summary(alloc: Global, text: &mut String, run: &Run) -> Result<(), M
     requires { IsTold run.now }
     ensures { OnOk result (string_bytes text.new ≡ string_bytes text.old ++ summary_text run.now.tick run.now.scenario.now run.now.tallies.now) }
 {
+    push_by(alloc, text, run, run.scenario.version())
+}
+
+/// Appends what happened in a run of a version.
+fn push_by(alloc: Global, text: &mut String, run: &Run, version: Version) -> Result<(), Memory>
+    requires { IsTold run.now }
+    ensures { OnOk result (string_bytes text.new ≡ string_bytes text.old ++ summary_by version run.now.tick run.now.scenario.now run.now.tallies.now) }
+{
+    match version {
+        Version::One | Version::Two | Version::Three => push_tallied(alloc, text, run),
+        Version::Four => push_accounted(alloc, text, run),
+    }
+}
+
+/// Appends what happened, before version 4.
+fn push_tallied(alloc: Global, text: &mut String, run: &Run) -> Result<(), Memory>
+    requires { IsTold run.now }
+    ensures { OnOk result (string_bytes text.new ≡ string_bytes text.old
+        ++ summary_of run.now.tick run.now.scenario.now (count_out run.now.scenario.now run.now.tallies.now) run.now.tallies.now) }
+{
     let out = members_out(alloc, run)?;
     push_all(text, run, out)?;
+    Ok(())
+}
+
+/// Appends what happened in a run of version 4, in which members start again.
+fn push_accounted(alloc: Global, text: &mut String, run: &Run) -> Result<(), Memory>
+    requires { IsTold run.now }
+    ensures { OnOk result (string_bytes text.new ≡ string_bytes text.old ++ account_text run.now.tick run.now.scenario.now run.now.tallies.now) }
+{
+    let account = run.tallies.account(alloc, run.scenario)?;
+    push_account(text, run, &account)?;
+    Ok(())
+}
+
+/// Appends the same by its account.
+fn push_account(text: &mut String, run: &Run, account: &Account) -> Result<(), AllocError>
+    requires told { IsTold run.now }
+    requires account { IsAccountOf account.now run.now.scenario.now run.now.tallies.now }
+    ensures { OnOk result (string_bytes text.new ≡ string_bytes text.old ++ account_text run.now.tick run.now.scenario.now run.now.tallies.now) }
+{
+    push_counted(
+        text,
+        run,
+        account.crashes.as_slice(),
+        account.confirmed.as_slice(),
+        account.returns.len() as u64,
+        account.alarms,
+        account.confirmations as u64,
+        account.revivals,
+        account.suspicions as u64,
+    )
+}
+
+/// Appends the same, where these are its crashes and its false deaths, and there are so many restarts, false alarms, false
+/// deaths, times that members were declared alive again, and false suspicions.
+#[tactic(auto, unfolding(crate::specs::Summary::account_words))]
+fn push_counted(
+    text: &mut String,
+    run: &Run,
+    crashes: &[DepartureReport],
+    claims: &[FalsePositive],
+    restarts: u64,
+    alarms: u64,
+    deaths: u64,
+    back: u64,
+    suspicions: u64,
+) -> Result<(), AllocError>
+    requires { IsTold run.now }
+    ensures { OnOk result (string_bytes text.new ≡ string_bytes text.old ++ account_words run.now.tick run.now.scenario.now crashes.now
+        claims.now restarts alarms deaths back suspicions run.now.tallies.now) }
+{
+    push_account_lead(text, run, crashes, claims, deaths)?;
+    let count = crashes.len() as u64;
+    push_account_list(
+        text,
+        run.tallies,
+        count,
+        restarts,
+        alarms,
+        deaths,
+        back,
+        suspicions,
+    )?;
+    Ok(())
+}
+
+/// Appends what happened in words.
+#[tactic(auto, unfolding(crate::specs::Summary::account_lead))]
+fn push_account_lead(
+    text: &mut String,
+    run: &Run,
+    crashes: &[DepartureReport],
+    claims: &[FalsePositive],
+    deaths: u64,
+) -> Result<(), AllocError>
+    requires { IsTold run.now }
+    ensures { OnOk result (string_bytes text.new ≡ string_bytes text.old
+        ++ account_lead run.now.tick run.now.scenario.now crashes.now claims.now deaths) }
+{
+    text.push_str("<p class=\"lead\">")?;
+    push_size(text, run)?;
+    push_crashes(text, run.tick, "1 crash", " crashes", crashes, claims)?;
+    push_deaths(text, deaths)?;
+    Ok(())
+}
+
+/// Appends all figures.
+#[tactic(auto, unfolding(crate::specs::Summary::account_list))]
+fn push_account_list(
+    text: &mut String,
+    tallies: &Tallies,
+    crashes: u64,
+    restarts: u64,
+    alarms: u64,
+    deaths: u64,
+    back: u64,
+    suspicions: u64,
+) -> Result<(), AllocError>
+    ensures { OnOk result (string_bytes text.new ≡ string_bytes text.old ++ account_list crashes restarts alarms deaths back suspicions tallies.now) }
+{
+    text.push_str("</p><ul class=\"figures\">")?;
+    push_account_figures(text, crashes, restarts, alarms, deaths, back)?;
+    push_others(text, suspicions, tallies)?;
+    push_harness_of(text, tallies)?;
+    text.push_str("</ul>\n")?;
+    Ok(())
+}
+
+/// Appends how often members were declared dead while they were up.
+#[tactic(auto, unfolding(crate::specs::Summary::death_words))]
+fn push_deaths(text: &mut String, deaths: u64) -> Result<(), AllocError>
+    ensures { OnOk result (string_bytes text.new ≡ string_bytes text.old ++ death_words deaths) }
+{
+    if deaths == 0 {
+        return text.push_str("No member that was up was declared dead.");
+    }
+    if deaths == 1 {
+        return text.push_str("<b>A member was declared dead while it was up.</b>");
+    }
+    write!(
+        text,
+        "<b>Members were declared dead {deaths} times while they were up.</b>"
+    )
+}
+
+/// Appends the figures of a run of version 4.
+#[tactic(auto, unfolding(crate::specs::Summary::account_figures))]
+fn push_account_figures(
+    text: &mut String,
+    crashes: u64,
+    restarts: u64,
+    alarms: u64,
+    deaths: u64,
+    back: u64,
+) -> Result<(), AllocError>
+    ensures { OnOk result (string_bytes text.new ≡ string_bytes text.old ++ account_figures crashes restarts alarms deaths back) }
+{
+    push_figure(text, "", crashes, "crash", "crashes")?;
+    push_figure(text, "", restarts, "restart", "restarts")?;
+    push_figure(text, "", alarms, "incident", "incidents")?;
+    push_death_figure(text, deaths)?;
+    push_back_figure(text, back)?;
     Ok(())
 }
 
 /// How many members have a false death: somebody declared them dead while they were up.
 fn members_out(alloc: Global, run: &Run) -> Result<u64, Memory>
     requires { IsTold run.now }
-    ensures { IfOk result (λ out. out ≡ count_out (member_count run.now.scenario.now) run.now.tallies.now) }
+    ensures { IfOk result (λ out. out ≡ count_out run.now.scenario.now run.now.tallies.now) }
 {
-    let claims = run.tallies.false_positives(What::Confirm);
-    let wrongly = claims_by_member(alloc, claims, run.members())?;
+    let wrongly = times_out(alloc, run)?;
     Ok(count_some(wrongly.as_slice()))
 }
 
@@ -55,7 +215,15 @@ fn push_all(text: &mut String, run: &Run, out: u64) -> Result<(), AllocError>
     text.push_str("<p class=\"lead\">")?;
     push_size(text, run)?;
     let claims = run.tallies.false_positives(What::Confirm);
-    push_crashes(text, run.tick, run.tallies.crashes(), claims)?;
+    let crashes = run.tallies.crashes();
+    push_crashes(
+        text,
+        run.tick,
+        "1 member crashed",
+        " members crashed",
+        crashes,
+        claims,
+    )?;
     push_out(text, out)?;
     text.push_str("</p><ul class=\"figures\">")?;
     push_figures(text, run.scenario.version(), run.tallies, out)?;
@@ -84,22 +252,24 @@ fn push_with(text: &mut String, number: u64, one: &str, several: &str) -> Result
     text.push_str(by_number(number, one, several))
 }
 
-/// Appends how many crashed, and how soon they were detected, where these are the false claims that
-/// members are dead.
+/// Appends how many crashed, by these words, and how soon they were detected, where these are the
+/// false claims that members are dead.
 #[tactic(auto, unfolding(crate::specs::Summary::crash_words))]
 fn push_crashes(
     text: &mut String,
     time: Option<Tick>,
+    one: &str,
+    several: &str,
     crashes: &[DepartureReport],
     claims: &[FalsePositive],
 ) -> Result<(), AllocError>
-    ensures { OnOk result (string_bytes text.new ≡ string_bytes text.old ++ crash_words time crashes.now claims.now) }
+    ensures { OnOk result (string_bytes text.new ≡ string_bytes text.old ++ crash_words time one.now several.now crashes.now claims.now) }
 {
     if crashes.is_empty() {
         return text.push_str("Nobody crashed. ");
     }
     let count = crashes.len();
-    push_crashed(text, count)?;
+    push_crashed(text, one, several, count)?;
     push_found(
         text,
         count,
@@ -116,14 +286,21 @@ fn push_crashes(
 
 /// Appends how many crashed.
 #[tactic(auto, unfolding(crate::specs::Summary::crashed_words))]
-fn push_crashed(text: &mut String, count: usize) -> Result<(), AllocError>
-    ensures { OnOk result (string_bytes text.new ≡ string_bytes text.old ++ crashed_words count) }
+fn push_crashed(text: &mut String, one: &str, several: &str, count: usize) -> Result<(), AllocError>
+    ensures { OnOk result (string_bytes text.new ≡ string_bytes text.old ++ crashed_words one.now several.now count) }
 {
     if count == 1 {
-        text.push_str("1 member crashed")
-    } else {
-        write!(text, "{count} members crashed")
+        return text.push_str(one);
     }
+    push_several(text, several, count)
+}
+
+/// Appends a number, and what stands behind it.
+fn push_several(text: &mut String, several: &str, count: usize) -> Result<(), AllocError>
+    ensures { OnOk result (string_bytes text.new ≡ string_bytes text.old ++ (decimal count ++ several.now)) }
+{
+    write!(text, "{count}")?;
+    text.push_str(several)
 }
 
 /// How many of these crashes were detected: somebody declared the member dead.
@@ -146,21 +323,28 @@ fn count_known(crashes: &[DepartureReport], claims: &[FalsePositive]) -> usize
         .count()
 }
 
-/// Whether a crash wasn't detected, but a false claim was made of its member.
+/// Whether a crash wasn't detected, but a false claim had been made of its member by then.
 fn is_known(claims: &[FalsePositive], crash: &DepartureReport) -> bool
     ensures { result ≡ is_known claims.now crash.now }
 {
     if crash.detection.confirm.is_some() {
         return false;
     }
-    is_claimed(claims, crash.member)
+    is_claimed(claims, crash)
 }
 
-/// Whether one of these claims is about a member.
-fn is_claimed(claims: &[FalsePositive], member: MemberId) -> bool
-    ensures { result ≡ list_any (is_claim_about member) claims.now }
+/// Whether one of these claims is about a crash's member, and was made by then.
+fn is_claimed(claims: &[FalsePositive], crash: &DepartureReport) -> bool
+    ensures { result ≡ list_any (is_earlier crash.now) claims.now }
 {
-    claims.iter().any(|claim| is_about(claim, member))
+    claims.iter().any(|claim| is_earlier(crash, claim))
+}
+
+/// Whether a claim is about a crash's member, and was made by then.
+fn is_earlier(crash: &DepartureReport, claim: &FalsePositive) -> bool
+    ensures { result ≡ is_earlier crash.now claim.now }
+{
+    is_about(claim, crash.member) && claim.at <= crash.at
 }
 
 /// Whether a claim is about a member.
@@ -412,9 +596,20 @@ fn push_death_figure(text: &mut String, deaths: u64) -> Result<(), AllocError>
 fn push_last_of(text: &mut String, tallies: &Tallies) -> Result<(), AllocError>
     ensures { OnOk result (string_bytes text.new ≡ string_bytes text.old ++ last_figures_of tallies.now) }
 {
-    push_last(
+    push_others(
         text,
         false_positive_count(tallies, What::Suspect) as u64,
+        tallies,
+    )
+}
+
+/// Appends the same, where there are so many false suspicions.
+fn push_others(text: &mut String, suspicions: u64, tallies: &Tallies) -> Result<(), AllocError>
+    ensures { OnOk result (string_bytes text.new ≡ string_bytes text.old ++ other_figures suspicions tallies.now) }
+{
+    push_last(
+        text,
+        suspicions,
         tallies.rows_of(What::Refute),
         tallies.rows_of(What::Fail),
         tallies.worst_health(),
@@ -442,7 +637,7 @@ fn push_last(
     Ok(())
 }
 
-/// Appends the figures of the rows that only the members of a harness write.
+/// Appends the figures of the rows that before version 4 only the members of a harness write.
 fn push_harness_of(text: &mut String, tallies: &Tallies) -> Result<(), AllocError>
     ensures { OnOk result (string_bytes text.new ≡ string_bytes text.old ++ harness_figures_of tallies.now) }
 {
@@ -508,14 +703,22 @@ fn push_back(text: &mut String, version: Version, tallies: &Tallies) -> Result<(
 {
     match version {
         Version::One | Version::Two => Ok(()),
-        Version::Three | Version::Four => push_figure(
-            text,
-            "",
-            tallies.revivals(),
-            "time declared alive again",
-            "times declared alive again",
-        ),
+        Version::Three | Version::Four => push_back_figure(text, tallies.revivals()),
     }
+}
+
+/// Appends how often members declared others alive again.
+fn push_back_figure(text: &mut String, back: u64) -> Result<(), AllocError>
+    ensures { OnOk result (string_bytes text.new ≡ string_bytes text.old
+        ++ figure (codes "") back (codes "time declared alive again") (codes "times declared alive again")) }
+{
+    push_figure(
+        text,
+        "",
+        back,
+        "time declared alive again",
+        "times declared alive again",
+    )
 }
 
 /// Appends one figure, with its words for one and for several.

@@ -6,3 +6,6 @@ pub mod Turns
 pub mod Apart
 pub mod Napping
 pub mod Noting
+mod Events
+mod Happening
+mod Dealing

@@ -18,7 +18,7 @@ some_so P Q None known so = tt
 some_so P Q (Some x) known so = so x known
 
 -- no version allows more members
-pub most_of_all : (v : Version) → most_members v ≤ 4096
+pub most_of_all : (v : Version) → most_members v ≤ 16384
 most_of_all One = omega arith
 most_of_all Two = omega arith
 most_of_all Three = omega arith

@@ -1,12 +1,16 @@
 -- There are as many names as members, and a place in the set of names has the member's name.
-use Rattle.std.proofs.Common.{◌≡◌, ℕ, List, [], ◌∷◌, ◌++◌, ◌+◌, zero-add, append_assoc, codes, map, length, Some, sym, ap, ◌∙◌, String, Global, string_bytes}
-use Rattle.std.specs.List.{slice_get, sum_by}
+use Rattle.std.proofs.Common.{◌≡◌, ◌≤◌, ℕ, List, [], ◌∷◌, ◌++◌, ◌+◌, Bool, true, false, ◌&&◌, nat_le, zero-add, append_assoc, codes, map, length, Some, refl, sym, ap, ◌∙◌, arith, String, Global, string_bytes}
+use Rattle.std.specs.List.{slice_get, sum_by, list_all}
+use Rattle.std.proofs.lemmas.Bool.{false≢true, leb-true}
 use Rattle.std.specs.Fmt.{decimal}
 use Rattle.std.specs.Option.{unwrap_or, option_map}
 use Rattle.std.proofs.lemmas.List.{length-map, map-append}
 use Rattle.std.proofs.lemmas.List.Concat.{length-flat_map}
 use Rattle.std.proofs.lemmas.List.FromFn.{length-map-range_with_len, map-range_with_len_more}
 use Rattle.std.proofs.lemmas.Option.{slice_get-map}
+use Rattle.schema.specs.declared.schema.Version.{Version}
+use Rattle.schema.specs.declared.schema.Version.TheVariants.{One, Two, Three, Four}
+use Rattle.scenario.specs.GroupNames.{is_name_byte, starts_with_letter, is_group_name, is_name_of}
 use Rattle.scenario.specs.Setup.{Setup, Group, names_in, names_below, member_names, member_count, name_of}
 
 pub length-member_names : (s : Setup) → length (member_names s) ≡ member_count s
@@ -35,3 +39,22 @@ names-more keys more key front name n grown spelt named =
     ap (map string_bytes) grown ∙ map-append string_bytes keys (key ∷ []) ∙ ap (λ k. map string_bytes keys ++ k ∷ []) spelt
     ∙ ap (λ names. names ++ (name ++ codes "-" ++ decimal n) ∷ []) named ∙ append_assoc front (names_below name n) ((name ++ codes "-" ++ decimal n) ∷ [])
     ∙ ap (λ names. front ++ names) (sym (names_below-more name n))
+
+-- ---- the form of names
+
+both : (a b : Bool) → (a && b) ≡ true → (a ≡ true) × (b ≡ true)
+both true b e = (refl, e)
+both false b e = absurd (false≢true e)
+
+old_short : (name : List ℕ) → is_group_name name ≡ true → length name ≤ 32
+old_short name h =
+    let length_and_letter = both (nat_le (length name) 16 && starts_with_letter name) (list_all is_name_byte name) h in
+    let few = leb-true (length name) 16 (both (nat_le (length name) 16) (starts_with_letter name) length_and_letter.0).0 in
+    omega (arith, few)
+
+-- a name has 32 bytes at most, whatever the version
+pub short_name : (v : Version) (name : List ℕ) → is_name_of v name ≡ true → length name ≤ 32
+short_name One name h = old_short name h
+short_name Two name h = old_short name h
+short_name Three name h = old_short name h
+short_name Four name h = leb-true (length name) 32 (both (nat_le (length name) 32) _ h).0

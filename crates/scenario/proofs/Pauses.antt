@@ -4,7 +4,7 @@ use Rattle.std.specs.List.{find, list_any, range_with_len, AllByRecursion}
 use Rattle.std.specs.Option.{unwrap_or}
 use Rattle.std.proofs.lemmas.Bool.{false≢true, not-true, not_from_true, not_from_false, and_parts, leb-true, ltb-true, ltb-false}
 use Rattle.std.proofs.lemmas.List.Sums.{sum_by-cons}
-use Rattle.scenario.specs.Setup.{Setup, is_in_pause, is_paused, ends_of, awake, IsBeforeThird, IsSound}
+use Rattle.scenario.specs.Setup.{Setup, is_in_pause, is_paused, ends_of, awake, free, IsBeforeThird, IsSound}
 use Rattle.scenario.specs.declared.settings.Pause.{Pause}
 use Rattle.scenario.specs.declared.spells.Spell.{Spell}
 use Rattle.scenario.specs.Spells.{is_in_any}
@@ -144,18 +144,22 @@ some_moment s m t =
 pub is_awake_at : (s : Setup) (m t : ℕ) → IsAwakeAt s m t (awake s m t)
 is_awake_at s m t = let at = some_moment s m t in subst (IsAwakeAt s m t) (sym (awake_is s m t at.0 at.1)) at.1
 
+-- the pauses last, up to the latest moment of a text
+abbrev pub ArePauses : List Pause → Type 0
+ArePauses ps = AllByRecursion (λ (p : Pause). (p.from < p.until) × (p.until ≤ 2 ^ 40)) ps
+
 -- what is put off is put off to the end of a pause at most
-pub awake_small : (s : Setup) → IsSound s → (m t u : ℕ) → IsAwakeAt s m t u → t < u → u ≤ 2 ^ 40
-awake_small s sound m t u at put_off =
+pub awake_small : (s : Setup) → ArePauses s.pauses → (m t u : ℕ) → IsAwakeAt s m t u → t < u → u ≤ 2 ^ 40
+awake_small s pauses m t u at put_off =
     let last = at.before (u - 1) (omega (arith, put_off)) (omega (arith, put_off)) in
-    let small = before_limit m (u - 1) (2 ^ 40) s.pauses sound.pauses last in
+    let small = before_limit m (u - 1) (2 ^ 40) s.pauses pauses last in
     omega (arith, small, put_off)
 
-pub small_by : (s : Setup) → IsSound s → (m t u : ℕ) → IsAwakeAt s m t u → t ≤ 2 ^ 40 → u ≤ 2 ^ 40
-small_by s sound m t u at small = by_order (nat_lt t u) refl
+pub small_by : (s : Setup) → ArePauses s.pauses → (m t u : ℕ) → IsAwakeAt s m t u → t ≤ 2 ^ 40 → u ≤ 2 ^ 40
+small_by s pauses m t u at small = by_order (nat_lt t u) refl
   where
     by_order : (b : Bool) → nat_lt t u ≡ b → u ≤ 2 ^ 40
-    by_order true after = awake_small s sound m t u at (ltb-true t u after)
+    by_order true after = awake_small s pauses m t u at (ltb-true t u after)
     by_order false not_after = omega (arith, ltb-false t u not_after, small)
 
 -- who never pauses handles all at its moment
@@ -186,3 +190,12 @@ awake_least s m t = let at = is_awake_at s m t in (at.later, at.free, λ u from 
 -- before version 3 nobody pauses
 pub always_awake : (s : Setup) (m t : ℕ) → IsSound s → IsBeforeThird s.version → awake s m t ≡ t
 always_awake s m t sound old = awake_at_once s m t (sound.before_third old).pauses
+
+-- ---- blocks are to `free` what pauses are to `awake`
+
+abbrev pub with_blocks : Setup → Setup
+with_blocks s = record s { pauses = s.blocks }
+
+pub free_is : (s : Setup) (m t : ℕ) → awake (with_blocks s) m t ≡ free s m t
+unfolding awake free
+free_is s m t = refl

@@ -1,4 +1,7 @@
 pub mod GroupNames
+pub mod Script
+pub mod Scripts
+pub mod ScriptOf
 pub mod Setup
 pub mod Profile
 pub mod SetupOf

@@ -59,8 +59,8 @@ impl Calendar {
         })
     }
 
-    /// Notes a time of an owner's.
-    pub fn note(&mut self, owner: usize, from: u64, until: u64)
+    /// Marks a time of an owner's.
+    pub fn mark(&mut self, owner: usize, from: u64, until: u64)
         ensures noted { (t : ℕ) → from ≤ t → t < until → may_be_in self.new owner t ≡ true }
         ensures kept { (o t : ℕ) → may_be_in self.old o t ≡ true → may_be_in self.new o t ≡ true }
     {
@@ -78,7 +78,7 @@ impl Calendar {
             return;
         }
         self.left -= end - first;
-        note_in(&mut self.owners, first, last + 1, owner);
+        mark_in(&mut self.owners, first, last + 1, owner);
     }
 
     /// Whether an owner may have a time at a moment. Where it has, the answer is true.
@@ -131,8 +131,8 @@ fn no_owners(alloc: Global, last: usize) -> Result<Vec<u64>, Memory>
     Ok(owners)
 }
 
-/// Notes an owner in the stretches from the first to before the last, as far as there are such.
-fn note_in(owners: &mut Vec<u64>, first: usize, last: usize, owner: usize)
+/// Marks an owner in the stretches from the first to before the last, as far as there are such.
+fn mark_in(owners: &mut Vec<u64>, first: usize, last: usize, owner: usize)
     ensures same { length owners.new.items ≡ length owners.old.items }
     ensures noted { (k : ℕ) → first ≤ k → k < last → k < length owners.old.items → HasNoted owners.new.items k owner }
     ensures kept { (k o : ℕ) → HasNoted owners.old.items k o → HasNoted owners.new.items k o }

@@ -7,6 +7,7 @@ pub mod laws;
 mod naps;
 mod profile;
 mod scenario;
+mod script;
 mod settings;
 mod spells;
 
@@ -14,8 +15,9 @@ pub use calendar::Calendar;
 pub use division::{Division, DivisionFault, Workers};
 pub use scenario::{Contents, Scenario};
 pub use schema::Version;
+pub use script::{ScriptEvent, ScriptKind};
 pub use settings::{
-    Crash, Cut, Gossip, Group, Leave, Lifeguard, Link, Path, Pause, Slow, StreamTimes, Suspicion,
-    Swim,
+    Crash, Cut, DialTimes, Gossip, Group, Leave, Lifeguard, Link, Path, Pause, Queue, Restart,
+    Serf, Slow, StreamTimes, Suspicion, Swim,
 };
 pub use spells::{Spell, Spells};

@@ -83,7 +83,7 @@ pub(crate) fn calendar_of(alloc: Global, end: Moment, pauses: &[Pause]) -> Resul
 {
     let mut calendar = Calendar::new(alloc, end, pauses.len())?;
     for pause in pauses {
-        calendar.note(
+        calendar.mark(
             pause.member.index(),
             pause.from.ticks(),
             pause.until.ticks(),

@@ -2,6 +2,7 @@
 //! memberlist in version 3, and all of memberlist 0.5.0's in version 4.
 ghost use Rattle.std.specs.Prelude.{◌≡◌};
 ghost use Rattle.scenario.specs.Profile.{profile_of};
+ghost use Rattle.scenario.specs.Setup.{is_fourth};
 
 use crate::scenario::Scenario;
 use base::Profile;
@@ -16,6 +17,16 @@ impl Scenario {
             Version::One | Version::Two => Profile::Papers,
             Version::Three => Profile::Memberlist,
             Version::Four => Profile::Hashicorp,
+        }
+    }
+
+    /// Whether the text is of version 4: then slow times of a member may overlap, and it may go several times.
+    pub fn is_fourth(&self) -> bool
+        ensures { result ≡ is_fourth self.now.version }
+    {
+        match self.version() {
+            Version::One | Version::Two | Version::Three => false,
+            Version::Four => true,
         }
     }
 }

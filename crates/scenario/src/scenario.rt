@@ -1,18 +1,22 @@
-//! A scenario that keeps the format's rules, and what a run asks it about members, links, cuts, slow times and pauses.
+//! A scenario that keeps the format's rules, and what a run asks it about members, links, cuts, slow times, pauses and
+//! blocks.
 ghost use Rattle.std.specs.Prelude.{◌≡◌, ◌<◌, ◌≤◌, ◌^◌, ℕ, true, false};
-ghost use Rattle.std.specs.Prelude.{string_bytes, map, filter, find, nat_eq, slice_get, option_map, option_and_then, option_copied, IfOk, IfSome, IfNone};
+ghost use Rattle.std.specs.Prelude.{string_bytes, map, filter, find, nat_eq, slice_get, option_map, option_and_then, option_copied, All, IfOk, IfSome, IfNone};
 ghost use Rattle.std.specs.List.{list_any, range_with_len};
 ghost use Rattle.std.specs.Option.{option_map_or};
 ghost use Rattle.scenario.specs.SetupOf.{group_of, setup_in};
 ghost use Rattle.scenario.specs.Spells.{is_in_any, IsEndFrom};
 ghost use Rattle.scenario.specs.Naps.{naps_at, AreNoted};
-ghost use Rattle.scenario.specs.Setup.{member_count, member_names, name_of, group_at, leads, last_link, link_between, start_of, contact_of, crash_of, leave_of, is_slow, extra_of, cuts_off, is_cut, awake, IsSound, IsSoundLink};
+ghost use Rattle.scenario.specs.Scripts.{script_at};
+ghost use Rattle.scenario.specs.declared.script.ScriptEvent.{ScriptEvent as AnEvent};
+ghost use Rattle.scenario.specs.Setup.{member_count, member_names, name_of, group_at, leads, last_link, link_between, start_of, contact_of, crash_of, leave_of, is_slow, first_extra, more_extra, greatest_extra, extra_by, extra_of, cuts_off, is_cut, awake, free, script_of, IsSound, IsSoundEvent, IsSoundLink};
 
 use crate::calendar::Calendar;
 use crate::naps::{calendar_of, naps_of};
+use crate::script::{Script, ScriptEvent, scripts_of};
 use crate::settings::{
-    Crash, Cut, Gossip, Group, Leave, Lifeguard, Link, Path, Pause, Slow, StreamTimes, Suspicion,
-    Swim,
+    Crash, Cut, DialTimes, Gossip, Group, Leave, Lifeguard, Link, Path, Pause, Queue, Restart,
+    Serf, Slow, StreamTimes, Suspicion, Swim,
 };
 use crate::spells::Spells;
 use base::{MemberId, Memory, Moment};
@@ -46,6 +50,15 @@ pub struct Contents {
     /// How streams send again what was lost.
     pub stream: StreamTimes,
     pub pauses: Vec<Pause>,
+    pub restarts: Vec<Restart>,
+    /// When members are blocked.
+    pub blocks: Vec<Pause>,
+    /// How packets are filled from memberlist's queue, where they are.
+    pub queue: Option<Queue>,
+    /// How long members wait for connections.
+    pub dial: DialTimes,
+    /// How members leave and reconnect as Serf's do, where they do.
+    pub serf: Option<Serf>,
     /// The names of all members, at their numbers.
     pub names: Vec<String>,
 }
@@ -60,6 +73,10 @@ pub struct Scenario {
     naps: Vec<Spells>,
     /// At which moments a member may be paused.
     calendar: Calendar,
+    /// When each member is blocked, in the same way.
+    stops: Vec<Spells>,
+    /// What happens to each member, in the same way.
+    scripts: Vec<Script>,
 }
 
 impl Model for Scenario {
@@ -86,11 +103,20 @@ impl Scenario {
         let numbers = numbers_of(alloc, contents.groups.as_slice(), members)?;
         let naps = naps_of(alloc, contents.pauses.as_slice())?;
         let calendar = calendar_of(alloc, contents.end, contents.pauses.as_slice())?;
+        let stops = naps_of(alloc, contents.blocks.as_slice())?;
+        let scripts = scripts_of(
+            alloc,
+            contents.crashes.as_slice(),
+            contents.leaves.as_slice(),
+            contents.restarts.as_slice(),
+        )?;
         Ok(Scenario {
             contents,
             numbers,
             naps,
             calendar,
+            stops,
+            scripts,
         })
     }
 
@@ -102,10 +128,10 @@ impl Scenario {
         self.contents.version
     }
 
-    /// How many members there are: 1 to 1,024 in version 1, and to 4,096 from version 2 on.
+    /// How many members there are: 1 to 1,024 in version 1, to 4,096 in versions 2 and 3, and to 16,384 in version 4.
     pub fn members(&self) -> usize
         ensures count { result ≡ member_count self.now }
-        ensures at_most_4096 { result ≤ 4096 }
+        ensures at_most_16384 { result ≤ 16384 }
         ensures sound { IsSound self.now }
     {
         self.contents.names.len()
@@ -200,7 +226,7 @@ impl Scenario {
         contact_at(self.contents.groups.as_slice(), self.number(member.index()))
     }
 
-    /// When the member crashes, in ticks, if it does.
+    /// When the member first crashes by the text, in ticks, if it does.
     pub fn crash(&self, member: MemberId) -> Option<Moment>
         requires { member < member_count self.now }
         ensures value { result ≡ crash_of self.now member }
@@ -210,7 +236,7 @@ impl Scenario {
         crash_of(self.contents.crashes.as_slice(), member.index())
     }
 
-    /// When the member leaves, in ticks, if it does. Nobody crashes and leaves.
+    /// When the member first leaves by the text, in ticks, if it does. Before version 4 nobody crashes and leaves.
     pub fn leave(&self, member: MemberId) -> Option<Moment>
         requires { member < member_count self.now }
         ensures value { result ≡ leave_of self.now member }
@@ -226,7 +252,7 @@ impl Scenario {
         ensures value { result ≡ extra_of self.now member at }
         ensures small { result ≤ 2 ^ 24 }
     {
-        extra_at(self.contents.slows.as_slice(), member.index(), at.ticks())
+        extra_by(self.version(), self.slows(), member.index(), at.ticks())
     }
 
     /// Whether what the one member sends to the other at the moment is lost, since the link from its
@@ -301,6 +327,70 @@ impl Scenario {
         ensures sound { IsSound self.now }
     {
         self.contents.pauses.as_slice()
+    }
+
+    /// The restarts, in the order of the text; none before version 4.
+    pub fn restarts(&self) -> &[Restart]
+        ensures value { result.now ≡ self.now.restarts }
+        ensures sound { IsSound self.now }
+    {
+        self.contents.restarts.as_slice()
+    }
+
+    /// When members are blocked, in the order of the text; never before version 4.
+    pub fn blocks(&self) -> &[Pause]
+        ensures value { result.now ≡ self.now.blocks }
+        ensures sound { IsSound self.now }
+    {
+        self.contents.blocks.as_slice()
+    }
+
+    /// What happens to the member: its crashes, leaves and restarts in the order of their moments. Those of one moment
+    /// stand in this order, and those of one list in the text's. The first is event 1 of the member, its start is 0.
+    pub fn script(&self, member: MemberId) -> &[ScriptEvent]
+        requires { member < member_count self.now }
+        ensures value { result.now ≡ script_of self.now member }
+        ensures events { All (λ (event : AnEvent). (event.member ≡ member) × IsSoundEvent self.now event) result.now }
+        ensures sound { IsSound self.now }
+    {
+        script_for(self.scripts.as_slice(), member.index())
+    }
+
+    /// How packets are filled from memberlist's queue; none where they aren't, as before version 4.
+    pub fn queue(&self) -> Option<Queue>
+        ensures value { result ≡ self.now.queue }
+        ensures sound { IsSound self.now }
+    {
+        self.contents.queue
+    }
+
+    /// How long members wait for connections.
+    pub fn dial(&self) -> DialTimes
+        ensures value { result ≡ self.now.dial }
+        ensures sound { IsSound self.now }
+    {
+        self.contents.dial
+    }
+
+    /// How members leave and reconnect as Serf's do; none where they don't, as before version 4.
+    pub fn serf(&self) -> Option<Serf>
+        ensures value { result ≡ self.now.serf }
+        ensures sound { IsSound self.now }
+    {
+        self.contents.serf
+    }
+
+    /// When what the member sends at the moment departs, and when it gets what comes at the moment: the first one, from
+    /// that on, at which it isn't blocked. Where it is later, it is the end of a block.
+    pub fn free(&self, member: MemberId, moment: Moment) -> Moment
+        requires { member < member_count self.now }
+        ensures value { result ≡ free self.now member moment }
+        ensures later { moment ≤ result }
+        ensures small { moment ≤ 2 ^ 40 → result ≤ 2 ^ 40 }
+        ensures put_off { moment < result → result ≤ 2 ^ 40 }
+        ensures sound { IsSound self.now }
+    {
+        Moment(free_at(self.stops.as_slice(), member.index(), moment.ticks()))
     }
 
     /// How members gossip between their probes; none where they don't, as in versions 1 and 2.
@@ -411,9 +501,42 @@ fn leave_of(leaves: &[Leave], member: usize) -> Option<Moment>
         .map(|leave| leave.at)
 }
 
-/// By how many ticks the member is slow at the moment.
+/// By how many ticks the member is slow at the moment: in version 4 by the greatest extra that an entry says, before by the
+/// only one.
+fn extra_by(version: Version, slows: &[Slow], member: usize, at: u64) -> u64
+    ensures { result ≡ extra_by version slows.now member at }
+{
+    match version {
+        Version::One | Version::Two | Version::Three => extra_at(slows, member, at),
+        Version::Four => greatest_extra(slows, member, at),
+    }
+}
+
+/// The greatest extra that an entry says of the member at the moment.
+fn greatest_extra(slows: &[Slow], member: usize, at: u64) -> u64
+    ensures { result ≡ greatest_extra slows.now member at }
+{
+    let mut greatest = 0;
+    for slow in slows {
+        greatest = more_extra(slow, greatest, member, at);
+    }
+    greatest
+}
+
+/// The greater of the two: so many ticks, and what the entry says of the member at the moment, if it does.
+fn more_extra(slow: &Slow, extra: u64, member: usize, at: u64) -> u64
+    ensures { result ≡ more_extra member at slow.now extra }
+{
+    if is_slow(slow, member, at) {
+        slow.extra.max(extra)
+    } else {
+        extra
+    }
+}
+
+/// By how many ticks the first entry that says so makes the member slow at the moment.
 fn extra_at(slows: &[Slow], member: usize, at: u64) -> u64
-    ensures { result ≡ option_map_or (λ e. e.extra) (find (is_slow member at) slows.now) 0 }
+    ensures { result ≡ first_extra slows.now member at }
 {
     match slow_at(slows, member, at) {
         Some(slow) => slow.extra,
@@ -473,6 +596,37 @@ fn end_of_nap(calendar: &Calendar, naps: &[Spells], member: usize, moment: u64) 
         return None;
     }
     naps.end_from(moment)
+}
+
+/// The first moment, from the given one on, at which the member isn't blocked.
+fn free_at(stops: &[Spells], member: usize, at: u64) -> u64
+    ensures later { at ≤ result }
+    ensures before { (t : ℕ) → at ≤ t → t < result → is_in_any (naps_at stops.now member) t ≡ true }
+    ensures there { is_in_any (naps_at stops.now member) result ≡ false }
+{
+    match end_of_stop(stops, member, at) {
+        Some(end) => end,
+        None => at,
+    }
+}
+
+/// The end of the time at the moment in which the member is blocked.
+fn end_of_stop(stops: &[Spells], member: usize, at: u64) -> Option<u64>
+    ensures end { IfSome result (IsEndFrom (naps_at stops.now member) at) }
+    ensures none { IfNone result (is_in_any (naps_at stops.now member) at ≡ false) }
+{
+    let stops = stops.get(member)?;
+    stops.end_from(at)
+}
+
+/// What happens to the member.
+fn script_for(scripts: &[Script], member: usize) -> &[ScriptEvent]
+    ensures { result.now ≡ script_at scripts.now member }
+{
+    match scripts.get(member) {
+        Some(script) => script.events(),
+        None => &[],
+    }
 }
 
 /// The link of the last path from one group to another, else the link that is given.

@@ -1,5 +1,5 @@
 //! The values of a scenario's tables: settings of SWIM, Lifeguard's switches, memberlist's gossip and streams, links,
-//! groups, and what happens to members and links.
+//! groups, and what happens to members and links; and, since version 4, memberlist's queue, dials and Serf's leaves.
 use base::{MemberId, Moment};
 
 /// How members probe and gossip. Times are in ticks.
@@ -91,6 +91,35 @@ pub struct StreamTimes {
     pub again: u64,
 }
 
+/// How a packet is filled from memberlist's queue of broadcasts (version 4).
+#[derive(Clone, Copy, Debug, PartialEq, Eq)]
+pub struct Queue {
+    /// The bytes of a packet; 0: `carry` says how many updates a message has.
+    pub packet: u64,
+    /// The bytes of a member's tags.
+    pub meta: u64,
+}
+
+/// How long a member waits for a connection (version 4). Times are in ticks.
+#[derive(Clone, Copy, Debug, PartialEq, Eq)]
+pub struct DialTimes {
+    /// How long a dial may take.
+    pub limit: u64,
+    /// How long a member that joins waits before it asks its contact again.
+    pub retry: u64,
+}
+
+/// How members leave and reconnect, as Serf's do (version 4). Times are in ticks.
+#[derive(Clone, Copy, Debug, PartialEq, Eq)]
+pub struct Serf {
+    /// How long a member waits between two tries to reach one that failed.
+    pub reconnect: u64,
+    /// How long it tries.
+    pub reap: u64,
+    /// How long one that leaves lingers.
+    pub linger: u64,
+}
+
 /// Members of one name, distinguished by an index.
 #[derive(Debug, Drop)]
 pub struct Group {
@@ -129,6 +158,15 @@ pub struct Leave {
     pub at: Moment,
 }
 
+/// The restart of a member: its process starts again, as one that knows nobody (version 4).
+#[derive(Clone, Copy, Debug, PartialEq, Eq)]
+pub struct Restart {
+    pub member: MemberId,
+    pub at: Moment,
+    /// Whom it asks to let it join, if anybody.
+    pub contact: Option<MemberId>,
+}
+
 /// A time in which all that the members of one group send to those of another, or of the same, is lost.
 #[derive(Clone, Copy, Debug, PartialEq, Eq)]
 pub struct Cut {
@@ -142,11 +180,12 @@ pub struct Cut {
     pub until: Moment,
 }
 
-/// A time in which a member's process is paused: it handles no message and no timer (version 3).
+/// A time in which a member's process is paused: it handles no message and no timer (version 3). Or one in which it is
+/// blocked: its timers run, but what it sends and receives stands still (version 4).
 #[derive(Clone, Copy, Debug, PartialEq, Eq)]
 pub struct Pause {
     pub member: MemberId,
-    /// The first moment at which the member is paused.
+    /// The first moment at which the member is paused or blocked.
     pub from: Moment,
     /// The first moment at which it no longer is.
     pub until: Moment,

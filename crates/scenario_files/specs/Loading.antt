@@ -5,15 +5,16 @@ use Rattle.hex.specs.Hex.{encode_lower}
 use Rattle.sha2.specs.Sha256.{sha256}
 use Rattle.clap.specs.Words.{Text}
 use Rattle.scenario.specs.Setup.{Setup}
-use Rattle.scenario_reader.specs.Rules.{tree_of, verdict}
+use Rattle.scenario_reader.specs.Rules.{tree_of}
+use Rattle.text_reader.specs.Answers.{Answers}
 use Rattle.files.specs.Files.{KnownFile, Holds}
 use Rattle.command_line.specs.declared.failure.Failure.{Failure}
 use Rattle.command_line.specs.declared.failure.Failure.TheVariants.{Rule}
 use Rattle.scenario_files.specs.Shelves.{IsUnread}
 
--- a scenario's text that the file holds has this verdict
+-- a scenario's text that the file holds is answered so
 abbrev pub HasVerdict : KnownFile → Result Setup ℕ → Type 0
-HasVerdict known answer = (bytes : List ℕ) × Holds known bytes × (verdict bytes ≡ answer)
+HasVerdict known answer = (bytes : List ℕ) × Holds known bytes × Answers bytes answer
 
 -- no scenario was read from the file of this name: it can't be read, its text breaks a rule, or memory was refused
 abbrev pub LoadFails : KnownFile → Text → Failure → Type 0

@@ -1,5 +1,6 @@
 -- How what ended a command is reported.
-use Rattle.std.specs.Prelude.{ℕ, ◌==◌, Result, Ok, Err, if◌then◌else◌}
+use Rattle.std.specs.Prelude.{ℕ, ◌==◌, List, Result, Ok, Err, if◌then◌else◌}
+use Rattle.text_reader.specs.Answers.{Answers}
 use Rattle.base.specs.declared.fault.Fault.{Fault}
 use Rattle.command_line.specs.declared.failure.Failure.{Failure}
 use Rattle.command_line.specs.declared.failure.Failure.TheVariants.{Rule, Run, Memory}
@@ -12,3 +13,9 @@ text_failure rule = if rule == 11 then Memory else Rule rule
 abbrev pub run_result : {T : Type 0} → Result T Fault → Result T Failure
 run_result (Ok summary) = Ok summary
 run_result (Err cause) = Err (Run cause)
+
+-- what a scenario's text may be refused by: a rule, by which it is answered, or want of memory
+abbrev pub RefusesText : List ℕ → Failure → Type 0
+RefusesText bytes (Rule rule) = Answers bytes (Err rule)
+RefusesText bytes Memory = Unit {0}
+RefusesText bytes _ = ⊥

@@ -1,25 +1,25 @@
 //! What the text of a scenario says, and how a fault of what is read by it is reported.
 ghost use Rattle.std.specs.Prelude.{◌≡◌, Ok, IfOk, IfErr};
-ghost use Rattle.scenario_reader.specs.Rules.{verdict};
-ghost use Rattle.command_line.specs.Failures.{RefusesText};
-ghost use Rattle.scenario_files.specs.Told.{run_result, text_failure};
+ghost use Rattle.text_reader.specs.Answers.{Answers};
+ghost use Rattle.scenario_files.specs.Told.{run_result, text_failure, RefusesText};
 
 use base::Fault;
 use command_line::Failure;
 use scenario::Scenario;
 use std::alloc::Global;
+use text_reader::read_text;
 
 /// The number of the rule that stands for want of memory.
 const MEMORY_RULE: u8 = 11;
 
 /// The scenario of a text.
 ///
-/// Failures: `Rule`, the least rule that the text breaks; `Memory`.
+/// Failures: `Rule`, the lowest rule that the text breaks; `Memory`.
 pub fn check(alloc: Global, bytes: &[u8]) -> Result<Scenario, Failure<'static>>
-    ensures accepted { IfOk result (λ scenario. verdict bytes.now ≡ Ok scenario) }
+    ensures accepted { IfOk result (λ scenario. Answers bytes.now (Ok scenario)) }
     ensures refused { IfErr result (RefusesText bytes.now) }
 {
-    match scenario_reader::read(alloc, bytes) {
+    match read_text(alloc, bytes) {
         Ok(scenario) => Ok(scenario),
         Err(refusal) => Err(text_failure(refusal.rule)),
     }

@@ -1,12 +1,14 @@
 -- Each link of the chain of rules: a rule is the least broken where those before it are kept.
-use Rattle.std.proofs.Common.{◌≡◌, ℕ, List, Bool, true, false, nat_le, Some, None, Result, Ok, Err, IfOk, IfErr, IsErrAnd, option_map, refl, subst, sym, ap, ◌∙◌}
+use Rattle.std.proofs.Common.{◌≡◌, ℕ, List, Bool, true, false, if◌then◌else◌, nat_le, Some, None, Result, Ok, Err, IfOk, IfErr, IsErrAnd, option_map, refl, subst, sym, ap, ◌∙◌}
 use Rattle.std.specs.List.{list_any}
+use Rattle.std.proofs.lemmas.Bool.{true≢false}
 use Rattle.std.specs.Option.{option_or}
 use Rattle.std.specs.Str.{IsUtf8, is_utf8}
 use Rattle.std.proofs.lemmas.Str.{IsUtf8-from_is_utf8, is_utf8-from_IsUtf8}
 use Rattle.toml.specs.Data.{Data, table, Members}
 use Rattle.toml.specs.Parse.{parse_document}
 use Rattle.schema.specs.declared.schema.Version.{Version}
+use Rattle.schema.specs.declared.schema.Version.TheVariants.{One, Two, Three, Four}
 use Rattle.schema.specs.declared.schema.FormatKey.TheVariants as key
 use Rattle.schema.specs.Tree.{items_at}
 use Rattle.schema.specs.Shape.{least_broken_of_shape, KeepsShape}
@@ -14,19 +16,35 @@ use Rattle.schema.proofs.Chain.{nothing_of_shape}
 use Rattle.scenario.specs.declared.settings.Slow.{Slow}
 use Rattle.scenario.specs.declared.settings.Crash.{Crash}
 use Rattle.scenario.specs.declared.settings.Leave.{Leave}
-use Rattle.scenario.specs.Setup.{Setup, Group}
+use Rattle.scenario.specs.Setup.{Setup, Group, is_fourth}
 use Rattle.scenario_reader.specs.Reading.{version_of, added_items, pause_items, plain_groups, setup_of_tree}
-use Rattle.scenario_reader.specs.Rules.{any_two, is_same_member, overlaps, has_lost_contact, names_no_member, names_no_group, is_bad_contact, is_over, is_early, breaks_names, breaks_references, is_same_leaver, crashes_too, is_early_leave, is_cut_over, is_pause_over, breaks_pairs, breaks_times, breaks_added_references, breaks_departures, breaks_pauses, breaks_added_times, breaks_size, least_broken, least_broken_by, judged_if_read, unless_broken, document_verdict, tree_of, verdict, KeepsValues}
+use Rattle.scenario_reader.specs.Rules.{any_two, is_same_member, overlaps, has_lost_contact, names_no_member, names_no_group, is_bad_contact, is_over, is_early, breaks_names, breaks_references, is_same_leaver, crashes_too, is_early_leave, is_cut_over, is_pause_over, breaks_pairs, breaks_times, breaks_added_references, breaks_departures, breaks_pauses, breaks_added_times, breaks_size, is_early_restart, asks_itself, breaks_names_in, fourth_breaks_references, fourth_breaks_times, least_broken, least_broken_by, fourth_least_broken_by, least_broken_in, judged_if_read, unless_broken, document_verdict, tree_of, verdict, KeepsValues, KeepsFourth}
 
 -- where no rule on the tables is broken, the rules on the values decide
-pub values_least : (d : Data) → KeepsShape (version_of d) d → least_broken d ≡ least_broken_by d (setup_of_tree d)
+pub values_least : (d : Data) → KeepsShape (version_of d) d → least_broken d ≡ least_broken_in (version_of d) d (setup_of_tree d)
 unfolding least_broken
-values_least d k = ap (λ o. option_or o (least_broken_by d (setup_of_tree d))) (nothing_of_shape (version_of d) d k)
+values_least d k = ap (λ o. option_or o (least_broken_in (version_of d) d (setup_of_tree d))) (nothing_of_shape (version_of d) d k)
 
 -- a broken rule on the tables is the least
 pub shape_least : (d : Data) (rule : ℕ) → least_broken_of_shape (version_of d) d ≡ Some rule → least_broken d ≡ Some rule
 unfolding least_broken
-shape_least d rule broken = ap (λ o. option_or o (least_broken_by d (setup_of_tree d))) broken
+shape_least d rule broken = ap (λ o. option_or o (least_broken_in (version_of d) d (setup_of_tree d))) broken
+
+-- which rules on the values decide
+pub earlier_least : (v : Version) (d : Data) (s : Setup) → is_fourth v ≡ false → least_broken_in v d s ≡ least_broken_by d s
+earlier_least One d s earlier = refl
+earlier_least Two d s earlier = refl
+earlier_least Three d s earlier = refl
+earlier_least Four d s earlier = absurd (true≢false earlier)
+
+pub the_fourth : (v : Version) → is_fourth v ≡ true → v ≡ Four
+the_fourth One it = absurd (true≢false (sym it))
+the_fourth Two it = absurd (true≢false (sym it))
+the_fourth Three it = absurd (true≢false (sym it))
+the_fourth Four it = refl
+
+pub fourth_least : (v : Version) (d : Data) (s : Setup) → v ≡ Four → least_broken_in v d s ≡ fourth_least_broken_by d s
+fourth_least v d s version = ap (λ w. least_broken_in w d s) version
 
 module _ (d : Data) (s : Setup) where
   pub names_least : breaks_names (plain_groups d) ≡ true → least_broken_by d s ≡ Some 6
@@ -72,6 +90,47 @@ module _ (d : Data) (s : Setup) where
                 unfolding least_broken_by
                 size_least timely_too broken = rw (named, known, known_too, once, once_too, apart, timely, timely_too, broken)
 
+-- the same links in version 4
+module _ (d : Data) (s : Setup) where
+  pub fourth_names_least : breaks_names_in Four (plain_groups d) ≡ true → fourth_least_broken_by d s ≡ Some 6
+  unfolding fourth_least_broken_by
+  fourth_names_least broken = rw broken
+
+  module _ (named : breaks_names_in Four (plain_groups d) ≡ false) where
+    pub fourth_references_least : breaks_references d (plain_groups d) ≡ true → fourth_least_broken_by d s ≡ Some 7
+    unfolding fourth_least_broken_by
+    fourth_references_least broken = rw (named, broken)
+
+    module _ (known : breaks_references d (plain_groups d) ≡ false) where
+      pub fourth_added_references_least : breaks_added_references Four d (plain_groups d) ≡ true → fourth_least_broken_by d s ≡ Some 7
+      unfolding fourth_least_broken_by
+      fourth_added_references_least broken = rw (named, known, broken)
+
+      module _ (known_too : breaks_added_references Four d (plain_groups d) ≡ false) where
+        pub own_references_least : fourth_breaks_references d (plain_groups d) ≡ true → fourth_least_broken_by d s ≡ Some 7
+        unfolding fourth_least_broken_by
+        own_references_least broken = rw (named, known, known_too, broken)
+
+        module _ (all_known : fourth_breaks_references d (plain_groups d) ≡ false) where
+          pub fourth_times_least : breaks_times s ≡ true → fourth_least_broken_by d s ≡ Some 9
+          unfolding fourth_least_broken_by
+          fourth_times_least broken = rw (named, known, known_too, all_known, broken)
+
+          module _ (timely : breaks_times s ≡ false) where
+            pub fourth_added_times_least : breaks_added_times s ≡ true → fourth_least_broken_by d s ≡ Some 9
+            unfolding fourth_least_broken_by
+            fourth_added_times_least broken = rw (named, known, known_too, all_known, timely, broken)
+
+            module _ (timely_too : breaks_added_times s ≡ false) where
+              pub own_times_least : fourth_breaks_times s ≡ true → fourth_least_broken_by d s ≡ Some 9
+              unfolding fourth_least_broken_by
+              own_times_least broken = rw (named, known, known_too, all_known, timely, timely_too, broken)
+
+              module _ (all_timely : fourth_breaks_times s ≡ false) where
+                pub fourth_size_least : (r : Bool) → breaks_size s ≡ r → fourth_least_broken_by d s ≡ (if r then Some 10 else None)
+                unfolding fourth_least_broken_by
+                fourth_size_least r size = rw (named, known, known_too, all_known, timely, timely_too, all_timely, size)
+
 pub version_is : (d : Data) → (setup_of_tree d).version ≡ version_of d
 unfolding setup_of_tree
 version_is d = refl
@@ -84,6 +143,9 @@ nothing_by d s a b e f g p h i j = rw (a, b, e, f, g, p, h, i, j)
 pub nothing_broken : (d : Data) → KeepsValues d → least_broken_by d (setup_of_tree d) ≡ None
 nothing_broken d k =
     nothing_by d (setup_of_tree d) k.names k.references (ap (λ v. breaks_added_references v d (plain_groups d)) (version_is d) ∙ k.added_references) k.pairs k.departures k.pauses k.times k.added_times k.size
+
+pub fourth_nothing_broken : (d : Data) → KeepsFourth d → fourth_least_broken_by d (setup_of_tree d) ≡ None
+fourth_nothing_broken d k = fourth_size_least d (setup_of_tree d) k.names k.references k.added_references k.fourth_references k.times k.added_times k.fourth_times false k.size
 
 -- the four kinds of references
 module _ (d : Data) (gs : List Group) where
@@ -172,6 +234,35 @@ module _ (s : Setup) where
   pub pause_over : (r : Bool) → list_any (is_early_leave s) s.leaves ≡ false → list_any is_cut_over s.cuts ≡ false → list_any is_pause_over s.pauses ≡ r → breaks_added_times s ≡ r
   unfolding breaks_added_times
   pause_over r a b e = rw (a, b, e)
+
+-- the three kinds of references that version 4 adds
+module _ (d : Data) (gs : List Group) where
+  pub lost_restart : list_any (names_no_member gs) (items_at key.Restart d) ≡ true → fourth_breaks_references d gs ≡ true
+  unfolding fourth_breaks_references
+  lost_restart broken = rw broken
+
+  pub lost_restart_contact : list_any (names_no_member gs) (items_at key.Restart d) ≡ false → list_any (has_lost_contact gs) (items_at key.Restart d) ≡ true → fourth_breaks_references d gs ≡ true
+  unfolding fourth_breaks_references
+  lost_restart_contact a broken = rw (a, broken)
+
+  pub lost_block : (r : Bool) → list_any (names_no_member gs) (items_at key.Restart d) ≡ false → list_any (has_lost_contact gs) (items_at key.Restart d) ≡ false
+      → list_any (names_no_member gs) (items_at key.Block d) ≡ r → fourth_breaks_references d gs ≡ r
+  unfolding fourth_breaks_references
+  lost_block r a b e = rw (a, b, e)
+
+-- and of moments
+module _ (s : Setup) where
+  pub early_restart : list_any (is_early_restart s) s.restarts ≡ true → fourth_breaks_times s ≡ true
+  unfolding fourth_breaks_times
+  early_restart broken = rw broken
+
+  pub asking_itself : list_any (is_early_restart s) s.restarts ≡ false → list_any asks_itself s.restarts ≡ true → fourth_breaks_times s ≡ true
+  unfolding fourth_breaks_times
+  asking_itself a broken = rw (a, broken)
+
+  pub block_over : (r : Bool) → list_any (is_early_restart s) s.restarts ≡ false → list_any asks_itself s.restarts ≡ false → list_any is_pause_over s.blocks ≡ r → fourth_breaks_times s ≡ r
+  unfolding fourth_breaks_times
+  block_over r a b e = rw (a, b, e)
 
 -- the document of bytes that `toml` read
 pub has_tree : (bytes : List ℕ) (ms : Members) → IsUtf8 bytes → parse_document bytes ≡ Some ms → tree_of bytes ≡ Some (table ms)

@@ -6,3 +6,4 @@ pub mod Find
 pub mod Moments
 pub mod Sweep
 pub mod First
+mod Judging

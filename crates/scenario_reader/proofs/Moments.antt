@@ -7,14 +7,16 @@ use Rattle.std.proofs.lemmas.Bool.Decides.{nat_tests}
 use Rattle.toml.specs.Data.{Data}
 use Rattle.schema.specs.Tree.{items_at}
 use Rattle.schema.specs.Values.{text_at}
+use Rattle.schema.specs.declared.schema.Version.{Version}
+use Rattle.schema.specs.declared.schema.Version.TheVariants.{Four}
 use Rattle.schema.specs.declared.schema.FormatKey.TheVariants as key
 use Rattle.schema.specs.declared.schema.Section.TheVariants as section
 use Rattle.schema.proofs.Trees.{any-map}
 use Rattle.scenario.specs.Setup.{Setup, Group, start_of}
-use Rattle.scenario_reader.specs.Reading.{version_of, added_items, pause_items, plain_group, plain_groups, group_in, slow_in, crash_in, leave_in, cut_in, pause_in, member_named, setup_of_tree}
-use Rattle.scenario_reader.specs.Rules.{names_no_member, breaks_references, breaks_added_references, is_bad_contact, is_over, is_early, is_early_leave, is_cut_over, is_pause_over}
+use Rattle.scenario_reader.specs.Reading.{version_of, added_items, pause_items, fourth_items, restart_in, plain_group, plain_groups, group_in, slow_in, crash_in, leave_in, cut_in, pause_in, member_named, setup_of_tree}
+use Rattle.scenario_reader.specs.Rules.{names_no_member, breaks_references, breaks_added_references, is_bad_contact, is_over, is_early, is_early_leave, is_cut_over, is_pause_over, is_early_restart, asks_itself, fourth_breaks_references}
 use Rattle.scenario_reader.specs.Roster.{start_in}
-use Rattle.scenario_reader.specs.Times.{is_bad_contact_in, is_over_in, is_early_in, is_cut_over_in}
+use Rattle.scenario_reader.specs.Times.{asks_itself_in, is_bad_contact_in, is_over_in, is_early_in, is_early_restart_in, is_cut_over_in}
 use Rattle.scenario_reader.proofs.Trees.{any_same}
 use Rattle.scenario_reader.proofs.Find.{start_here, start_passed, neither}
 
@@ -93,3 +95,36 @@ cuts_over_same tree = any-map is_cut_over (cut_in (plain_groups tree)) (added_it
 pub pauses_over_same : (tree : Data) → list_any is_pause_over (setup_of_tree tree).pauses ≡ list_any (is_over_in section.Pause) (pause_items (version_of tree) tree)
 unfolding setup_of_tree
 pauses_over_same tree = any-map is_pause_over (pause_in (plain_groups tree)) (pause_items (version_of tree) tree)
+
+-- ---- restarts and blocks
+
+early_restarts : (s : Setup) (gs : List Group) → ((m : ℕ) → start_of s m ≡ start_in gs m) → (ds : List Data) → list_any (names_no_member gs) ds ≡ false
+    → list_any (λ d. is_early_restart s (restart_in gs d)) ds ≡ list_any (is_early_restart_in gs) ds
+early_restarts s gs same [] known = refl
+early_restarts s gs same (d ∷ ds) known =
+    let parts = neither (names_no_member gs d) (list_any (names_no_member gs) ds) known in
+    (λ i. early_one s gs same (restart_in gs d).at (member_named gs (text_at key.Member d)) parts.0 i || early_restarts s gs same ds parts.1 i)
+
+module _ (tree : Data) (version : version_of tree ≡ Four) where
+  -- where each restart is of a member
+  pub early_restarts_same : fourth_breaks_references tree (plain_groups tree) ≡ false
+      → list_any (is_early_restart (setup_of_tree tree)) (setup_of_tree tree).restarts ≡ list_any (is_early_restart_in (plain_groups tree)) (items_at key.Restart tree)
+  unfolding setup_of_tree fourth_breaks_references
+  early_restarts_same known =
+      let s = setup_of_tree tree in
+      let gs = plain_groups tree in
+      any-map (is_early_restart s) (restart_in gs) (fourth_items (version_of tree) key.Restart tree)
+      ∙ ap (λ (v : Version). list_any (λ d. is_early_restart s (restart_in gs d)) (fourth_items v key.Restart tree)) version
+      ∙ early_restarts s gs (starts_are tree) (items_at key.Restart tree) (neither _ _ known).0
+
+  pub asking_same : list_any asks_itself (setup_of_tree tree).restarts ≡ list_any (asks_itself_in (plain_groups tree)) (items_at key.Restart tree)
+  unfolding setup_of_tree
+  asking_same =
+      any-map asks_itself (restart_in (plain_groups tree)) (fourth_items (version_of tree) key.Restart tree)
+      ∙ ap (λ (v : Version). list_any (asks_itself_in (plain_groups tree)) (fourth_items v key.Restart tree)) version
+
+  pub blocks_over_same : list_any is_pause_over (setup_of_tree tree).blocks ≡ list_any (is_over_in section.Pause) (items_at key.Block tree)
+  unfolding setup_of_tree
+  blocks_over_same =
+      any-map is_pause_over (pause_in (plain_groups tree)) (fourth_items (version_of tree) key.Block tree)
+      ∙ ap (λ (v : Version). list_any (is_over_in section.Pause) (fourth_items v key.Block tree)) version

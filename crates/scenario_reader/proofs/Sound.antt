@@ -1,8 +1,8 @@
 -- A document that breaks no rule gives a scenario whose numbers are in the format's ranges.
-use Rattle.std.proofs.Common.{◌≡◌, ℕ, zero, suc, ◌+◌, ◌<◌, ◌≤◌, ◌^◌, Bool, true, false, cond, not, ◌&&◌, ◌||◌, nat_le, nat_lt, nat_eq, List, [], ◌∷◌, map, Option, Some, None, IfSome, is_some, is_none, pos, negsuc, ap, ◌∙◌, sym, subst, refl, arith, eqb-true, eq-eqb, bytes_eq}
+use Rattle.std.proofs.Common.{◌≡◌, ◌≢◌, ℕ, zero, suc, ◌+◌, ◌++◌, ◌<◌, ◌≤◌, ◌^◌, max, Bool, true, false, cond, not, ◌&&◌, ◌||◌, nat_le, nat_lt, nat_eq, List, [], ◌∷◌, map, Option, Some, None, IfSome, is_some, is_none, pos, negsuc, ap, ◌∙◌, sym, subst, refl, arith, eqb-true, eq-eqb, bytes_eq}
 use Rattle.std.specs.Option.{option_map_or, option_map, option_and_then}
 use Rattle.std.specs.List.{slice_get, filter, find, list_any, list_all, sum_by, AllByRecursion}
-use Rattle.std.proofs.lemmas.Bool.{false≢true, leb-true, leb-false, ltb-false}
+use Rattle.std.proofs.lemmas.Bool.{false≢true, leb-true, leb-false, ltb-false, eqb-false, cond_both}
 use Rattle.std.proofs.lemmas.Bool.Decides.{nat_tests}
 use Rattle.std.proofs.lemmas.List.Folds.{fold-map}
 use Rattle.std.proofs.lemmas.List.Quantifiers.{position-Some}
@@ -10,7 +10,7 @@ use Rattle.std.proofs.lemmas.List.Sums.{get_or-le-sum_by}
 use Rattle.toml.specs.Data.{Data, string, integer, float, boolean, datetime, array, table, Items, no_items, item, as_table, as_str}
 use Rattle.schema.specs.Schema.{spelling_of, key_rules_of, most_members}
 use Rattle.schema.specs.Tree.{SectionTable, items_of, items_at, section_table, tables_at, tables_below, tables_of, value_at, list_of}
-use Rattle.schema.specs.Values.{default_of, whole_or, number_at, text_if}
+use Rattle.schema.specs.Values.{default_of, whole_or, number_at, switch_set, text_if}
 use Rattle.schema.specs.Shape.{is_over_0, is_refused, is_absent, is_missing, is_other_kind, is_outside, has_fault, table_breaks, breaks, KeepsShape}
 use Rattle.schema.proofs.Trees.{any-flat_map}
 use Rattle.schema.specs.declared.schema.Version.{Version}
@@ -25,13 +25,15 @@ use Rattle.schema.specs.declared.schema.Absence.{Absence}
 use Rattle.schema.specs.declared.schema.Absence.TheVariants.{Refused, RefusedOver0, Default, Optional}
 use Rattle.schema.specs.declared.shape.Check.{Check}
 use Rattle.schema.specs.declared.shape.Check.TheVariants.{Missing, WrongKind, OutOfRange}
-use Rattle.scenario.specs.GroupNames.{is_group_name}
-use Rattle.scenario.specs.Setup.{Setup, Group, IsSound, IsSoundLink, IsSoundGossip, leads, group_at, last_link, member_count, start_of, is_slow}
-use Rattle.scenario_reader.specs.Reading.{plain_group, plain_groups, names_of_all, member_named, group_in, swim_in, suspicion_in, lifeguard_in, link_in, link_over, path_in, slow_in, crash_in, leave_in, cut_in, pause_in, gossip_of, gossip_in, stream_in, stream_table, version_of, added_items, pause_items, setup_of_tree}
-use Rattle.scenario_reader.specs.Rules.{has_lost_contact, is_bad_contact, is_early, is_over, any_two, is_same_leaver, crashes_too, is_early_leave, is_cut_over, is_pause_over, breaks_names, breaks_references, breaks_times, breaks_departures, breaks_added_times, KeepsValues}
+use Rattle.scenario.specs.GroupNames.{is_name_of}
+use Rattle.scenario.specs.Script.{crash_event, leave_event, restart_event}
+use Rattle.scenario.specs.Setup.{Setup, Group, IsSound, IsSoundLink, IsSoundGossip, IsSoundQueue, IsSoundSerf, IsSoundEvent, IsBeforeFourth, IsWithoutFourth, extra_by, greatest_extra, is_fourth, leads, group_at, last_link, member_count, start_of, is_slow}
+use Rattle.scenario_reader.specs.Reading.{plain_group, plain_groups, names_of_all, member_named, group_in, swim_in, suspicion_in, lifeguard_in, link_in, link_over, path_in, slow_in, crash_in, leave_in, cut_in, pause_in, gossip_of, gossip_in, stream_in, stream_table, restart_in, restarts_in, blocks_in, queue_in, dial_in, serf_in, fourth_items, fourth_table, version_of, added_items, pause_items, setup_of_tree}
+use Rattle.scenario_reader.specs.Rules.{has_lost_contact, is_bad_contact, is_early, is_over, any_two, is_same_leaver, crashes_too, is_early_leave, is_cut_over, is_pause_over, is_early_restart, asks_itself, breaks_names, breaks_names_in, breaks_references, breaks_times, breaks_departures, breaks_added_times, breaks_size, fourth_breaks_times, KeepsValues, KeepsFourth}
 use Rattle.scenario_reader.proofs.Find.{length-names_of_all}
-use Rattle.scenario_reader.proofs.First.{plain_of, without_third}
+use Rattle.scenario_reader.proofs.First.{plain_of, without_third, without_added}
 use Rattle.scenario.proofs.Members.{most_of_all}
+use Rattle.base.proofs.Rising.{all_append}
 use Rattle.scenario.specs.declared.settings.Swim.{Swim}
 use Rattle.scenario.specs.declared.settings.Suspicion.{Suspicion}
 use Rattle.scenario.specs.declared.settings.Lifeguard.{Lifeguard}
@@ -43,6 +45,11 @@ use Rattle.scenario.specs.declared.settings.Leave.{Leave}
 use Rattle.scenario.specs.declared.settings.Cut.{Cut}
 use Rattle.scenario.specs.declared.settings.StreamTimes.{StreamTimes}
 use Rattle.scenario.specs.declared.settings.Pause.{Pause}
+use Rattle.scenario.specs.declared.settings.Restart.{Restart}
+use Rattle.scenario.specs.declared.settings.Queue.{Queue}
+use Rattle.scenario.specs.declared.settings.DialTimes.{DialTimes}
+use Rattle.scenario.specs.declared.settings.Serf.{Serf}
+use Rattle.scenario.specs.declared.script.ScriptEvent.{ScriptEvent}
 
 neither : (a b : Bool) → (a || b) ≡ false → (a ≡ false) × (b ≡ false)
 neither true b e = absurd (false≢true (sym e))
@@ -382,10 +389,25 @@ extra_step : (b : Bool) (e : Slow) (rest : Option Slow) → e.extra ≤ 2 ^ 24 �
 extra_step true e rest here later = here
 extra_step false e rest here later = later
 
+-- the greatest of the extras that hold
+greatest_sound : (v : Version) (gs : List Group) (m t : ℕ) (ds : List Data) → AllByRecursion (Keeps v section.Slow) ds → greatest_extra (map (slow_in gs) ds) m t ≤ 2 ^ 24
+greatest_sound v gs m t [] kept = omega arith
+greatest_sound v gs m t (d ∷ ds) kept =
+    let e = slow_in gs d in
+    let rest = greatest_extra (map (slow_in gs) ds) m t in
+    let few = greatest_sound v gs m t ds kept.1 in
+    cond_both (is_slow m t e) (max e.extra rest) rest (λ n. n ≤ 2 ^ 24) (λ _. omega (arith, extra_kept v d kept.0, few)) (λ _. few)
+
 extras_sound : (v : Version) (gs : List Group) (test : Slow → Bool) (ds : List Data) → AllByRecursion (Keeps v section.Slow) ds → option_map_or (λ (e : Slow). e.extra) (find test (map (slow_in gs) ds)) 0 ≤ 2 ^ 24
 extras_sound v gs test [] kept = omega arith
 extras_sound v gs test (d ∷ ds) kept =
     extra_step (test (slow_in gs d)) (slow_in gs d) (find test (map (slow_in gs) ds)) (extra_kept v d kept.0) (extras_sound v gs test ds kept.1)
+
+extras_by : (w v : Version) (gs : List Group) (m t : ℕ) (ds : List Data) → AllByRecursion (Keeps v section.Slow) ds → extra_by w (map (slow_in gs) ds) m t ≤ 2 ^ 24
+extras_by One v gs m t ds kept = extras_sound v gs (is_slow m t) ds kept
+extras_by Two v gs m t ds kept = extras_sound v gs (is_slow m t) ds kept
+extras_by Three v gs m t ds kept = extras_sound v gs (is_slow m t) ds kept
+extras_by Four v gs m t ds kept = greatest_sound v gs m t ds kept
 
 abbrev IsSoundCrash : Setup → ℕ → Option ℕ → Type 0
 IsSoundCrash s m o = IfSome o (λ t. (start_of s m < t) × (t ≤ 2 ^ 40))
@@ -482,6 +504,122 @@ pauses_sound v gs (d ∷ ds) kept lasting =
     let parts = neither (is_pause_over p) (list_any is_pause_over (map (pause_in gs) ds)) lasting in
     ((leb-false p.until p.from parts.0, pause_end_kept v d kept.0), pauses_sound v gs ds kept.1 parts.1)
 
+-- ---- what happens to members, and what version 4 adds
+
+-- the events of crashes, and of leaves
+happening : {A : Type 0} (s : Setup) (event : A → ScriptEvent) (read : Data → A) (is_bad : A → Bool) (v : Version)
+    → ((d : Data) → Keeps v section.Departure d → is_bad (read d) ≡ false → IsSoundEvent s (event (read d))) → (ds : List Data) → AllByRecursion (Keeps v section.Departure) ds
+    → list_any is_bad (map read ds) ≡ false → AllByRecursion (IsSoundEvent s) (map event (map read ds))
+happening s event read is_bad v each [] kept fine = tt
+happening s event read is_bad v each (d ∷ ds) kept fine =
+    let parts = neither (is_bad (read d)) (list_any is_bad (map read ds)) fine in
+    (each d kept.0 parts.0, happening s event read is_bad v each ds kept.1 parts.1)
+
+crash_happens : (v : Version) (s : Setup) (gs : List Group) (d : Data) → Keeps v section.Departure d → is_early s (crash_in gs d) ≡ false → IsSoundEvent s (crash_event (crash_in gs d))
+crash_happens v s gs d kept late = let c = crash_in gs d in record { after = leb-false c.at (start_of s c.member) late; small = at_kept v d kept; contact = tt }
+
+leave_happens : (v : Version) (s : Setup) (gs : List Group) (d : Data) → Keeps v section.Departure d → is_early_leave s (leave_in gs d) ≡ false → IsSoundEvent s (leave_event (leave_in gs d))
+leave_happens v s gs d kept late = let l = leave_in gs d in record { after = leb-false l.at (start_of s l.member) late; small = at_kept v d kept; contact = tt }
+
+restart_at_kept : (v : Version) (d : Data) → Keeps v section.Restart d → number_at section.Restart key.At (Some d) ≤ 2 ^ 40
+unfolding key_rules_of
+restart_at_kept v d kept = (required v section.Restart 1 key.At 0 0x100_0000_0000 (λ _. refl) (Some d) d refl kept).1
+
+contact_fine : (m k : ℕ) (o : Option ℕ) → ((c : ℕ) → o ≡ Some c → c < k) → option_map_or (λ c. nat_eq c m) o false ≡ false → IfSome o (λ c. (c < k) × (c ≢ m))
+contact_fine m k None below fine = tt
+contact_fine m k (Some c) below fine = (below c refl, eqb-false c m fine)
+
+member_below : (gs : List Group) (name : List ℕ) (c : ℕ) → member_named gs name ≡ Some c → c < sum_by (λ (g : Group). g.count) gs
+unfolding member_named
+member_below gs name c found = omega (arith, (position-Some (bytes_eq name) (names_of_all gs) c [] found).0, length-names_of_all gs)
+
+named_below : (gs : List Group) (o : Option (List ℕ)) (c : ℕ) → option_and_then (member_named gs) o ≡ Some c → c < sum_by (λ (g : Group). g.count) gs
+named_below gs None c found = absurd (let no : None ≡ Some c = found in cc)
+named_below gs (Some t) c found = member_below gs t c found
+
+restarts_happen : (v : Version) (s : Setup) (gs : List Group) → member_count s ≡ sum_by (λ (g : Group). g.count) gs → (ds : List Data) → AllByRecursion (Keeps v section.Restart) ds
+    → list_any (is_early_restart s) (map (restart_in gs) ds) ≡ false → list_any asks_itself (map (restart_in gs) ds) ≡ false → AllByRecursion (IsSoundEvent s) (map restart_event (map (restart_in gs) ds))
+restarts_happen v s gs counted [] kept late others = tt
+restarts_happen v s gs counted (d ∷ ds) kept late others =
+    let r = restart_in gs d in
+    let first = neither (is_early_restart s r) (list_any (is_early_restart s) (map (restart_in gs) ds)) late in
+    let second = neither (asks_itself r) (list_any asks_itself (map (restart_in gs) ds)) others in (
+      record {
+        after = leb-false r.at (start_of s r.member) first.0;
+        small = restart_at_kept v d kept.0;
+        contact = contact_fine r.member (member_count s) r.contact (λ c is. omega (arith, named_below gs (text_if key.Contact d) c is, counted)) second.0;
+      },
+      restarts_happen v s gs counted ds kept.1 first.1 second.1,
+    )
+
+-- the lists and tables that version 4 adds
+fourth_kept : (tree : Data) → KeepsShape Four tree → (i : ℕ) (k : FormatKey) (s : Section) → IsRow Four section.Top i (list_row k Optional s) → AllByRecursion (Keeps Four s) (items_at k tree)
+fourth_kept tree shape i k s is =
+    let row = list_row k Optional s in
+    items_kept Four s (value_at k tree) (below_kept Four tree Missing i row is shape.missing) (below_kept Four tree WrongKind i row is shape.kinds) (below_kept Four tree OutOfRange i row is shape.ranges)
+
+queue_one : (d : Data) → Keeps Four section.Gossip d → IfSome (queue_in d) IsSoundQueue
+unfolding key_rules_of spelling_of
+queue_one d kept =
+    let queue : Queue = record { packet = number_at section.Gossip key.Packet (Some d); meta = number_at section.Gossip key.Meta (Some d) } in
+    let sound : IsSoundQueue queue = record {
+      packet = (number_kept Four section.Gossip 5 key.Packet (Default 0) 0 65507 (λ _. refl) d (λ _. (omega arith, omega arith)) kept).1;
+      meta = (number_kept Four section.Gossip 6 key.Meta (Default 0) 0 512 (λ _. refl) d (λ _. (omega arith, omega arith)) kept).1;
+    } in
+    cond_both (switch_set key.Queue (Some d)) (Some queue) None (λ (o : Option Queue). IfSome o IsSoundQueue) (λ _. sound) (λ _. tt)
+
+queue_if : (o : Option Data) → ((d : Data) → o ≡ Some d → Keeps Four section.Gossip d) → IfSome (option_and_then queue_in o) IsSoundQueue
+queue_if None kept = tt
+queue_if (Some d) kept = queue_one d (kept d refl)
+
+queue_sound : (v : Version) (tree : Data) → AllKept v tree → IfSome (option_and_then queue_in (fourth_table v key.Gossip tree)) IsSoundQueue
+unfolding key_rules_of
+queue_sound One tree kept = tt
+queue_sound Two tree kept = tt
+queue_sound Three tree kept = tt
+queue_sound Four tree kept = queue_if (value_at key.Gossip tree) (table_kept Four tree 13 key.Gossip Optional section.Gossip (λ _. refl) kept)
+
+record DialSound (t : DialTimes) : Type 0 where
+  limit : Within 1 0x100_0000 t.limit
+  retry : Within 1 0x100_0000 t.retry
+
+no_dial : DialSound (dial_in None)
+unfolding key_rules_of spelling_of number_at
+no_dial = record { limit = (omega arith, omega arith); retry = (omega arith, omega arith) }
+
+dial_if : (o : Option Data) → ((d : Data) → o ≡ Some d → Keeps Four section.Stream d) → DialSound (dial_in o)
+unfolding key_rules_of spelling_of
+dial_if o kept = record {
+  limit = optional Four section.Stream 2 key.Limit 10000 1 0x100_0000 (λ _. refl) (omega arith, omega arith) o kept;
+  retry = optional Four section.Stream 3 key.Retry 30000 1 0x100_0000 (λ _. refl) (omega arith, omega arith) o kept;
+}
+
+dial_sound : (v : Version) (tree : Data) → AllKept v tree → DialSound (dial_in (fourth_table v key.Stream tree))
+unfolding key_rules_of
+dial_sound One tree kept = no_dial
+dial_sound Two tree kept = no_dial
+dial_sound Three tree kept = no_dial
+dial_sound Four tree kept = dial_if (value_at key.Stream tree) (table_kept Four tree 14 key.Stream Optional section.Stream (λ _. refl) kept)
+
+serf_one : (d : Data) → Keeps Four section.Serf d → IsSoundSerf (serf_in d)
+unfolding key_rules_of spelling_of
+serf_one d kept = record {
+  reconnect = number_kept Four section.Serf 0 key.Reconnect (Default 30000) 1 0x100_0000 (λ _. refl) d (λ _. (omega arith, omega arith)) kept;
+  reap = (number_kept Four section.Serf 1 key.Reap (Default 86400000) 0 0x100_0000_0000 (λ _. refl) d (λ _. (omega arith, omega arith)) kept).1;
+  linger = number_kept Four section.Serf 2 key.Linger (Default 1000) 1 0x100_0000 (λ _. refl) d (λ _. (omega arith, omega arith)) kept;
+}
+
+serf_if : (o : Option Data) → ((d : Data) → o ≡ Some d → Keeps Four section.Serf d) → IfSome (option_map serf_in o) IsSoundSerf
+serf_if None kept = tt
+serf_if (Some d) kept = serf_one d (kept d refl)
+
+serf_sound : (v : Version) (tree : Data) → AllKept v tree → IfSome (option_map serf_in (fourth_table v key.Serf tree)) IsSoundSerf
+unfolding key_rules_of
+serf_sound One tree kept = tt
+serf_sound Two tree kept = tt
+serf_sound Three tree kept = tt
+serf_sound Four tree kept = serf_if (value_at key.Serf tree) (table_kept Four tree 18 key.Serf Optional section.Serf (λ _. refl) kept)
+
 -- nobody crashes and leaves
 none_of : (m : ℕ) (cs : List Crash) → list_any (λ (c : Crash). nat_eq c.member m) cs ≡ false → find (λ (c : Crash). nat_eq c.member m) cs ≡ None
 none_of m [] none = refl
@@ -543,10 +681,6 @@ found_by s n None known fine k below = absurd (false≢true (sym known))
 found_by s n (Some c) known fine k below =
     let early = ltb-false 0 (start_of s c) (neither (nat_eq n 0) (nat_lt 0 (start_of s c)) fine).1 in
     (c, refl, below c refl, omega (arith, early))
-
-member_below : (gs : List Group) (name : List ℕ) (c : ℕ) → member_named gs name ≡ Some c → c < sum_by (λ (g : Group). g.count) gs
-unfolding member_named
-member_below gs name c found = omega (arith, (position-Some (bytes_eq name) (names_of_all gs) c [] found).0, length-names_of_all gs)
 
 abbrev contact_row : KeyRule
 contact_row = record { key = key.Contact; absence = RefusedOver0 key.Start; kind = kind.Text }
@@ -610,22 +744,40 @@ counts_same tree =
     ∙ sym (fold-map (λ (n : ℕ) (g : Group). n + g.count) plain_group 0 (items_at key.Group tree))
 
 -- the groups' names have their form, with the contacts as without them
-forms_kept : (gs : List Group) (ds : List Data) → list_any (λ (g : Group). not (is_group_name g.name)) (map plain_group ds) ≡ false → list_all (λ (g : Group). is_group_name g.name) (map (group_in gs) ds) ≡ true
-forms_kept gs [] fine = refl
-forms_kept gs (d ∷ ds) fine =
-    let parts = neither (not (is_group_name (plain_group d).name)) (list_any (λ (g : Group). not (is_group_name g.name)) (map plain_group ds)) fine in
-    ap (λ b. b && list_all (λ (g : Group). is_group_name g.name) (map (group_in gs) ds)) (turned (is_group_name (plain_group d).name) parts.0) ∙ forms_kept gs ds parts.1
+forms_kept : (v : Version) (gs : List Group) (ds : List Data) → list_any (λ (g : Group). not (is_name_of v g.name)) (map plain_group ds) ≡ false → list_all (λ (g : Group). is_name_of v g.name) (map (group_in gs) ds) ≡ true
+forms_kept v gs [] fine = refl
+forms_kept v gs (d ∷ ds) fine =
+    let parts = neither (not (is_name_of v (plain_group d).name)) (list_any (λ (g : Group). not (is_name_of v g.name)) (map plain_group ds)) fine in
+    ap (λ b. b && list_all (λ (g : Group). is_name_of v g.name) (map (group_in gs) ds)) (turned (is_name_of v (plain_group d).name) parts.0) ∙ forms_kept v gs ds parts.1
 
-names_sound : (gs : List Group) (tree : Data) → breaks_names (plain_groups tree) ≡ false → list_all (λ (g : Group). is_group_name g.name) (map (group_in gs) (items_at key.Group tree)) ≡ true
-unfolding breaks_names plain_groups
-names_sound gs tree fine =
+names_sound : (v : Version) (gs : List Group) (tree : Data) → breaks_names_in v (plain_groups tree) ≡ false → list_all (λ (g : Group). is_name_of v g.name) (map (group_in gs) (items_at key.Group tree)) ≡ true
+unfolding breaks_names_in plain_groups
+names_sound v gs tree fine =
     let groups : List Group = map plain_group (items_at key.Group tree) in
-    forms_kept gs (items_at key.Group tree) (neither (list_any (λ (g : Group). not (is_group_name g.name)) groups) (any_two bytes_eq (map (λ (g : Group). g.name) groups)) fine).0
+    forms_kept v gs (items_at key.Group tree) (neither (list_any (λ (g : Group). not (is_name_of v g.name)) groups) (any_two bytes_eq (map (λ (g : Group). g.name) groups)) fine).0
 
--- The scenario of a document that breaks no rule.
-pub sound_of : (tree : Data) → KeepsShape (version_of tree) tree → KeepsValues tree → IsSound (setup_of_tree tree)
-unfolding setup_of_tree key_rules_of breaks_references breaks_times breaks_departures breaks_added_times
-sound_of tree shape values =
+-- before version 4 names have one form
+names_earlier : (v : Version) (gs : List Group) → is_fourth v ≡ false → breaks_names gs ≡ false → breaks_names_in v gs ≡ false
+unfolding breaks_names_in breaks_names
+names_earlier One gs earlier fine = fine
+names_earlier Two gs earlier fine = fine
+names_earlier Three gs earlier fine = fine
+names_earlier Four gs earlier fine = absurd (false≢true (sym earlier))
+
+-- What the rules on the values say of a document, by those of its version.
+record IsJudged (tree : Data) : Type 0 where
+  names : breaks_names_in (version_of tree) (plain_groups tree) ≡ false
+  references : breaks_references tree (plain_groups tree) ≡ false
+  times : breaks_times (setup_of_tree tree) ≡ false
+  added_times : breaks_added_times (setup_of_tree tree) ≡ false
+  size : breaks_size (setup_of_tree tree) ≡ false
+  restarts : AllByRecursion (IsSoundEvent (setup_of_tree tree)) (map restart_event (setup_of_tree tree).restarts)
+  blocks : AllByRecursion (λ (p : Pause). (p.from < p.until) × (p.until ≤ 2 ^ 40)) (setup_of_tree tree).blocks
+  before_fourth : IsBeforeFourth (version_of tree) → IsWithoutFourth (setup_of_tree tree)
+
+judged_sound : (tree : Data) → KeepsShape (version_of tree) tree → IsJudged tree → IsSound (setup_of_tree tree)
+unfolding setup_of_tree key_rules_of breaks_references breaks_times breaks_added_times
+judged_sound tree shape values =
     let v = version_of tree in
     let kept : AllKept v tree = record { missing = shape.missing; kinds = shape.kinds; ranges = shape.ranges } in
     let top = top_kept v tree kept in
@@ -653,10 +805,12 @@ sound_of tree shape values =
     let groups = groups_sound v s gs (items_at key.Group tree) (counts_same tree) (below 7 key.Group Refused section.Group (λ _. refl)) known contacts.0 in
     let below_period : s.swim.timeout < s.swim.period = leb-false s.swim.period s.swim.timeout times.0 in
     let allowed = ltb-false (most_members v) (member_count s) values.size in
-    let few : member_count s ≤ 4096 = omega (arith, allowed, most_of_all v) in
-    let apart = neither (any_two is_same_leaver s.leaves) (list_any (crashes_too s.crashes) s.leaves) values.departures in
+    let few : member_count s ≤ 16384 = omega (arith, allowed, most_of_all v) in
     let lasting = neither (list_any (is_early_leave s) s.leaves) (list_any is_cut_over s.cuts || list_any is_pause_over s.pauses) values.added_times in
     let over = neither (list_any is_cut_over s.cuts) (list_any is_pause_over s.pauses) lasting.1 in
+    let dial : DialSound (dial_in (fourth_table v key.Stream tree)) = dial_sound v tree kept in
+    let crashing = happening s crash_event (crash_in gs) (is_early s) v (crash_happens v s gs) (items_at key.Crash tree) (below 10 key.Crash Optional section.Departure (λ _. refl)) early.1 in
+    let leaving = happening s leave_event (leave_in gs) (is_early_leave s) v (leave_happens v s gs) (added_items v key.Leave tree) (leaves_kept v tree shape) lasting.0 in
     record {
       end = end_sound v tree top;
       period = swim.period;
@@ -675,7 +829,7 @@ sound_of tree shape values =
       loss = link.loss;
       between = λ i j. paths_sound v gs (link_in (value_at key.Link tree)) (leads (group_at s.groups i) (group_at s.groups j)) (value_at key.Path tree) link
           (path Missing shape.missing) (path WrongKind shape.kinds) (path OutOfRange shape.ranges);
-      names = names_sound gs tree values.names;
+      names = names_sound v gs tree values.names;
       members = (
         subst (λ (o : Option Data). 0 < sum_by (λ (g : Group). g.count) (map (group_in gs) (option_map_or items_of o []))) (sym group.2) (some_members (group_in gs group.0) (map (group_in gs) (list_of group.1)) first),
         few,
@@ -686,9 +840,8 @@ sound_of tree shape values =
         some = some_by s (slice_get s.groups (group_at s.groups m)) (groups (group_at s.groups m));
       };
       crashes = λ m. departures_sound (λ (c : Crash). c.member) (λ (c : Crash). c.at) s v (crash_in gs) (λ _. refl) m (items_at key.Crash tree) (below 10 key.Crash Optional section.Departure (λ _. refl)) early.1;
-      extras = λ m t. extras_sound v gs (is_slow m t) (items_at key.Slow tree) (below 9 key.Slow Optional section.Slow (λ _. refl));
+      extras = λ m t. extras_by v v gs m t (items_at key.Slow tree) (below 9 key.Slow Optional section.Slow (λ _. refl));
       leaves = λ m. departures_sound (λ (l : Leave). l.member) (λ (l : Leave). l.at) s v (leave_in gs) (λ _. refl) m (added_items v key.Leave tree) (leaves_kept v tree shape) lasting.0;
-      once = λ m. once_of m s.crashes s.leaves apart.1;
       cuts = cuts_sound v gs (added_items v key.Cut tree) (cuts_kept v tree shape) over.0;
       first = λ one. (plain_of tree one, ltb-false 1024 (member_count s) (ap (λ w. nat_lt (most_members w) (member_count s)) (sym one) ∙ values.size));
       gossip = gossip_sound v tree kept;
@@ -696,4 +849,70 @@ sound_of tree shape values =
       again = stream.again;
       pauses = pauses_sound v gs (pause_items v tree) (pauses_kept v tree shape) over.1;
       before_third = without_third tree;
+      events = all_append (IsSoundEvent s) (map crash_event s.crashes) (map leave_event s.leaves ++ map restart_event s.restarts) crashing
+          (all_append (IsSoundEvent s) (map leave_event s.leaves) (map restart_event s.restarts) leaving values.restarts);
+      blocks = values.blocks;
+      queue = queue_sound v tree kept;
+      limit = dial.limit;
+      retry = dial.retry;
+      serf = serf_sound v tree kept;
+      before_fourth = values.before_fourth;
     }
+
+before_by : (v : Version) → is_fourth v ≡ false → IsBeforeFourth v
+before_by One earlier = tt
+before_by Two earlier = tt
+before_by Three earlier = tt
+before_by Four earlier = absurd (false≢true (sym earlier))
+
+-- The scenario of a document of version 1, 2 or 3 that breaks no rule.
+pub sound_of : (tree : Data) → is_fourth (version_of tree) ≡ false → KeepsShape (version_of tree) tree → KeepsValues tree → IsSound (setup_of_tree tree)
+unfolding breaks_departures
+sound_of tree earlier shape values =
+    let s = setup_of_tree tree in
+    let none = without_added tree (before_by (version_of tree) earlier) in
+    let apart = neither (any_two is_same_leaver s.leaves) (list_any (crashes_too s.crashes) s.leaves) values.departures in
+    judged_sound tree shape (record {
+      names = names_earlier (version_of tree) (plain_groups tree) earlier values.names;
+      references = values.references;
+      times = values.times;
+      added_times = values.added_times;
+      size = values.size;
+      restarts = subst (λ (rs : List Restart). AllByRecursion (IsSoundEvent s) (map restart_event rs)) (sym none.restarts) tt;
+      blocks = subst (λ (ps : List Pause). AllByRecursion (λ (p : Pause). (p.from < p.until) × (p.until ≤ 2 ^ 40)) ps) (sym none.blocks) tt;
+      before_fourth = λ _. record { restarts = none.restarts; blocks = none.blocks; queue = none.queue; serf = none.serf; once = λ m. once_of m s.crashes s.leaves apart.1 };
+    })
+
+-- The lists that version 4 adds, of a document of that version.
+restarts_are : (tree : Data) → version_of tree ≡ Four → (setup_of_tree tree).restarts ≡ map (restart_in (plain_groups tree)) (items_at key.Restart tree)
+unfolding setup_of_tree
+restarts_are tree version = ap (λ v. restarts_in v (plain_groups tree) tree) version
+
+blocks_are : (tree : Data) → version_of tree ≡ Four → (setup_of_tree tree).blocks ≡ map (pause_in (plain_groups tree)) (items_at key.Block tree)
+unfolding setup_of_tree
+blocks_are tree version = ap (λ v. blocks_in v (plain_groups tree) tree) version
+
+-- The scenario of a document of version 4 that breaks no rule.
+pub fourth_sound_of : (tree : Data) → version_of tree ≡ Four → KeepsShape (version_of tree) tree → KeepsFourth tree → IsSound (setup_of_tree tree)
+unfolding key_rules_of fourth_breaks_times
+fourth_sound_of tree version shape values =
+    let s = setup_of_tree tree in
+    let gs = plain_groups tree in
+    let shape_4 : KeepsShape Four tree = subst (λ v. KeepsShape v tree) version shape in
+    let late = neither (list_any (is_early_restart s) s.restarts) (list_any asks_itself s.restarts || list_any is_pause_over s.blocks) values.fourth_times in
+    let others = neither (list_any asks_itself s.restarts) (list_any is_pause_over s.blocks) late.1 in
+    let restarts = restarts_are tree version in
+    let blocks = blocks_are tree version in
+    judged_sound tree shape (record {
+      names = ap (λ v. breaks_names_in v gs) version ∙ values.names;
+      references = values.references;
+      times = values.times;
+      added_times = values.added_times;
+      size = values.size;
+      restarts = subst (λ (rs : List Restart). AllByRecursion (IsSoundEvent s) (map restart_event rs)) (sym restarts)
+          (restarts_happen Four s gs (counts_same tree) (items_at key.Restart tree) (fourth_kept tree shape_4 16 key.Restart section.Restart (λ _. refl))
+          (sym (ap (list_any (is_early_restart s)) restarts) ∙ late.0) (sym (ap (list_any asks_itself) restarts) ∙ others.0));
+      blocks = subst (λ (ps : List Pause). AllByRecursion (λ (p : Pause). (p.from < p.until) × (p.until ≤ 2 ^ 40)) ps) (sym blocks)
+          (pauses_sound Four gs (items_at key.Block tree) (fourth_kept tree shape_4 17 key.Block section.Pause (λ _. refl)) (sym (ap (list_any is_pause_over) blocks) ∙ others.1));
+      before_fourth = λ before. absurd (subst IsBeforeFourth version before);
+    })

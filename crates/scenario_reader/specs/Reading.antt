@@ -22,12 +22,16 @@ use Rattle.scenario.specs.declared.settings.Cut.{Cut}
 use Rattle.scenario.specs.declared.settings.Gossip.{Gossip}
 use Rattle.scenario.specs.declared.settings.StreamTimes.{StreamTimes}
 use Rattle.scenario.specs.declared.settings.Pause.{Pause}
+use Rattle.scenario.specs.declared.settings.Restart.{Restart}
+use Rattle.scenario.specs.declared.settings.Queue.{Queue}
+use Rattle.scenario.specs.declared.settings.DialTimes.{DialTimes}
+use Rattle.scenario.specs.declared.settings.Serf.{Serf}
 
--- the version of that number, 2 or 3, else version 1
+-- the version of that number, 2 to 4, else version 1
 abbrev pub version_numbered : ℕ → Version
-version_numbered n = if nat_eq n 2 then Two else if nat_eq n 3 then Three else One
+version_numbered n = if nat_eq n 2 then Two else if nat_eq n 3 then Three else if nat_eq n 4 then Four else One
 
--- version 2 or 3 where the document's `version` is that whole number, else version 1
+-- version 2, 3 or 4 where the document's `version` is that whole number, else version 1
 unfoldable pub version_of : Data → Version
 version_of tree = version_numbered (whole_or 0 (value_at key.Version tree))
 
@@ -44,6 +48,20 @@ pause_items One tree = []
 pause_items Two tree = []
 pause_items Three tree = items_at key.Pause tree
 pause_items Four tree = items_at key.Pause tree
+
+-- the items of a list that version 4 adds
+abbrev pub fourth_items : Version → FormatKey → Data → List Data
+fourth_items One key tree = []
+fourth_items Two key tree = []
+fourth_items Three key tree = []
+fourth_items Four key tree = items_at key tree
+
+-- a table that version 4 adds, or that has more keys in it
+abbrev pub fourth_table : Version → FormatKey → Data → Option Data
+fourth_table One key tree = None
+fourth_table Two key tree = None
+fourth_table Three key tree = None
+fourth_table Four key tree = value_at key tree
 
 -- one item of the list of groups, its contact left out
 abbrev pub plain_group : Data → Group
@@ -133,6 +151,14 @@ pause_in groups d = record {
   until = number_at section.Pause key.Until (Some d);
 }
 
+-- one item of the list of restarts
+abbrev pub restart_in : List Group → Data → Restart
+restart_in groups d = record {
+  member = member_at groups key.Member d;
+  at = number_at section.Restart key.At (Some d);
+  contact = option_and_then (member_named groups) (text_if key.Contact d);
+}
+
 abbrev pub slows_in : List Group → Data → List Slow
 slows_in groups tree = map (slow_in groups) (items_at key.Slow tree)
 
@@ -147,6 +173,12 @@ cuts_in v groups tree = map (cut_in groups) (added_items v key.Cut tree)
 
 abbrev pub pauses_in : Version → List Group → Data → List Pause
 pauses_in v groups tree = map (pause_in groups) (pause_items v tree)
+
+abbrev pub restarts_in : Version → List Group → Data → List Restart
+restarts_in v groups tree = map (restart_in groups) (fourth_items v key.Restart tree)
+
+abbrev pub blocks_in : Version → List Group → Data → List Pause
+blocks_in v groups tree = map (pause_in groups) (fourth_items v key.Block tree)
 
 -- whether a stream takes over where a ping goes unanswered; never before version 3
 abbrev pub fallback_in : Version → Option Data → Bool
@@ -213,6 +245,24 @@ stream_table Two tree = None
 stream_table Three tree = value_at key.Stream tree
 stream_table Four tree = value_at key.Stream tree
 
+-- how packets are filled from memberlist's queue, where the switch is on
+abbrev pub queue_in : Data → Option Queue
+queue_in d = if switch_set key.Queue (Some d)
+    then Some (record { packet = number_at section.Gossip key.Packet (Some d); meta = number_at section.Gossip key.Meta (Some d) })
+    else None
+
+-- how long members wait for connections
+abbrev pub dial_in : Option Data → DialTimes
+dial_in d = record { limit = number_at section.Stream key.Limit d; retry = number_at section.Stream key.Retry d }
+
+-- how members leave and reconnect
+abbrev pub serf_in : Data → Serf
+serf_in d = record {
+  reconnect = number_at section.Serf key.Reconnect (Some d);
+  reap = number_at section.Serf key.Reap (Some d);
+  linger = number_at section.Serf key.Linger (Some d);
+}
+
 -- the scenario of a document
 unfoldable pub setup_of_tree : Data → Setup
 setup_of_tree tree = record {
@@ -232,4 +282,9 @@ setup_of_tree tree = record {
   gossip = gossip_in (version_of tree) (value_at key.Gossip tree);
   stream = stream_in (stream_table (version_of tree) tree);
   pauses = pauses_in (version_of tree) (plain_groups tree) tree;
+  restarts = restarts_in (version_of tree) (plain_groups tree) tree;
+  blocks = blocks_in (version_of tree) (plain_groups tree) tree;
+  queue = option_and_then queue_in (fourth_table (version_of tree) key.Gossip tree);
+  dial = dial_in (fourth_table (version_of tree) key.Stream tree);
+  serf = option_map serf_in (fourth_table (version_of tree) key.Serf tree);
 }

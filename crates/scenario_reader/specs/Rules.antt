@@ -10,9 +10,9 @@ use Rattle.schema.specs.Tree.{items_at}
 use Rattle.schema.specs.Values.{text_if, text_at}
 use Rattle.schema.specs.Shape.{least_broken_of_shape}
 use Rattle.schema.specs.declared.schema.Version.{Version}
-use Rattle.schema.specs.declared.schema.Version.TheVariants.{One, Two}
+use Rattle.schema.specs.declared.schema.Version.TheVariants.{One, Two, Three, Four}
 use Rattle.schema.specs.declared.schema.FormatKey.TheVariants as key
-use Rattle.scenario.specs.GroupNames.{is_group_name}
+use Rattle.scenario.specs.GroupNames.{is_group_name, is_name_of}
 use Rattle.scenario.specs.Setup.{Setup, Group, start_of, member_count}
 use Rattle.scenario_reader.specs.Reading.{version_of, added_items, pause_items, plain_groups, member_named, group_named, setup_of_tree}
 use Rattle.scenario.specs.declared.settings.Slow.{Slow}
@@ -20,10 +20,11 @@ use Rattle.scenario.specs.declared.settings.Crash.{Crash}
 use Rattle.scenario.specs.declared.settings.Leave.{Leave}
 use Rattle.scenario.specs.declared.settings.Cut.{Cut}
 use Rattle.scenario.specs.declared.settings.Pause.{Pause}
+use Rattle.scenario.specs.declared.settings.Restart.{Restart}
 
--- a group of this name may not follow these groups: the name has another form or is taken
-abbrev pub breaks_name : List Group → List ℕ → Bool
-breaks_name groups name = not (is_group_name name) || list_any (λ g. bytes_eq name g.name) groups
+-- a group of this name may not follow these groups: the name has another form in the version or is taken
+abbrev pub breaks_name : Version → List Group → List ℕ → Bool
+breaks_name v groups name = not (is_name_of v name) || list_any (λ g. bytes_eq name g.name) groups
 
 -- the test holds of two items at different places, the earlier one first
 abbrev pub any_two : {A : Type 0} → (A → A → Bool) → List A → Bool
@@ -33,6 +34,10 @@ any_two test (x ∷ xs) = list_any (test x) xs || any_two test xs
 -- rule 6: a group name of another form, or two groups of one name
 unfoldable pub breaks_names : List Group → Bool
 breaks_names groups = list_any (λ g. not (is_group_name g.name)) groups || any_two bytes_eq (map (λ g. g.name) groups)
+
+-- the same by the form that names have in a version
+unfoldable pub breaks_names_in : Version → List Group → Bool
+breaks_names_in v groups = list_any (λ g. not (is_name_of v g.name)) groups || any_two bytes_eq (map (λ g. g.name) groups)
 
 -- a contact that is there and is no member
 abbrev pub has_lost_contact : List Group → Data → Bool
@@ -124,13 +129,33 @@ is_pause_over p = nat_le p.until p.from
 unfoldable pub breaks_added_times : Setup → Bool
 breaks_added_times s = list_any (is_early_leave s) s.leaves || (list_any is_cut_over s.cuts || list_any is_pause_over s.pauses)
 
+-- ---- what version 4 adds
+
+-- to rule 7: a restart of nobody or by nobody, or a block of nobody
+unfoldable pub fourth_breaks_references : Data → List Group → Bool
+fourth_breaks_references tree groups =
+    list_any (names_no_member groups) (items_at key.Restart tree)
+    || (list_any (has_lost_contact groups) (items_at key.Restart tree) || list_any (names_no_member groups) (items_at key.Block tree))
+
+-- a restart that isn't after its member's start
+abbrev pub is_early_restart : Setup → Restart → Bool
+is_early_restart s r = nat_le r.at (start_of s r.member)
+
+-- a restart whose contact is its member
+abbrev pub asks_itself : Restart → Bool
+asks_itself r = option_map_or (λ c. nat_eq c r.member) r.contact false
+
+-- to rule 9: one of these two, or a block that is over when it begins
+unfoldable pub fourth_breaks_times : Setup → Bool
+fourth_breaks_times s = list_any (is_early_restart s) s.restarts || (list_any asks_itself s.restarts || list_any is_pause_over s.blocks)
+
 -- ---- the least rule, and the answer
 
--- rule 10: more members than there may be in the version: 1,024, or 4,096 from version 2 on
+-- rule 10: more members than there may be in the version: 1,024, or 4,096 in versions 2 and 3, or 16,384
 abbrev pub breaks_size : Setup → Bool
 breaks_size s = nat_lt (most_members s.version) (member_count s)
 
--- the document breaks none of the rules on its values, 6 to 10
+-- the document breaks none of the rules on its values before version 4, 6 to 10
 pub record KeepsValues (tree : Data) : Type 0 where
   pub names : breaks_names (plain_groups tree) ≡ false
   pub references : breaks_references tree (plain_groups tree) ≡ false
@@ -140,6 +165,17 @@ pub record KeepsValues (tree : Data) : Type 0 where
   pub pauses : breaks_pauses (setup_of_tree tree).pauses ≡ false
   pub times : breaks_times (setup_of_tree tree) ≡ false
   pub added_times : breaks_added_times (setup_of_tree tree) ≡ false
+  pub size : breaks_size (setup_of_tree tree) ≡ false
+
+-- the document breaks none of the rules on its values in version 4
+pub record KeepsFourth (tree : Data) : Type 0 where
+  pub names : breaks_names_in Four (plain_groups tree) ≡ false
+  pub references : breaks_references tree (plain_groups tree) ≡ false
+  pub added_references : breaks_added_references Four tree (plain_groups tree) ≡ false
+  pub fourth_references : fourth_breaks_references tree (plain_groups tree) ≡ false
+  pub times : breaks_times (setup_of_tree tree) ≡ false
+  pub added_times : breaks_added_times (setup_of_tree tree) ≡ false
+  pub fourth_times : fourth_breaks_times (setup_of_tree tree) ≡ false
   pub size : breaks_size (setup_of_tree tree) ≡ false
 
 -- the least of the rules 6 to 10 that are broken
@@ -152,15 +188,29 @@ least_of names references pairs times size =
     else if size then Some 10
     else None
 
--- the least broken of the rules on the values
+-- the least broken of the rules on the values before version 4
 unfoldable pub least_broken_by : Data → Setup → Option ℕ
 least_broken_by tree s =
     least_of (breaks_names (plain_groups tree)) (breaks_references tree (plain_groups tree) || breaks_added_references s.version tree (plain_groups tree))
     (breaks_pairs s.crashes s.slows || (breaks_departures s.crashes s.leaves || breaks_pauses s.pauses)) (breaks_times s || breaks_added_times s) (breaks_size s)
 
+-- the least broken of the rules on the values in version 4, in which rule 8 refuses nothing
+unfoldable pub fourth_least_broken_by : Data → Setup → Option ℕ
+fourth_least_broken_by tree s =
+    least_of (breaks_names_in Four (plain_groups tree))
+    (breaks_references tree (plain_groups tree) || (breaks_added_references Four tree (plain_groups tree) || fourth_breaks_references tree (plain_groups tree))) false
+    (breaks_times s || (breaks_added_times s || fourth_breaks_times s)) (breaks_size s)
+
+-- the least broken of the rules on the values in a version
+abbrev pub least_broken_in : Version → Data → Setup → Option ℕ
+least_broken_in One tree s = least_broken_by tree s
+least_broken_in Two tree s = least_broken_by tree s
+least_broken_in Three tree s = least_broken_by tree s
+least_broken_in Four tree s = fourth_least_broken_by tree s
+
 -- the least broken rule of a document
 unfoldable pub least_broken : Data → Option ℕ
-least_broken tree = option_or (least_broken_of_shape (version_of tree) tree) (least_broken_by tree (setup_of_tree tree))
+least_broken tree = option_or (least_broken_of_shape (version_of tree) tree) (least_broken_in (version_of tree) tree (setup_of_tree tree))
 
 -- a document is answered with its scenario, or with the least rule that it breaks
 abbrev pub unless_broken : Setup → Option ℕ → Result Setup ℕ
@@ -220,6 +270,16 @@ second_least_broken tree = option_or (least_broken_of_shape Two tree) (second_le
 -- what a text was answered
 unfoldable pub second_verdict : List ℕ → Result Setup ℕ
 second_verdict bytes = judged_if_read second_least_broken (tree_of bytes)
+
+-- ---- version 3 by itself
+
+-- the least broken of the rules, as it was before there was a version 4
+unfoldable pub third_least_broken : Data → Option ℕ
+third_least_broken tree = option_or (least_broken_of_shape Three tree) (least_broken_by tree (setup_of_tree tree))
+
+-- what a text was answered
+unfoldable pub third_verdict : List ℕ → Result Setup ℕ
+third_verdict bytes = judged_if_read third_least_broken (tree_of bytes)
 
 -- the version of a text; 1 where it is no document
 abbrev pub version_in : List ℕ → Version

@@ -8,7 +8,8 @@ use Rattle.schema.specs.declared.schema.FormatKey.TheVariants as key
 use Rattle.schema.specs.declared.schema.Section.{Section}
 use Rattle.schema.specs.declared.schema.Section.TheVariants as section
 use Rattle.scenario.specs.Setup.{Group}
-use Rattle.scenario_reader.specs.Reading.{member_named}
+use Rattle.scenario_reader.specs.Reading.{member_named, restart_in}
+use Rattle.scenario_reader.specs.Rules.{asks_itself}
 use Rattle.scenario_reader.specs.Roster.{start_in}
 
 -- a contact of a group that starts at moment 0, or one that itself starts later
@@ -27,3 +28,11 @@ is_early_in groups d = option_map_or (λ m. nat_le (number_at section.Departure 
 -- a cut that is over when it begins
 abbrev pub is_cut_over_in : Data → Bool
 is_cut_over_in d = nat_le (number_at section.Cut key.Until (Some d)) (number_at section.Cut key.At (Some d))
+
+-- a restart that isn't after its member's start
+abbrev pub is_early_restart_in : List Group → Data → Bool
+is_early_restart_in groups d = option_map_or (λ m. nat_le (number_at section.Restart key.At (Some d)) (start_in groups m)) (member_named groups (text_at key.Member d)) false
+
+-- a restart whose contact is its member
+abbrev pub asks_itself_in : List Group → Data → Bool
+asks_itself_in groups d = asks_itself (restart_in groups d)

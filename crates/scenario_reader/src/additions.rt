@@ -1,8 +1,9 @@
-//! What versions 2 and 3 add to the rules on the values of a text: leaves, cuts and pauses.
-ghost use Rattle.std.specs.Prelude.{◌≡◌, ◌≢◌, ◌||◌, ℕ, true, false, is_some, nat_eq, map, IfOk, OnOk, IfErr};
+//! What versions 2 and 3 add to the rules on the values of a text: leaves, cuts and pauses. And where what version 4 adds
+//! stands.
+ghost use Rattle.std.specs.Prelude.{◌≡◌, ◌≢◌, ◌||◌, ℕ, true, false, is_some, nat_eq, map, option_map, IfOk, OnOk, IfErr};
 ghost use Rattle.std.specs.List.{list_any};
 ghost use Rattle.toml.specs.View.{view};
-ghost use Rattle.scenario_reader.specs.Reading.{version_of, version_numbered, added_items, pause_items, member_at, plain_groups, crashes_in, leaves_in, pauses_in, setup_of_tree};
+ghost use Rattle.scenario_reader.specs.Reading.{version_of, version_numbered, added_items, pause_items, fourth_items, fourth_table, member_at, plain_groups, crashes_in, leaves_in, pauses_in, setup_of_tree};
 ghost use Rattle.scenario_reader.specs.Rules.{breaks_added_references, breaks_departures, breaks_pauses, breaks_added_times};
 ghost use Rattle.scenario_reader.specs.Times.{is_cut_over_in};
 
@@ -17,7 +18,7 @@ use schema::{FormatKey, Section, Version, items_at, number, whole_or};
 use std::alloc::Global;
 use toml::Value;
 
-/// The version of a document's format: 2 or 3 where it says so, else 1.
+/// The version of a document's format: 2, 3 or 4 where it says so, else 1.
 #[tactic(auto, unfolding(crate::specs::Reading::version_of))]
 pub fn version_of(tree: &Value) -> Version
     ensures { result ≡ version_of (view tree.now) }
@@ -25,7 +26,7 @@ pub fn version_of(tree: &Value) -> Version
     version_numbered(whole_or(0, tree.get(FormatKey::Version.text())))
 }
 
-/// The version of that number, 2 or 3, else version 1.
+/// The version of that number, 2 to 4, else version 1.
 fn version_numbered(number: u64) -> Version
     ensures { result ≡ version_numbered number }
 {
@@ -33,6 +34,8 @@ fn version_numbered(number: u64) -> Version
         Version::Two
     } else if number == 3 {
         Version::Three
+    } else if number == 4 {
+        Version::Four
     } else {
         Version::One
     }
@@ -55,6 +58,26 @@ pub(crate) fn pause_items(version: Version, tree: &Value) -> &[Value]
     match version {
         Version::One | Version::Two => &[],
         Version::Three | Version::Four => items_at(FormatKey::Pause, tree),
+    }
+}
+
+/// The items of a list that version 4 adds.
+pub(crate) fn fourth_items(version: Version, key: FormatKey, tree: &Value) -> &[Value]
+    ensures { map view result.now ≡ fourth_items version key (view tree.now) }
+{
+    match version {
+        Version::One | Version::Two | Version::Three => &[],
+        Version::Four => items_at(key, tree),
+    }
+}
+
+/// A table that version 4 adds, or that has more keys in it.
+pub(crate) fn fourth_table(version: Version, key: FormatKey, tree: &Value) -> Option<&Value>
+    ensures { option_map (λ v. view v.now) result ≡ fourth_table version key (view tree.now) }
+{
+    match version {
+        Version::One | Version::Two | Version::Three => None,
+        Version::Four => tree.get(key.text()),
     }
 }
 

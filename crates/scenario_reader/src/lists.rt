@@ -1,18 +1,19 @@
-//! The lists of a document that breaks no rule: groups, paths, slow times, crashes, leaves, cuts and
-//! pauses.
-ghost use Rattle.std.specs.Prelude.{◌≡◌, ◌≤◌, ◌<◌, ◌++◌, map, sum_by, flat_map, string_bytes, option_and_then, IfOk, OnOk};
+//! The lists of a document that breaks no rule: groups, paths, slow times, crashes, leaves, cuts,
+//! pauses, restarts and blocks.
+ghost use Rattle.std.specs.Prelude.{◌≡◌, ◌≤◌, ◌<◌, ◌++◌, [], ◌∷◌, map, sum_by, flat_map, string_bytes, option_and_then, IfOk, OnOk};
 ghost use Rattle.toml.specs.View.{view};
 ghost use Rattle.schema.specs.Values.{text_if};
 ghost use Rattle.scenario.specs.Setup.{names_in, names_below};
 ghost use Rattle.scenario.specs.SetupOf.{group_of};
-ghost use Rattle.scenario_reader.specs.Reading.{slows_in, crashes_in, leaves_in, cuts_in, pauses_in, pause_in, plain_group, group_in, member_named, group_named, group_at_key, member_at, link_over, path_in, slow_in, crash_in, leave_in, cut_in};
+ghost use Rattle.scenario_reader.specs.Reading.{slows_in, crashes_in, leaves_in, cuts_in, pauses_in, restarts_in, blocks_in, pause_in, restart_in, plain_group, group_in, member_named, group_named, group_at_key, member_at, link_over, path_in, slow_in, crash_in, leave_in, cut_in};
 
-use crate::additions::{added_items, pause_items};
+use crate::additions::{added_items, fourth_items, pause_items};
 use crate::roster::{Found, Roster};
 use base::{MemberId, Memory, Moment};
-use scenario::{Crash, Cut, Group, Leave, Link, Path, Pause, Slow};
+use scenario::{Crash, Cut, Group, Leave, Link, Path, Pause, Restart, Slow};
 use schema::{FormatKey, Section, Version, items_at, number, text, text_if, whole_or};
 use std::alloc::Global;
+use std::slice;
 use toml::Value;
 
 /// How many members a group has.
@@ -28,7 +29,7 @@ pub(crate) fn read_groups(
     roster: &Roster,
     list: &[Value],
 ) -> Result<Vec<Group>, Memory>
-    requires at_most_4096 { sum_by (λ g. g.count) roster.now ≤ 4096 }
+    requires at_most_16384 { sum_by (λ g. g.count) roster.now ≤ 16384 }
     ensures { IfOk result (λ groups. map group_of groups.items ≡ map (λ v. group_in roster.now (view v)) list.now) }
 {
     let mut groups = Vec::new(alloc);
@@ -43,7 +44,7 @@ pub(crate) fn read_groups(
 
 /// One group.
 fn read_group(alloc: Global, roster: &Roster, item: &Value) -> Result<Group, Memory>
-    requires at_most_4096 { sum_by (λ g. g.count) roster.now ≤ 4096 }
+    requires at_most_16384 { sum_by (λ g. g.count) roster.now ≤ 16384 }
     ensures { IfOk result (λ group. group_of group ≡ group_in roster.now (view item.now)) }
 {
     let Ok(name) = String::from_str(alloc, text(FormatKey::Name, item)) else {
@@ -57,9 +58,9 @@ fn read_group(alloc: Global, roster: &Roster, item: &Value) -> Result<Group, Mem
     })
 }
 
-/// Whom the members of a group ask to let them join.
+/// Whom the members of a group, or one that starts again, ask to let them join.
 fn read_contact(roster: &Roster, group: &Value) -> Option<MemberId>
-    requires at_most_4096 { sum_by (λ g. g.count) roster.now ≤ 4096 }
+    requires at_most_16384 { sum_by (λ g. g.count) roster.now ≤ 16384 }
     ensures { result ≡ option_and_then (member_named roster.now) (text_if FormatKey.Contact (view group.now)) }
 {
     match text_if(FormatKey::Contact, group) {
@@ -136,7 +137,7 @@ pub(crate) fn read_script(
     roster: &Roster,
     tree: &Value,
 ) -> Result<Script, Memory>
-    requires at_most_4096 { sum_by (λ g. g.count) roster.now ≤ 4096 }
+    requires at_most_16384 { sum_by (λ g. g.count) roster.now ≤ 16384 }
     ensures slows { IfOk result (λ s. s.slows.items ≡ slows_in roster.now (view tree.now)) }
     ensures crashes { IfOk result (λ s. s.crashes.items ≡ crashes_in roster.now (view tree.now)) }
     ensures leaves { IfOk result (λ s. s.leaves.items ≡ leaves_in version roster.now (view tree.now)) }
@@ -167,9 +168,74 @@ pub(crate) fn read_script(
     })
 }
 
+/// What version 4 adds to this.
+#[derive(Drop)]
+pub(crate) struct FourthScript {
+    pub(crate) restarts: Vec<Restart>,
+    pub(crate) blocks: Vec<Pause>,
+}
+
+/// The restarts and blocks, each in their order.
+pub(crate) fn read_fourth_script(
+    alloc: Global,
+    version: Version,
+    roster: &Roster,
+    tree: &Value,
+) -> Result<FourthScript, Memory>
+    requires at_most_16384 { sum_by (λ g. g.count) roster.now ≤ 16384 }
+    ensures restarts { IfOk result (λ s. s.restarts.items ≡ restarts_in version roster.now (view tree.now)) }
+    ensures blocks { IfOk result (λ s. s.blocks.items ≡ blocks_in version roster.now (view tree.now)) }
+{
+    let Ok(restarts) = read_restarts(
+        alloc,
+        roster,
+        fourth_items(version, FormatKey::Restart, tree),
+    ) else {
+        return Err(Memory);
+    };
+    let Ok(blocks) = read_pauses(alloc, roster, fourth_items(version, FormatKey::Block, tree))
+    else {
+        return Err(Memory);
+    };
+    Ok(FourthScript { restarts, blocks })
+}
+
+/// The restarts in their order.
+fn read_restarts(alloc: Global, roster: &Roster, list: &[Value]) -> Result<Vec<Restart>, Memory>
+    requires at_most_16384 { sum_by (λ g. g.count) roster.now ≤ 16384 }
+    ensures { IfOk result (λ restarts. restarts.items ≡ map (λ v. restart_in roster.now (view v)) list.now) }
+{
+    let mut restarts = Vec::new(alloc);
+    for item in list {
+        let restart = read_restart(roster, item);
+        put_restart(&mut restarts, &restart)?;
+    }
+    Ok(restarts)
+}
+
+/// Puts a copy of the restart at the end of a list.
+fn put_restart(restarts: &mut Vec<Restart>, restart: &Restart) -> Result<(), Memory>
+    ensures { OnOk result (restarts.new.items ≡ restarts.old.items ++ restart.now ∷ []) }
+{
+    restarts.extend_from_slice(slice::from_ref(restart))?;
+    Ok(())
+}
+
+/// One restart.
+fn read_restart(roster: &Roster, item: &Value) -> Restart
+    requires at_most_16384 { sum_by (λ g. g.count) roster.now ≤ 16384 }
+    ensures { result ≡ restart_in roster.now (view item.now) }
+{
+    Restart {
+        member: member_at(roster, item),
+        at: Moment(number(Section::Restart, FormatKey::At, Some(item))),
+        contact: read_contact(roster, item),
+    }
+}
+
 /// The times in which members are slow, in their order.
 fn read_slows(alloc: Global, roster: &Roster, list: &[Value]) -> Result<Vec<Slow>, Memory>
-    requires at_most_4096 { sum_by (λ g. g.count) roster.now ≤ 4096 }
+    requires at_most_16384 { sum_by (λ g. g.count) roster.now ≤ 16384 }
     ensures { IfOk result (λ slows. slows.items ≡ map (λ v. slow_in roster.now (view v)) list.now) }
 {
     let mut slows = Vec::new(alloc);
@@ -181,7 +247,7 @@ fn read_slows(alloc: Global, roster: &Roster, list: &[Value]) -> Result<Vec<Slow
 
 /// One time in which a member is slow.
 fn read_slow(roster: &Roster, item: &Value) -> Slow
-    requires at_most_4096 { sum_by (λ g. g.count) roster.now ≤ 4096 }
+    requires at_most_16384 { sum_by (λ g. g.count) roster.now ≤ 16384 }
     ensures { result ≡ slow_in roster.now (view item.now) }
 {
     Slow {
@@ -194,7 +260,7 @@ fn read_slow(roster: &Roster, item: &Value) -> Slow
 
 /// The crashes in their order.
 fn read_crashes(alloc: Global, roster: &Roster, list: &[Value]) -> Result<Vec<Crash>, Memory>
-    requires at_most_4096 { sum_by (λ g. g.count) roster.now ≤ 4096 }
+    requires at_most_16384 { sum_by (λ g. g.count) roster.now ≤ 16384 }
     ensures { IfOk result (λ crashes. crashes.items ≡ map (λ v. crash_in roster.now (view v)) list.now) }
 {
     let mut crashes = Vec::new(alloc);
@@ -206,7 +272,7 @@ fn read_crashes(alloc: Global, roster: &Roster, list: &[Value]) -> Result<Vec<Cr
 
 /// One crash.
 fn read_crash(roster: &Roster, item: &Value) -> Crash
-    requires at_most_4096 { sum_by (λ g. g.count) roster.now ≤ 4096 }
+    requires at_most_16384 { sum_by (λ g. g.count) roster.now ≤ 16384 }
     ensures { result ≡ crash_in roster.now (view item.now) }
 {
     Crash {
@@ -217,7 +283,7 @@ fn read_crash(roster: &Roster, item: &Value) -> Crash
 
 /// The leaves in their order.
 fn read_leaves(alloc: Global, roster: &Roster, list: &[Value]) -> Result<Vec<Leave>, Memory>
-    requires at_most_4096 { sum_by (λ g. g.count) roster.now ≤ 4096 }
+    requires at_most_16384 { sum_by (λ g. g.count) roster.now ≤ 16384 }
     ensures { IfOk result (λ leaves. leaves.items ≡ map (λ v. leave_in roster.now (view v)) list.now) }
 {
     let mut leaves = Vec::new(alloc);
@@ -229,7 +295,7 @@ fn read_leaves(alloc: Global, roster: &Roster, list: &[Value]) -> Result<Vec<Lea
 
 /// One leave.
 fn read_leave(roster: &Roster, item: &Value) -> Leave
-    requires at_most_4096 { sum_by (λ g. g.count) roster.now ≤ 4096 }
+    requires at_most_16384 { sum_by (λ g. g.count) roster.now ≤ 16384 }
     ensures { result ≡ leave_in roster.now (view item.now) }
 {
     Leave {
@@ -261,9 +327,9 @@ fn read_cut(roster: &Roster, item: &Value) -> Cut
     }
 }
 
-/// The pauses in their order.
+/// The pauses or blocks in their order.
 fn read_pauses(alloc: Global, roster: &Roster, list: &[Value]) -> Result<Vec<Pause>, Memory>
-    requires at_most_4096 { sum_by (λ g. g.count) roster.now ≤ 4096 }
+    requires at_most_16384 { sum_by (λ g. g.count) roster.now ≤ 16384 }
     ensures { IfOk result (λ pauses. pauses.items ≡ map (λ v. pause_in roster.now (view v)) list.now) }
 {
     let mut pauses = Vec::new(alloc);
@@ -273,9 +339,9 @@ fn read_pauses(alloc: Global, roster: &Roster, list: &[Value]) -> Result<Vec<Pau
     Ok(pauses)
 }
 
-/// One pause.
+/// One pause or block.
 fn read_pause(roster: &Roster, item: &Value) -> Pause
-    requires at_most_4096 { sum_by (λ g. g.count) roster.now ≤ 4096 }
+    requires at_most_16384 { sum_by (λ g. g.count) roster.now ≤ 16384 }
     ensures { result ≡ pause_in roster.now (view item.now) }
 {
     Pause {
@@ -287,7 +353,7 @@ fn read_pause(roster: &Roster, item: &Value) -> Pause
 
 /// The member of which an item speaks.
 fn member_at(roster: &Roster, item: &Value) -> MemberId
-    requires at_most_4096 { sum_by (λ g. g.count) roster.now ≤ 4096 }
+    requires at_most_16384 { sum_by (λ g. g.count) roster.now ≤ 16384 }
     ensures { result ≡ member_at roster.now FormatKey.Member (view item.now) }
 {
     match roster.find(text(FormatKey::Member, item)) {

@@ -2,7 +2,7 @@
 ghost use Rattle.std.specs.Prelude.{◌≡◌, true, false, is_some, OnOk, IfErr};
 ghost use Rattle.std.specs.List.{list_any};
 ghost use Rattle.toml.specs.View.{view};
-ghost use Rattle.scenario_reader.specs.Rules.{has_lost_contact, names_no_member, names_no_group, breaks_references};
+ghost use Rattle.scenario_reader.specs.Rules.{has_lost_contact, names_no_member, names_no_group, breaks_references, fourth_breaks_references};
 
 use crate::refusal::Refusal;
 use crate::roster::Roster;
@@ -29,7 +29,24 @@ pub(crate) fn check_references(roster: &Roster, tree: &Value) -> Result<(), Refu
     }
 }
 
-/// The index of the first group whose contact is no member.
+/// Refuses a restart or a block that names no member, and a restart whose contact is no member.
+pub(crate) fn check_fourth_references(roster: &Roster, tree: &Value) -> Result<(), Refusal>
+    ensures ok { OnOk result (fourth_breaks_references (view tree.now) roster.now ≡ false) }
+    ensures err { IfErr result (λ r. (r.rule ≡ 7) × (fourth_breaks_references (view tree.now) roster.now ≡ true)) }
+{
+    if let Some(i) = first_stranger(roster, items_at(FormatKey::Restart, tree)) {
+        return Err(Refusal::in_item(7, i));
+    }
+    if let Some(i) = first_lost_contact(roster, items_at(FormatKey::Restart, tree)) {
+        return Err(Refusal::in_item(7, i));
+    }
+    match first_stranger(roster, items_at(FormatKey::Block, tree)) {
+        Some(i) => Err(Refusal::in_item(7, i)),
+        None => Ok(()),
+    }
+}
+
+/// The index of the first group or restart whose contact is no member.
 fn first_lost_contact(roster: &Roster, list: &[Value]) -> Option<usize>
     ensures { is_some result ≡ list_any (λ v. has_lost_contact roster.now (view v)) list.now }
 {
@@ -41,7 +58,7 @@ fn first_lost_contact(roster: &Roster, list: &[Value]) -> Option<usize>
     None
 }
 
-/// Whether a group has a contact that is no member.
+/// Whether a group or a restart has a contact that is no member.
 fn has_lost_contact(roster: &Roster, group: &Value) -> bool
     ensures { result ≡ has_lost_contact roster.now (view group.now) }
 {
@@ -51,7 +68,7 @@ fn has_lost_contact(roster: &Roster, group: &Value) -> bool
     }
 }
 
-/// The index of the first slow time, crash, leave or pause of nobody.
+/// The index of the first slow time, crash, leave, restart, pause or block of nobody.
 pub(crate) fn first_stranger(roster: &Roster, list: &[Value]) -> Option<usize>
     ensures { is_some result ≡ list_any (λ v. names_no_member roster.now (view v)) list.now }
 {
@@ -63,7 +80,7 @@ pub(crate) fn first_stranger(roster: &Roster, list: &[Value]) -> Option<usize>
     None
 }
 
-/// Whether a slow time, a crash, a leave or a pause is of nobody.
+/// Whether a slow time, a crash, a leave, a restart, a pause or a block is of nobody.
 fn names_no_member(roster: &Roster, item: &Value) -> bool
     ensures { result ≡ names_no_member roster.now (view item.now) }
 {

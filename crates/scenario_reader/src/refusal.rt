@@ -9,11 +9,11 @@ pub struct Refusal {
     /// The least rule that the text breaks:
     /// 1 it is no TOML document, 2 a required table or key is missing, 3 a key is unknown,
     /// 4 a value is of another kind, 5 a whole number is outside its range, 6 a group name is of
-    /// another form or stands twice, 7 a name is no member's or no group's, 8 a member crashes or leaves
-    /// twice, or both, or two of its slow times or of its pauses overlap, 9 the timeout isn't below the
-    /// period, a contact may not be, a crash or a leave isn't after the start, or a slow time, a cut or a
-    /// pause is over when it begins, 10 there are more members than 1,024, or 4,096 from version 2 on;
-    /// 11 memory was refused.
+    /// another form or stands twice, 7 a name is no member's or no group's, 8 before version 4 a member
+    /// crashes or leaves twice, or both, or two of its slow times or of its pauses overlap, 9 the timeout
+    /// isn't below the period, a contact may not be, a crash, a leave or a restart isn't after the start, or
+    /// a slow time, a cut, a pause or a block is over when it begins, 10 there are more members than 1,024,
+    /// or 4,096 in versions 2 and 3, or 16,384 in version 4; 11 memory was refused.
     pub rule: u8,
     /// Where the text breaks the rule, for people. For rule 1 the byte at which the fault begins,
     /// counted from 0; else the number of the item of a list that breaks it, counted from 1, or

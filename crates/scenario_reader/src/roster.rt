@@ -3,15 +3,15 @@ ghost use Rattle.std.specs.Prelude.{◌≡◌, ◌≢◌, ◌<◌, ◌^◌, ◌+
 ghost use Rattle.std.specs.List.{list_all};
 ghost use Rattle.toml.specs.View.{view};
 ghost use Rattle.scenario_reader.specs.Reading.{plain_group, member_named, group_named};
-ghost use Rattle.scenario.specs.GroupNames.{starts_with_letter, is_name_byte, is_group_name};
-ghost use Rattle.scenario_reader.specs.Rules.{breaks_name, breaks_names};
+ghost use Rattle.scenario.specs.GroupNames.{begins_with_letter, ends_with_dash, is_group_name, is_name_byte, is_name_of, is_wide_byte, is_wide_name, starts_with_letter};
+ghost use Rattle.scenario_reader.specs.Rules.{breaks_name, breaks_names_in};
 ghost use Rattle.scenario_reader.specs.Roster.{named_group, start_in};
 
 use crate::refusal::Refusal;
 use base::{Memory, Moment};
 use indexmap::IndexMap;
 use itoa::Buffer;
-use schema::{FormatKey, Section, number, text};
+use schema::{FormatKey, Section, Version, number, text};
 use std::alloc::Global;
 use std::marker::Model;
 use toml::Value;
@@ -56,19 +56,25 @@ impl Model for Roster {
 }
 
 impl Roster {
-    /// The groups of a list in their order. Refused are a name of another form and a second group of
-    /// one name.
-    pub(crate) fn read(alloc: Global, list: &[Value]) -> Result<Roster, Refusal>
+    /// The groups of a list in their order. Refused are a name of another form than names have in the version, and a
+    /// second group of one name.
+    pub(crate) fn read(alloc: Global, version: Version, list: &[Value]) -> Result<Roster, Refusal>
         ensures ok { IfOk result (λ roster. roster ≡ map (λ v. plain_group (view v)) list.now) }
-        ensures fine { OnOk result (breaks_names (map (λ v. plain_group (view v)) list.now) ≡ false) }
-        ensures err { IfErr result (λ r. r.rule ≢ 11 → (r.rule ≡ 6) × (breaks_names (map (λ v. plain_group (view v)) list.now) ≡ true)) }
+        ensures fine { OnOk result (breaks_names_in version (map (λ v. plain_group (view v)) list.now) ≡ false) }
+        ensures err { IfErr result (λ r. r.rule ≢ 11 → (r.rule ≡ 6) × (breaks_names_in version (map (λ v. plain_group (view v)) list.now) ≡ true)) }
     {
         let mut groups = IndexMap::new(alloc);
         let mut first = 0;
         for (i, item) in list.iter().enumerate() {
             let block = read_block(first, item);
             let count = block.count;
-            match add_group(alloc, &mut groups, text(FormatKey::Name, item), block) {
+            match add_group(
+                alloc,
+                version,
+                &mut groups,
+                text(FormatKey::Name, item),
+                block,
+            ) {
                 Ok(true) => first += u128::from(count),
                 Ok(false) => return Err(Refusal::in_item(6, i)),
                 Err(Memory) => return Err(Refusal::memory()),
@@ -90,7 +96,7 @@ impl Roster {
         ensures start { IfSome result (λ f. f.start ≡ start_in self.now f.number) }
         ensures within { IfSome result (λ f. f.number < sum_by (λ g. g.count) self.now) }
     {
-        let Some((group, index)) = name.split_once('-') else {
+        let Some((group, index)) = name.rsplit_once('-') else {
             return None;
         };
         let Some(block) = self.groups.get(group) else {
@@ -125,15 +131,16 @@ fn read_block(first: u128, group: &Value) -> Block
 /// Adds a group at the end, unless its name has another form or is taken.
 fn add_group(
     alloc: Global,
+    version: Version,
     groups: &mut IndexMap<String, Block>,
     name: &str,
     block: Block,
 ) -> Result<bool, Memory>
     ensures added { result ≡ Ok true → map named_group groups.new.entries ≡ map named_group groups.old.entries ++ record { name = name.now; count = block.count; start = block.start; contact = None } ∷ [] }
     ensures numbered { result ≡ Ok true → map (λ e. e.1) groups.new.entries ≡ map (λ e. e.1) groups.old.entries ++ block ∷ [] }
-    ensures fine { IfOk result (λ added. added ≡ not (breaks_name (map named_group groups.old.entries) name.now)) }
+    ensures fine { IfOk result (λ added. added ≡ not (breaks_name version (map named_group groups.old.entries) name.now)) }
 {
-    if !is_group_name(name.as_bytes()) {
+    if !is_name_of(version, name.as_bytes()) {
         return Ok(false);
     }
     let Ok(key) = String::from_str(alloc, name) else {
@@ -143,6 +150,58 @@ fn add_group(
         Ok(None) => Ok(true),
         Ok(Some(_)) => Ok(false),
         Err(_) => Err(Memory),
+    }
+}
+
+/// Whether a group's name has the form that it has in the version.
+fn is_name_of(version: Version, name: &[u8]) -> bool
+    ensures { result ≡ is_name_of version name.now }
+{
+    match version {
+        Version::One | Version::Two | Version::Three => is_group_name(name),
+        Version::Four => is_wide_name(name),
+    }
+}
+
+/// Whether a name is 1 to 32 letters, digits, `-` and `_`, the first a letter and the last not `-`.
+fn is_wide_name(name: &[u8]) -> bool
+    ensures { result ≡ is_wide_name name.now }
+{
+    name.len() <= 32
+        && (begins_with_letter(name) && (are_wide_bytes(name) && !ends_with_dash(name)))
+}
+
+/// Whether the first byte is a letter.
+fn begins_with_letter(bytes: &[u8]) -> bool
+    ensures { result ≡ begins_with_letter bytes.now }
+{
+    match bytes.first() {
+        Some(first) => first.is_ascii_alphabetic(),
+        None => false,
+    }
+}
+
+/// Whether all are letters, digits, `-` and `_`.
+fn are_wide_bytes(bytes: &[u8]) -> bool
+    ensures { result ≡ list_all is_wide_byte bytes.now }
+{
+    bytes.iter().all(|byte| is_wide_byte(*byte))
+}
+
+/// Whether a byte is a letter, a digit, `-` or `_`.
+fn is_wide_byte(byte: u8) -> bool
+    ensures { result ≡ is_wide_byte byte }
+{
+    (byte.is_ascii_alphabetic() || byte.is_ascii_digit()) || (byte == b'-' || byte == b'_')
+}
+
+/// Whether the last byte is `-`.
+fn ends_with_dash(bytes: &[u8]) -> bool
+    ensures { result ≡ ends_with_dash bytes.now }
+{
+    match bytes.last() {
+        Some(last) => *last == b'-',
+        None => false,
     }
 }
 

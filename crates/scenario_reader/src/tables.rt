@@ -1,10 +1,10 @@
 //! The tables of settings that stand once in a text.
 ghost use Rattle.std.specs.Prelude.{◌≡◌, option_map};
 ghost use Rattle.toml.specs.View.{view};
-ghost use Rattle.scenario_reader.specs.Reading.{fallback_in, gossip_of, stream_table, setup_of_tree};
+ghost use Rattle.scenario_reader.specs.Reading.{fallback_in, gossip_of, queue_in, serf_in, stream_table, setup_of_tree};
 
-use crate::additions::version_of;
-use scenario::{Gossip, Lifeguard, Link, StreamTimes, Suspicion, Swim};
+use crate::additions::{fourth_table, version_of};
+use scenario::{DialTimes, Gossip, Lifeguard, Link, Queue, Serf, StreamTimes, Suspicion, Swim};
 use schema::{FormatKey, Section, Version, number, switch, switch_set};
 use toml::Value;
 
@@ -121,5 +121,64 @@ fn stream_table(version: Version, tree: &Value) -> Option<&Value>
     match version {
         Version::One | Version::Two => None,
         Version::Three | Version::Four => tree.get(FormatKey::Stream.text()),
+    }
+}
+
+/// How packets are filled from memberlist's queue; none where they aren't, as before version 4.
+#[tactic(auto, unfolding(crate::specs::Reading::setup_of_tree))]
+pub(crate) fn read_queue(tree: &Value) -> Option<Queue>
+    ensures { result ≡ (setup_of_tree (view tree.now)).queue }
+{
+    match fourth_table(version_of(tree), FormatKey::Gossip, tree) {
+        Some(table) => queue_in(table),
+        None => None,
+    }
+}
+
+/// What a table says of the queue.
+fn queue_in(table: &Value) -> Option<Queue>
+    ensures { result ≡ queue_in (view table.now) }
+{
+    if switch_set(FormatKey::Queue, Some(table)) {
+        Some(Queue {
+            packet: number(Section::Gossip, FormatKey::Packet, Some(table)),
+            meta: number(Section::Gossip, FormatKey::Meta, Some(table)),
+        })
+    } else {
+        None
+    }
+}
+
+/// How long members wait for connections.
+#[tactic(auto, unfolding(crate::specs::Reading::setup_of_tree))]
+pub(crate) fn read_dial(tree: &Value) -> DialTimes
+    ensures { result ≡ (setup_of_tree (view tree.now)).dial }
+{
+    let table = fourth_table(version_of(tree), FormatKey::Stream, tree);
+    DialTimes {
+        limit: number(Section::Stream, FormatKey::Limit, table),
+        retry: number(Section::Stream, FormatKey::Retry, table),
+    }
+}
+
+/// How members leave and reconnect as Serf's do; none where they don't, as before version 4.
+#[tactic(auto, unfolding(crate::specs::Reading::setup_of_tree))]
+pub(crate) fn read_serf(tree: &Value) -> Option<Serf>
+    ensures { result ≡ (setup_of_tree (view tree.now)).serf }
+{
+    match fourth_table(version_of(tree), FormatKey::Serf, tree) {
+        Some(table) => Some(serf_in(table)),
+        None => None,
+    }
+}
+
+/// What a table says of how members leave and reconnect.
+fn serf_in(table: &Value) -> Serf
+    ensures { result ≡ serf_in (view table.now) }
+{
+    Serf {
+        reconnect: number(Section::Serf, FormatKey::Reconnect, Some(table)),
+        reap: number(Section::Serf, FormatKey::Reap, Some(table)),
+        linger: number(Section::Serf, FormatKey::Linger, Some(table)),
     }
 }

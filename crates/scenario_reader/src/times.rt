@@ -3,11 +3,13 @@ ghost use Rattle.std.specs.Prelude.{◌≡◌, true, false, is_some, nat_le, nat
 ghost use Rattle.std.specs.List.{list_any};
 ghost use Rattle.toml.specs.View.{view};
 ghost use Rattle.schema.specs.Values.{text_if};
-ghost use Rattle.scenario_reader.specs.Reading.{member_named, plain_groups, setup_of_tree};
-ghost use Rattle.scenario_reader.specs.Rules.{breaks_references, breaks_times};
+ghost use Rattle.scenario_reader.specs.Reading.{member_named, version_of, plain_groups, setup_of_tree};
+ghost use Rattle.schema.specs.declared.schema.Version.TheVariants.{Four};
+ghost use Rattle.scenario_reader.specs.Rules.{breaks_references, breaks_times, fourth_breaks_references, fourth_breaks_times};
 ghost use Rattle.scenario_reader.specs.Roster.{start_in};
-ghost use Rattle.scenario_reader.specs.Times.{is_bad_contact_in, is_early_in, is_over_in};
+ghost use Rattle.scenario_reader.specs.Times.{asks_itself_in, is_bad_contact_in, is_early_in, is_early_restart_in, is_over_in};
 
+use crate::pairs::member;
 use crate::refusal::Refusal;
 use crate::roster::{Found, Roster};
 use crate::tables::read_swim;
@@ -39,6 +41,72 @@ pub(crate) fn check_times(roster: &Roster, tree: &Value) -> Result<(), Refusal>
     }
 }
 
+/// Refuses a restart that isn't after its member's start or whose contact is its member, and a block that is over when it
+/// begins.
+pub(crate) fn check_fourth_times(roster: &Roster, tree: &Value) -> Result<(), Refusal>
+    requires groups { roster.now ≡ plain_groups (view tree.now) }
+    requires version { version_of (view tree.now) ≡ Four }
+    requires known { fourth_breaks_references (view tree.now) roster.now ≡ false }
+    ensures ok { OnOk result (fourth_breaks_times (setup_of_tree (view tree.now)) ≡ false) }
+    ensures err { IfErr result (λ r. (r.rule ≡ 9) × (fourth_breaks_times (setup_of_tree (view tree.now)) ≡ true)) }
+{
+    let restarts = items_at(FormatKey::Restart, tree);
+    if let Some(i) = first_early_restart(roster, restarts) {
+        return Err(Refusal::in_item(9, i));
+    }
+    if let Some(i) = first_asking_itself(roster, restarts) {
+        return Err(Refusal::in_item(9, i));
+    }
+    match first_over(Section::Pause, items_at(FormatKey::Block, tree)) {
+        Some(i) => Err(Refusal::in_item(9, i)),
+        None => Ok(()),
+    }
+}
+
+/// The index of the first restart that isn't after its member's start.
+fn first_early_restart(roster: &Roster, list: &[Value]) -> Option<usize>
+    ensures { is_some result ≡ list_any (λ v. is_early_restart_in roster.now (view v)) list.now }
+{
+    for (i, item) in list.iter().enumerate() {
+        if is_early_restart(roster, item) {
+            return Some(i);
+        }
+    }
+    None
+}
+
+/// Whether a restart isn't after its member's start.
+fn is_early_restart(roster: &Roster, item: &Value) -> bool
+    ensures { result ≡ is_early_restart_in roster.now (view item.now) }
+{
+    match roster.find(text(FormatKey::Member, item)) {
+        Some(found) => number(Section::Restart, FormatKey::At, Some(item)) <= found.start.ticks(),
+        None => false,
+    }
+}
+
+/// The index of the first restart whose contact is its member.
+fn first_asking_itself(roster: &Roster, list: &[Value]) -> Option<usize>
+    ensures { is_some result ≡ list_any (λ v. asks_itself_in roster.now (view v)) list.now }
+{
+    for (i, item) in list.iter().enumerate() {
+        if asks_itself(roster, item) {
+            return Some(i);
+        }
+    }
+    None
+}
+
+/// Whether the contact of a restart is its member.
+fn asks_itself(roster: &Roster, item: &Value) -> bool
+    ensures { result ≡ asks_itself_in roster.now (view item.now) }
+{
+    match contact(roster, item) {
+        Some(found) => found.number == member(roster, item),
+        None => false,
+    }
+}
+
 /// The index of the first group whose contact may not be.
 fn first_bad_contact(roster: &Roster, list: &[Value]) -> Option<usize>
     ensures { is_some result ≡ list_any (λ v. is_bad_contact_in roster.now (view v)) list.now }
@@ -62,7 +130,7 @@ fn is_bad_contact(roster: &Roster, group: &Value) -> bool
     }
 }
 
-/// The contact of a group.
+/// The contact of a group or of a restart.
 fn contact(roster: &Roster, group: &Value) -> Option<Found>
     ensures number { option_map (λ f. f.number) result ≡ option_and_then (member_named roster.now) (text_if FormatKey.Contact (view group.now)) }
     ensures start { IfSome result (λ f. f.start ≡ start_in roster.now f.number) }
@@ -73,7 +141,7 @@ fn contact(roster: &Roster, group: &Value) -> Option<Found>
     }
 }
 
-/// The index of the first slow time or pause that is over when it begins.
+/// The index of the first slow time, pause or block that is over when it begins.
 pub(crate) fn first_over(section: Section, list: &[Value]) -> Option<usize>
     ensures { is_some result ≡ list_any (λ v. is_over_in section (view v)) list.now }
 {
@@ -85,7 +153,7 @@ pub(crate) fn first_over(section: Section, list: &[Value]) -> Option<usize>
     None
 }
 
-/// Whether a slow time or a pause is over when it begins.
+/// Whether a slow time, a pause or a block is over when it begins.
 fn is_over(section: Section, item: &Value) -> bool
     ensures { result ≡ is_over_in section (view item.now) }
 {

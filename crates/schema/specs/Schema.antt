@@ -63,6 +63,17 @@ spelling_of key.Dead = codes "dead"
 spelling_of key.Push = codes "push"
 spelling_of key.Connect = codes "connect"
 spelling_of key.Again = codes "again"
+spelling_of key.Restart = codes "restart"
+spelling_of key.Block = codes "block"
+spelling_of key.Serf = codes "serf"
+spelling_of key.Queue = codes "queue"
+spelling_of key.Packet = codes "packet"
+spelling_of key.Meta = codes "meta"
+spelling_of key.Limit = codes "limit"
+spelling_of key.Retry = codes "retry"
+spelling_of key.Reconnect = codes "reconnect"
+spelling_of key.Reap = codes "reap"
+spelling_of key.Linger = codes "linger"
 
 -- a key that has to be there
 abbrev required : FormatKey → Kind → KeyRule
@@ -96,7 +107,7 @@ abbrev pub most_members : Version → ℕ
 most_members One = 1024
 most_members Two = 4096
 most_members Three = 4096
-most_members Four = 4096
+most_members Four = 16384
 
 -- what later versions add to the whole text
 abbrev pub added_keys : Version → List KeyRule
@@ -115,6 +126,30 @@ added_keys Four =
     ∷ optional key.Gossip (Table section.Gossip)
     ∷ optional key.Stream (Table section.Stream)
     ∷ optional key.Pause (kind.List section.Pause)
+    ∷ optional key.Restart (kind.List section.Restart)
+    ∷ optional key.Block (kind.List section.Pause)
+    ∷ optional key.Serf (Table section.Serf)
+    ∷ []
+
+-- what version 4 adds to how members gossip between their probes
+abbrev pub added_to_gossip : Version → List KeyRule
+added_to_gossip One = []
+added_to_gossip Two = []
+added_to_gossip Three = []
+added_to_gossip Four =
+    off key.Queue
+    ∷ or_else 0 key.Packet (Whole 0 65507)
+    ∷ or_else 0 key.Meta (Whole 0 512)
+    ∷ []
+
+-- what version 4 adds to how streams are opened
+abbrev pub added_to_stream : Version → List KeyRule
+added_to_stream One = []
+added_to_stream Two = []
+added_to_stream Three = []
+added_to_stream Four =
+    or_else 10000 key.Limit (Whole 1 (2 ^ 24))
+    ∷ or_else 30000 key.Retry (Whole 1 (2 ^ 24))
     ∷ []
 
 -- what versions 3 and 4 add to how members probe
@@ -199,13 +234,23 @@ key_rules_of v section.Gossip =
     ∷ or_else 3 key.Nodes (Whole 1 16)
     ∷ or_else 0 key.Dead (Whole 0 (2 ^ 40))
     ∷ or_else 0 key.Push (Whole 0 (2 ^ 24))
-    ∷ []
+    ∷ added_to_gossip v
 key_rules_of v section.Stream =
     or_else 1000 key.Connect (Whole 1 (2 ^ 24))
     ∷ or_else 200 key.Again (Whole 1 (2 ^ 24))
-    ∷ []
+    ∷ added_to_stream v
 key_rules_of v section.Pause =
     required key.Member Text
     ∷ required key.From (Whole 0 (2 ^ 40))
     ∷ required key.Until (Whole 0 (2 ^ 40))
+    ∷ []
+key_rules_of v section.Restart =
+    required key.Member Text
+    ∷ required key.At (Whole 0 (2 ^ 40))
+    ∷ optional key.Contact Text
+    ∷ []
+key_rules_of v section.Serf =
+    or_else 30000 key.Reconnect (Whole 1 (2 ^ 24))
+    ∷ or_else 86400000 key.Reap (Whole 0 (2 ^ 40))
+    ∷ or_else 1000 key.Linger (Whole 1 (2 ^ 24))
     ∷ []

@@ -79,6 +79,20 @@ table_breaks v WrongKind p = is_none (as_table p.value) || list_any (has_fault i
 -- rule 5: a whole number is outside its range
 table_breaks v OutOfRange p = list_any (has_fault is_outside p.value) (key_rules_of v p.section)
 
+-- a key is missing, or its value is of another kind or outside its range
+abbrev pub row_is_broken : Data → KeyRule → Bool
+row_is_broken d row = is_missing d row || has_fault (λ k found. is_other_kind k found || is_outside k found) d row
+
+-- the part breaks some rule: it is no table, a key is unknown, or that of a row is broken
+unfoldable pub table_is_broken : Version → SectionTable → Bool
+table_is_broken v p =
+    is_none (as_table p.value)
+    || (list_any (λ key. is_none (rule_named (key_rules_of v p.section) key)) (keys_of p.value) || list_any (row_is_broken p.value) (key_rules_of v p.section))
+
+-- some part of the document breaks some rule
+unfoldable pub is_broken : Version → Data → Bool
+is_broken v tree = list_any (table_is_broken v) (tables_of v tree)
+
 -- some part of the document breaks the rule
 unfoldable pub breaks : Version → Check → Data → Bool
 breaks v check tree = list_any (table_breaks v check) (tables_of v tree)

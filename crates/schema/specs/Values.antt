@@ -4,7 +4,7 @@ use Rattle.std.specs.Option.{option_map_or}
 use Rattle.toml.specs.Data.{Data, integer, boolean, as_str}
 use Rattle.schema.specs.Schema.{spelling_of, key_rules_of}
 use Rattle.schema.specs.Tree.{value_at, rule_named}
-use Rattle.schema.specs.declared.schema.Version.TheVariants.{One}
+use Rattle.schema.specs.declared.schema.Version.TheVariants.{Four}
 use Rattle.schema.specs.declared.schema.FormatKey.{FormatKey}
 use Rattle.schema.specs.declared.schema.Section.{Section}
 use Rattle.schema.specs.declared.schema.Absence.{Absence}
@@ -15,9 +15,9 @@ abbrev pub default_in : Absence → ℕ
 default_in (Default n) = n
 default_in _ = 0
 
--- the default of a key of a section, which is that of version 1 in each version
+-- the default of a key of a section, which is that of version 4 in each version that has the key
 abbrev pub default_of : Section → FormatKey → ℕ
-default_of s key = option_map_or (λ row. default_in row.absence) (rule_named (key_rules_of One s) (spelling_of key)) 0
+default_of s key = option_map_or (λ row. default_in row.absence) (rule_named (key_rules_of Four s) (spelling_of key)) 0
 
 -- a whole number that is there, else the default
 abbrev pub whole_or : ℕ → Option Data → ℕ

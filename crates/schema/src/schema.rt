@@ -4,10 +4,10 @@ ghost use Rattle.std.specs.Prelude.{◌≡◌};
 ghost use Rattle.schema.specs.Schema.{most_members, spelling_of, key_rules_of};
 
 use crate::tables::{
-    CUT, DEPARTURE, GOSSIP, GROUP_1, GROUP_2, LIFEGUARD, LINK, PATH, PAUSE, SLOW, STREAM,
-    SUSPICION, SWIM_1, SWIM_3, TOP_1, TOP_2, TOP_3, TOP_4,
+    CUT, DEPARTURE, GOSSIP_3, GOSSIP_4, GROUP_1, GROUP_2, GROUP_4, LIFEGUARD, LINK, PATH, PAUSE,
+    RESTART, SERF, SLOW, STREAM_3, STREAM_4, SUSPICION, SWIM_1, SWIM_3, TOP_1, TOP_2, TOP_3, TOP_4,
 };
-use base::limits::{MOST_MEMBERS, MOST_MEMBERS_AT_FIRST};
+use base::limits::{MOST_MEMBERS, MOST_MEMBERS_AT_FIRST, MOST_MEMBERS_BEFORE_4};
 
 /// A version of the format.
 #[derive(Clone, Copy, Debug, PartialEq, Eq)]
@@ -18,7 +18,7 @@ pub enum Version {
     Two,
     /// Members follow memberlist's rules, and their processes pause.
     Three,
-    /// They follow all rules of memberlist 0.5.0. No text is of this version yet: the reader refuses its number.
+    /// They follow all rules of memberlist 0.5.0, start again, and leave as Serf's do; clusters are larger yet.
     Four,
 }
 
@@ -29,7 +29,8 @@ impl Version {
     {
         match self {
             Version::One => MOST_MEMBERS_AT_FIRST,
-            Version::Two | Version::Three | Version::Four => MOST_MEMBERS,
+            Version::Two | Version::Three => MOST_MEMBERS_BEFORE_4,
+            Version::Four => MOST_MEMBERS,
         }
     }
 }
@@ -86,6 +87,17 @@ pub enum FormatKey {
     Push,
     Connect,
     Again,
+    Restart,
+    Block,
+    Serf,
+    Queue,
+    Packet,
+    Meta,
+    Limit,
+    Retry,
+    Reconnect,
+    Reap,
+    Linger,
 }
 
 impl FormatKey {
@@ -144,6 +156,17 @@ impl FormatKey {
             FormatKey::Push => "push",
             FormatKey::Connect => "connect",
             FormatKey::Again => "again",
+            FormatKey::Restart => "restart",
+            FormatKey::Block => "block",
+            FormatKey::Serf => "serf",
+            FormatKey::Queue => "queue",
+            FormatKey::Packet => "packet",
+            FormatKey::Meta => "meta",
+            FormatKey::Limit => "limit",
+            FormatKey::Retry => "retry",
+            FormatKey::Reconnect => "reconnect",
+            FormatKey::Reap => "reap",
+            FormatKey::Linger => "linger",
         }
     }
 }
@@ -171,8 +194,12 @@ pub enum Section {
     Gossip,
     /// How streams between members send again.
     Stream,
-    /// One item of the list of times in which a member's process is paused.
+    /// One item of the list of times in which a member's process is paused, or of that of blocks.
     Pause,
+    /// One item of the list of restarts.
+    Restart,
+    /// How members leave and reconnect.
+    Serf,
 }
 
 impl Section {
@@ -192,9 +219,11 @@ impl Section {
             Section::Slow => &SLOW,
             Section::Departure => &DEPARTURE,
             Section::Cut => &CUT,
-            Section::Gossip => &GOSSIP,
-            Section::Stream => &STREAM,
+            Section::Gossip => gossip_rows(version),
+            Section::Stream => stream_rows(version),
             Section::Pause => &PAUSE,
+            Section::Restart => &RESTART,
+            Section::Serf => &SERF,
         }
     }
 }
@@ -230,7 +259,30 @@ fn group_rows(version: Version) -> &'static [KeyRule]
 {
     match version {
         Version::One => &GROUP_1,
-        Version::Two | Version::Three | Version::Four => &GROUP_2,
+        Version::Two | Version::Three => &GROUP_2,
+        Version::Four => &GROUP_4,
+    }
+}
+
+/// The keys of how members gossip between their probes.
+#[tactic(auto, unfolding(crate::specs::Schema::key_rules_of))]
+fn gossip_rows(version: Version) -> &'static [KeyRule]
+    ensures { result.now ≡ key_rules_of version Section.Gossip }
+{
+    match version {
+        Version::One | Version::Two | Version::Three => &GOSSIP_3,
+        Version::Four => &GOSSIP_4,
+    }
+}
+
+/// The keys of how streams send again.
+#[tactic(auto, unfolding(crate::specs::Schema::key_rules_of))]
+fn stream_rows(version: Version) -> &'static [KeyRule]
+    ensures { result.now ≡ key_rules_of version Section.Stream }
+{
+    match version {
+        Version::One | Version::Two | Version::Three => &STREAM_3,
+        Version::Four => &STREAM_4,
     }
 }
 

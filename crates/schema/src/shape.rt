@@ -1,10 +1,11 @@
 //! The rules on the shape of a document: which keys its tables have, and of what kind and range
 //! their values are.
-ghost use Rattle.std.specs.Prelude.{◌≡◌, ◌≤◌, Some, map, true, false, is_some, is_none, option_map, option_copied, OnOk, IfErr};
+ghost use Rattle.std.specs.Prelude.{◌≡◌, ◌≤◌, Some, map, true, false, is_some, is_none, option_map, option_copied, OnOk, IfErr, ◌||◌};
 ghost use Rattle.std.specs.List.{list_any};
+ghost use Rattle.std.specs.Option.{option_map_or};
 ghost use Rattle.toml.specs.View.{view};
 ghost use Rattle.schema.specs.Tree.{section_table, tables_at, tables_below, rule_named, keys_of, items_of};
-ghost use Rattle.schema.specs.Shape.{rule_of, is_over_0, is_missing, is_empty_list, is_absent, has_fault, is_other_kind, is_outside, is_within, table_breaks, breaks, least_broken_of_shape, KeepsShape};
+ghost use Rattle.schema.specs.Shape.{rule_of, is_over_0, is_refused, is_missing, is_empty_list, is_absent, has_fault, is_other_kind, is_outside, is_within, row_is_broken, table_is_broken, is_broken, table_breaks, breaks, least_broken_of_shape, KeepsShape};
 
 use crate::schema::{Absence, KeyRule, Kind, Section, Version};
 use thiserror::Error;
@@ -62,9 +63,19 @@ pub struct ShapeFault {
 }
 
 /// Judges the whole text, the tables and the items of lists that its keys call for, by the rules on
-/// the shape in a version: one check after the other, each on all of them. A document that breaks one
-/// is refused by the least such rule.
+/// the shape in a version. A document that breaks one is refused by the least such rule.
 pub fn check_shape(version: Version, tree: &Value) -> Result<(), ShapeFault>
+    ensures kept { OnOk result (KeepsShape version (view tree.now)) }
+    ensures err { IfErr result (λ fault. least_broken_of_shape version (view tree.now) ≡ Some (rule_of fault.check)) }
+{
+    if is_broken(version, tree) {
+        return keep_each(version, tree);
+    }
+    Ok(())
+}
+
+/// Judges the document by one rule after the other, each on all tables.
+fn keep_each(version: Version, tree: &Value) -> Result<(), ShapeFault>
     ensures kept { OnOk result (KeepsShape version (view tree.now)) }
     ensures err { IfErr result (λ fault. least_broken_of_shape version (view tree.now) ≡ Some (rule_of fault.check)) }
 {
@@ -83,6 +94,104 @@ pub fn check_shape(version: Version, tree: &Value) -> Result<(), ShapeFault>
     Ok(())
 }
 
+/// Whether the document breaks any of the rules. Nearly none does, so this looks each key up only once.
+fn is_broken(version: Version, tree: &Value) -> bool
+    ensures { result ≡ is_broken version (view tree.now) }
+{
+    if is_table_broken(version, Section::Top, tree) {
+        return true;
+    }
+    is_any_broken_below(version, Section::Top.rows(version), tree)
+}
+
+/// Whether anything that the rows call for breaks any of the rules.
+fn is_any_broken_below(version: Version, rows: &[KeyRule], tree: &Value) -> bool
+    ensures { result ≡ list_any (λ row. list_any (table_is_broken version) (tables_below (view tree.now) row)) rows.now }
+{
+    rows.iter().any(|row| is_any_broken_at(version, row, tree))
+}
+
+/// Whether anything that a row calls for breaks any of the rules.
+fn is_any_broken_at(version: Version, row: &KeyRule, tree: &Value) -> bool
+    ensures { result ≡ list_any (table_is_broken version) (tables_below (view tree.now) row.now) }
+{
+    match tree.get(row.key.text()) {
+        Some(value) => is_any_broken_in(version, row.kind, value),
+        None => false,
+    }
+}
+
+/// Whether the value of a key of this kind breaks any of the rules, as a table or as a list of tables.
+fn is_any_broken_in(version: Version, kind: Kind, value: &Value) -> bool
+    ensures { result ≡ list_any (table_is_broken version) (tables_at kind (Some (view value.now))) }
+{
+    match kind {
+        Kind::Table(section) => is_table_broken(version, section, value),
+        Kind::List(section) => is_any_item_broken(version, section, items(value)),
+        Kind::Whole { .. } | Kind::Switch | Kind::Text => false,
+    }
+}
+
+/// Whether any item breaks any of the rules.
+fn is_any_item_broken(version: Version, section: Section, items: &[Value]) -> bool
+    ensures { result ≡ list_any (λ v. table_is_broken version (section_table section (view v))) items.now }
+{
+    items
+        .iter()
+        .any(|item| is_table_broken(version, section, item))
+}
+
+/// Whether a value that has to be a table of the section breaks any of the rules.
+#[tactic(auto, unfolding(crate::specs::Shape::table_is_broken))]
+fn is_table_broken(version: Version, section: Section, value: &Value) -> bool
+    ensures { result ≡ table_is_broken version (section_table section (view value.now)) }
+{
+    let rows = section.rows(version);
+    !value.is_table() || has_unknown_key(rows, value) || is_any_row_broken(rows, value)
+}
+
+/// Whether the key of one of the rows is missing, or its value of another kind or outside its range.
+fn is_any_row_broken(rows: &[KeyRule], table: &Value) -> bool
+    ensures { result ≡ list_any (row_is_broken (view table.now)) rows.now }
+{
+    rows.iter().any(|row| is_row_broken(row, table))
+}
+
+/// Whether the row's key is missing, or its value of another kind or outside its range.
+fn is_row_broken(row: &KeyRule, table: &Value) -> bool
+    ensures { result ≡ row_is_broken (view table.now) row.now }
+{
+    let found = table.get(row.key.text());
+    (is_refused(row.absence, table) && is_absent(row.kind, found))
+        || is_found_broken(row.kind, found)
+}
+
+/// Whether there is a value, and of another kind or outside its range.
+fn is_found_broken(kind: Kind, found: Option<&Value>) -> bool
+    ensures { result ≡ option_map_or (λ d. is_other_kind kind d || is_outside kind d) (option_map (λ v. view v.now) found.entry) false }
+{
+    match found {
+        Some(value) => is_value_broken(kind, value),
+        None => false,
+    }
+}
+
+/// Whether a value is of another kind or outside its range.
+fn is_value_broken(kind: Kind, value: &Value) -> bool
+    ensures { result ≡ (is_other_kind kind (view value.now) || is_outside kind (view value.now)) }
+{
+    match kind {
+        Kind::Whole { least, most } => match value {
+            Value::Integer(number) => !is_within(least, most, *number),
+            _ => true,
+        },
+        Kind::Switch => !value.is_bool(),
+        Kind::Text => !value.is_str(),
+        Kind::Table(_) => false,
+        Kind::List(_) => !value.is_array(),
+    }
+}
+
 /// Refuses a document that breaks the rule.
 fn keep(version: Version, check: Check, tree: &Value) -> Result<(), ShapeFault>
     ensures ok { OnOk result (breaks version check (view tree.now) ≡ false) }
@@ -98,7 +207,7 @@ fn keep(version: Version, check: Check, tree: &Value) -> Result<(), ShapeFault>
 fn first_broken(version: Version, check: Check, tree: &Value) -> Option<TablePlace>
     ensures { is_some result ≡ breaks version check (view tree.now) }
 {
-    if is_broken(version, check, Section::Top, tree) {
+    if breaks(version, check, Section::Top, tree) {
         return Some(TablePlace::Table);
     }
     first_broken_below(version, check, Section::Top.rows(version), tree)
@@ -128,9 +237,7 @@ fn first_broken_in(version: Version, check: Check, kind: Kind, value: &Value) ->
     ensures { is_some result ≡ list_any (table_breaks version check) (tables_at kind (Some (view value.now))) }
 {
     match kind {
-        Kind::Table(section) => is_broken(version, check, section, value).then_some(
-            TablePlace::Table,
-        ),
+        Kind::Table(section) => breaks(version, check, section, value).then_some(TablePlace::Table),
         Kind::List(section) => first_broken_item(version, check, section, items(value)),
         Kind::Whole { .. } | Kind::Switch | Kind::Text => None,
     }
@@ -146,7 +253,7 @@ fn first_broken_item(
     ensures { is_some result ≡ list_any (λ v. table_breaks version check (section_table section (view v))) items.now }
 {
     for (i, item) in items.iter().enumerate() {
-        if is_broken(version, check, section, item) {
+        if breaks(version, check, section, item) {
             return Some(TablePlace::Item(i));
         }
     }
@@ -165,7 +272,7 @@ pub(crate) fn items(value: &Value) -> &[Value]
 
 /// Whether a value that has to be a table of the section breaks the rule.
 #[tactic(auto, unfolding(crate::specs::Shape::table_breaks))]
-fn is_broken(version: Version, check: Check, section: Section, value: &Value) -> bool
+fn breaks(version: Version, check: Check, section: Section, value: &Value) -> bool
     ensures { result ≡ table_breaks version check (section_table section (view value.now)) }
 {
     let rows = section.rows(version);
@@ -188,11 +295,16 @@ fn is_any_missing(rows: &[KeyRule], table: &Value) -> bool
 fn is_missing(row: &KeyRule, table: &Value) -> bool
     ensures { result ≡ is_missing (view table.now) row.now }
 {
-    match row.absence {
-        Absence::Refused => is_absent(row.kind, table.get(row.key.text())),
-        Absence::RefusedOver0(key) => {
-            is_over_0(table.get(key.text())) && is_absent(row.kind, table.get(row.key.text()))
-        }
+    is_refused(row.absence, table) && is_absent(row.kind, table.get(row.key.text()))
+}
+
+/// Whether the table may not lack a key of this absence.
+fn is_refused(absence: Absence, table: &Value) -> bool
+    ensures { result ≡ is_refused (view table.now) absence }
+{
+    match absence {
+        Absence::Refused => true,
+        Absence::RefusedOver0(key) => is_over_0(table.get(key.text())),
         Absence::Default(_) | Absence::Off | Absence::Optional => false,
     }
 }

@@ -1,6 +1,6 @@
 //! The rows of the format: a constant for each kind of table, and for each version where they differ.
 use crate::schema::{Absence, FormatKey, KeyRule, Kind, Section};
-use base::limits::{LATEST_MOMENT, MOST_MEMBERS, MOST_MEMBERS_AT_FIRST};
+use base::limits::{LATEST_MOMENT, MOST_MEMBERS, MOST_MEMBERS_AT_FIRST, MOST_MEMBERS_BEFORE_4};
 
 const VERSION_1: KeyRule = KeyRule {
     key: FormatKey::Version,
@@ -174,7 +174,26 @@ pub(crate) const TOP_3: [KeyRule; 16] = [
     PAUSES,
 ];
 
-pub(crate) const TOP_4: [KeyRule; 16] = [
+const RESTARTS: KeyRule = KeyRule {
+    key: FormatKey::Restart,
+    absence: Absence::Optional,
+    kind: Kind::List(Section::Restart),
+};
+
+const BLOCKS: KeyRule = KeyRule {
+    key: FormatKey::Block,
+    absence: Absence::Optional,
+    kind: Kind::List(Section::Pause),
+};
+
+const SERF_TABLE: KeyRule = KeyRule {
+    key: FormatKey::Serf,
+    absence: Absence::Optional,
+    kind: Kind::Table(Section::Serf),
+};
+
+/// The whole text in version 4.
+pub(crate) const TOP_4: [KeyRule; 19] = [
     VERSION_4,
     SEED,
     END,
@@ -191,6 +210,9 @@ pub(crate) const TOP_4: [KeyRule; 16] = [
     GOSSIP_TABLE,
     STREAM_TABLE,
     PAUSES,
+    RESTARTS,
+    BLOCKS,
+    SERF_TABLE,
 ];
 
 const PERIOD: KeyRule = KeyRule {
@@ -358,6 +380,15 @@ const COUNT_2: KeyRule = KeyRule {
     absence: Absence::Refused,
     kind: Kind::Whole {
         least: 1,
+        most: MOST_MEMBERS_BEFORE_4,
+    },
+};
+
+const COUNT_4: KeyRule = KeyRule {
+    key: FormatKey::Count,
+    absence: Absence::Refused,
+    kind: Kind::Whole {
+        least: 1,
         most: MOST_MEMBERS,
     },
 };
@@ -382,6 +413,9 @@ pub(crate) const GROUP_1: [KeyRule; 4] = [NAME, COUNT_1, START, CONTACT];
 
 /// A group of members from version 2 on.
 pub(crate) const GROUP_2: [KeyRule; 4] = [NAME, COUNT_2, START, CONTACT];
+
+/// A group in version 4.
+pub(crate) const GROUP_4: [KeyRule; 4] = [NAME, COUNT_4, START, CONTACT];
 
 /// The link from the members of one group to those of another.
 pub(crate) const PATH: [KeyRule; 5] = [
@@ -501,60 +535,162 @@ pub(crate) const CUT: [KeyRule; 4] = [
     },
 ];
 
-/// How members gossip between their probes.
-pub(crate) const GOSSIP: [KeyRule; 4] = [
+const INTERVAL: KeyRule = KeyRule {
+    key: FormatKey::Interval,
+    absence: Absence::Refused,
+    kind: Kind::Whole {
+        least: 1,
+        most: 0x100_0000,
+    },
+};
+
+const NODES: KeyRule = KeyRule {
+    key: FormatKey::Nodes,
+    absence: Absence::Default(3),
+    kind: Kind::Whole { least: 1, most: 16 },
+};
+
+const DEAD: KeyRule = KeyRule {
+    key: FormatKey::Dead,
+    absence: Absence::Default(0),
+    kind: Kind::Whole {
+        least: 0,
+        most: LATEST_MOMENT,
+    },
+};
+
+const PUSH: KeyRule = KeyRule {
+    key: FormatKey::Push,
+    absence: Absence::Default(0),
+    kind: Kind::Whole {
+        least: 0,
+        most: 0x100_0000,
+    },
+};
+
+const QUEUE: KeyRule = KeyRule {
+    key: FormatKey::Queue,
+    absence: Absence::Off,
+    kind: Kind::Switch,
+};
+
+const PACKET: KeyRule = KeyRule {
+    key: FormatKey::Packet,
+    absence: Absence::Default(0),
+    kind: Kind::Whole {
+        least: 0,
+        most: 65_507,
+    },
+};
+
+const META: KeyRule = KeyRule {
+    key: FormatKey::Meta,
+    absence: Absence::Default(0),
+    kind: Kind::Whole {
+        least: 0,
+        most: 512,
+    },
+};
+
+/// How members gossip between their probes, in version 3.
+pub(crate) const GOSSIP_3: [KeyRule; 4] = [INTERVAL, NODES, DEAD, PUSH];
+
+/// The same in version 4.
+pub(crate) const GOSSIP_4: [KeyRule; 7] = [INTERVAL, NODES, DEAD, PUSH, QUEUE, PACKET, META];
+
+const CONNECT: KeyRule = KeyRule {
+    key: FormatKey::Connect,
+    absence: Absence::Default(1000),
+    kind: Kind::Whole {
+        least: 1,
+        most: 0x100_0000,
+    },
+};
+
+const AGAIN: KeyRule = KeyRule {
+    key: FormatKey::Again,
+    absence: Absence::Default(200),
+    kind: Kind::Whole {
+        least: 1,
+        most: 0x100_0000,
+    },
+};
+
+const LIMIT: KeyRule = KeyRule {
+    key: FormatKey::Limit,
+    absence: Absence::Default(10_000),
+    kind: Kind::Whole {
+        least: 1,
+        most: 0x100_0000,
+    },
+};
+
+const RETRY: KeyRule = KeyRule {
+    key: FormatKey::Retry,
+    absence: Absence::Default(30_000),
+    kind: Kind::Whole {
+        least: 1,
+        most: 0x100_0000,
+    },
+};
+
+/// How streams between members send again, in version 3.
+pub(crate) const STREAM_3: [KeyRule; 2] = [CONNECT, AGAIN];
+
+/// The same in version 4, and how long members wait for a connection.
+pub(crate) const STREAM_4: [KeyRule; 4] = [CONNECT, AGAIN, LIMIT, RETRY];
+
+/// How members leave and reconnect, as Serf's do.
+pub(crate) const SERF: [KeyRule; 3] = [
     KeyRule {
-        key: FormatKey::Interval,
-        absence: Absence::Refused,
+        key: FormatKey::Reconnect,
+        absence: Absence::Default(30_000),
         kind: Kind::Whole {
             least: 1,
             most: 0x100_0000,
         },
     },
     KeyRule {
-        key: FormatKey::Nodes,
-        absence: Absence::Default(3),
-        kind: Kind::Whole { least: 1, most: 16 },
-    },
-    KeyRule {
-        key: FormatKey::Dead,
-        absence: Absence::Default(0),
+        key: FormatKey::Reap,
+        absence: Absence::Default(86_400_000),
         kind: Kind::Whole {
             least: 0,
             most: LATEST_MOMENT,
         },
     },
     KeyRule {
-        key: FormatKey::Push,
-        absence: Absence::Default(0),
+        key: FormatKey::Linger,
+        absence: Absence::Default(1_000),
+        kind: Kind::Whole {
+            least: 1,
+            most: 0x100_0000,
+        },
+    },
+];
+
+/// The restart of a member.
+pub(crate) const RESTART: [KeyRule; 3] = [
+    KeyRule {
+        key: FormatKey::Member,
+        absence: Absence::Refused,
+        kind: Kind::Text,
+    },
+    KeyRule {
+        key: FormatKey::At,
+        absence: Absence::Refused,
         kind: Kind::Whole {
             least: 0,
-            most: 0x100_0000,
-        },
-    },
-];
-
-/// How streams between members send again.
-pub(crate) const STREAM: [KeyRule; 2] = [
-    KeyRule {
-        key: FormatKey::Connect,
-        absence: Absence::Default(1000),
-        kind: Kind::Whole {
-            least: 1,
-            most: 0x100_0000,
+            most: LATEST_MOMENT,
         },
     },
     KeyRule {
-        key: FormatKey::Again,
-        absence: Absence::Default(200),
-        kind: Kind::Whole {
-            least: 1,
-            most: 0x100_0000,
-        },
+        key: FormatKey::Contact,
+        absence: Absence::Optional,
+        kind: Kind::Text,
     },
 ];
 
-/// A time in which a member's process is paused.
+/// A time in which a member's process is paused or blocked.
 pub(crate) const PAUSE: [KeyRule; 3] = [
     KeyRule {
         key: FormatKey::Member,

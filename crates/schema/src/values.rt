@@ -25,8 +25,22 @@ pub fn number(section: Section, key: FormatKey, table: Option<&Value>) -> u64
     ensures { result ≡ number_at section key (option_map (λ v. view v.now) table.entry) }
 {
     match table {
-        Some(table) => whole_or(default_of(section, key), table.get(key.text())),
+        Some(table) => found_number(section, key, table.get(key.text())),
         None => default_of(section, key),
+    }
+}
+
+/// The whole number from 0 on that is found at a key of the section, else the key's default, which is
+/// looked up only then.
+fn found_number(section: Section, key: FormatKey, value: Option<&Value>) -> u64
+    ensures { result ≡ whole_or (default_of section key) (option_map (λ v. view v.now) value.entry) }
+{
+    let Some(Value::Integer(number)) = value else {
+        return default_of(section, key);
+    };
+    match u64::try_from(*number) {
+        Ok(number) => number,
+        Err(_) => default_of(section, key),
     }
 }
 
@@ -86,7 +100,7 @@ pub fn whole_or(default: u64, value: Option<&Value>) -> u64
 fn default_of(section: Section, key: FormatKey) -> u64
     ensures { result ≡ default_of section key }
 {
-    match rule_named(section.rows(Version::One), key.text()) {
+    match rule_named(section.rows(Version::Four), key.text()) {
         Some(row) => match row.absence {
             Absence::Default(number) => number,
             Absence::Refused | Absence::RefusedOver0(_) | Absence::Off | Absence::Optional => 0,

@@ -54,7 +54,7 @@ pub(crate) fn run_stretches<T: RowSink<P>, P, Q: EventQueue<Event> + Drop, W: Ru
     ensures others { IfErr result (λ fault. fault ≢ Fault.Write → T.failed place.new ≡ T.failed place.old) }
     ensures relay { IfErr result (λ fault. fault ≢ Fault.ThreadLost) }
 {
-    let mut tallies = Tallies::new(alloc);
+    let mut tallies = Tallies::new(alloc, cluster.scenario);
     let mut limit = TurnLimit::new();
     let last = cluster.scenario.end().ticks();
     let most = longest_stretch(cluster.scenario);

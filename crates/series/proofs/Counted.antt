@@ -11,7 +11,7 @@ use Rattle.series.specs.Series.{kind_place}
 
 abbrev kinds : List What
 kinds = what.Join ∷ what.Welcome ∷ what.Ping ∷ what.PingReq ∷ what.Ack ∷ what.Nack ∷ what.Bye
-    ∷ what.Gossip ∷ what.Call ∷ what.Answer ∷ what.Push ∷ what.Pull ∷ []
+    ∷ what.Gossip ∷ what.Call ∷ what.Answer ∷ what.Push ∷ what.Pull ∷ what.Reconnect ∷ []
 
 abbrev kind_at : ℕ → What
 kind_at place = get_or kinds place what.Start
@@ -59,7 +59,7 @@ kind_at-place what.Restart place is = none_at place what.Restart is
 kind_at-place what.Exit place is = none_at place what.Exit is
 kind_at-place what.Left place is = none_at place what.Left is
 kind_at-place what.Forget place is = none_at place what.Forget is
-kind_at-place what.Reconnect place is = none_at place what.Reconnect is
+kind_at-place what.Reconnect place is = at_place 12 place what.Reconnect is refl
 
 -- a row is of the kind just where its own kind has the same place
 pub same_place : (kind : What) (row : Row) (place own : ℕ) → kind_place kind ≡ Some place → kind_place row.what ≡ Some own → (place == own) ≡ has_kind kind row

@@ -2,7 +2,7 @@
 use Rattle.std.proofs.Common.{◌≡◌, ℕ, zero, suc, ◌+◌, ◌<◌, ◌≤◌, Bool, true, false, cond, ◌&&◌, ◌||◌, ◌==◌, not, List, [], ◌∷◌, ◌++◌, length, map, Option, Some, None, refl, sym, ap, subst, ◌∙◌, arith, append-nil, append_assoc, length-append, true≢false, add-zero}
 use Rattle.std.specs.Prelude.{filter, count_by, if◌then◌else◌, nat_le, nat_lt, nat_eq, take, replicate, slice_get, slice_set, slice_index_or}
 use Rattle.std.proofs.lemmas.List.{length-map, length-set, length-replicate, get_or-replicate, get_or-set_same, get_or-set_other}
-use Rattle.std.proofs.lemmas.List.Sums.{length-filter, count_by-le-length}
+use Rattle.std.proofs.lemmas.List.Sums.{length-filter, count_by-le-length, fold-append}
 use Rattle.std.proofs.lemmas.Option.{slice_get-get_or, slice_get_read, slice_get_within, get_or_from_slice_get}
 use Rattle.std.proofs.Math.Seq.{get_or-append_seam, take-nil}
 use Rattle.std.specs.Option.{option_map_or, is_some}
@@ -22,7 +22,7 @@ use Rattle.series.specs.declared.standing.Standing.{Standing}
 use Rattle.series.specs.declared.deaths.Death.{Death}
 use Rattle.series.specs.Accusers.{AreAccusers}
 use Rattle.series.specs.Lines.{line_at}
-use Rattle.series.specs.Deaths.{Reached, reached_at, reached, since, refutation_told, last_refutation, hears, hears_of, times_heard, begins_probe, probe_told, last_probe, answers_of, last_fail, reaches, is_new, is_line_of, accuses, accusation_told, accusations, begins_death, deaths_of, IsGreatest, IsStandingOf, IsDeathOf, IsToldOf, AreToldOf, AreProbesOf}
+use Rattle.series.specs.Deaths.{Reached, reached_at, reached, since, refutation_told, last_refutation, hears, hears_of, times_heard, begins_probe, probe_told, last_probe, answers_of, last_fail, reaches, is_new, is_line_of, accuses, accusation_told, accusations, begins_death, deaths_of, gone_by, gone_with, is_gone, IsGreatest, IsStandingOf, IsDeathOf, IsToldOf, AreToldOf, AreGoneOf, AreProbesOf}
 use Rattle.series.proofs.Telling.{last_line-push, lines_other, count-push}
 use denote.Enum.Bare.{sameb}
 use Rattle.trace.specs.contracts.row.What.{the_type}
@@ -511,6 +511,38 @@ probes-push probes number last new rows row numbered member are is was who low =
         get_or-set_other probes row.member who new None (not_same who row.member h)
         ∙ are who within
         ∙ sym (probe-push who rows row ∙ ap (λ t. if t then begun else last_probe who rows) (ap (λ t. has_kind what.Ping row && (t && row.from == who)) (turned who row.member h) ∙ no_ping (has_kind what.Ping row) (row.from == who)))
+
+-- ---- who is gone
+
+gone-push : (member : ℕ) (rows : List Row) (row : Row) → is_gone member (rows ++ row ∷ []) ≡ gone_with member (is_gone member rows) row
+gone-push member rows row = fold-append (gone_with member) false rows (row ∷ [])
+
+pub all_gone-push : (gone : List Bool) (last new : Bool) (rows : List Row) (row : Row) → row.member < length gone → AreGoneOf gone rows → new ≡ gone_by row last
+    → last ≡ slice_index_or gone row.member last → AreGoneOf (slice_set gone row.member new) (rows ++ row ∷ [])
+all_gone-push gone last new rows row member are is was who low = at (nat_eq who row.member) refl
+  where
+    within : who < length gone
+    within = omega (arith, low, length-set gone row.member new)
+
+    itself : (n : ℕ) → nat_eq n n ≡ true
+    itself n = grind (arith)
+
+    turned : (a b : ℕ) → nat_eq a b ≡ false → nat_eq b a ≡ false
+    turned a b h = grind (arith, h)
+
+    at : (t : Bool) → nat_eq who row.member ≡ t → slice_index_or (slice_set gone row.member new) who false ≡ is_gone who (rows ++ row ∷ [])
+    at true h =
+        let same : who ≡ row.member = is_same who row.member h in
+        ap (λ k. slice_index_or (slice_set gone row.member new) k false) same
+        ∙ get_or-set_same gone row.member new false member
+        ∙ is ∙ ap (gone_by row) (read gone row.member last false member was ∙ are row.member member)
+        ∙ ap (λ t. if t then gone_by row (is_gone row.member rows) else is_gone row.member rows) (sym (itself row.member))
+        ∙ sym (gone-push row.member rows row)
+        ∙ ap (λ k. is_gone k (rows ++ row ∷ [])) (sym same)
+    at false h =
+        get_or-set_other gone row.member who new false (not_same who row.member h)
+        ∙ are who within
+        ∙ sym (gone-push who rows row ∙ ap (λ t. if t then gone_by row (is_gone who rows) else is_gone who rows) (turned who row.member h))
 
 -- ---- no more is kept than there are rows
 

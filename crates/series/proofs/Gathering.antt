@@ -20,10 +20,12 @@ use Rattle.series.specs.Grid.{count_at}
 use Rattle.series.specs.Spans.{span_at}
 use Rattle.series.specs.Lines.{line_at}
 use Rattle.series.specs.Changes.{Change, AreFlowsOf}
-use Rattle.series.specs.Stories.{claimed_state, claims_of, claim_told, claim_change, is_crash_of, heard, with_row, IsStoryOf, IsSpreadOf, ComesNext, refutes_in}
+use Rattle.series.specs.Stories.{claimed_state, claims_of, claim_told, claim_change, is_crash_of, heard, returns_among, with_row, IsStoryOf, IsSpreadOf, ComesNext, refutes_in}
 use Rattle.series.specs.Series.{sends_in, loses_in, kind_place, healths_of, health_told}
 use Rattle.series.proofs.Telling.{count-push, told-push, lines_other, count_other, first_line-push, last_line-push}
-use Rattle.series.proofs.Hearing.{crashed_more, heard_other, heard_more}
+use Rattle.incidents.specs.Lives.{restarts}
+use Rattle.series.proofs.Hearing.{crashed_more}
+use Rattle.series.proofs.Returning.{heard_unmoved, heard_no_more, heard_with, returns_more, returns_same}
 use Rattle.series.proofs.Counted.{same_place}
 use Rattle.series.proofs.Revived.{revived_other, revived_more}
 
@@ -85,34 +87,60 @@ other_tells s subject row other =
       fail = tells_of-other what.Fail subject row other;
     }
 
--- nor does the row of a crash
-crash_tells : (s : Setup) (subject : ℕ) (row : Row) → row.what ≡ what.Crash → TellsNothing s subject row
-crash_tells s subject row is =
+-- a row of this kind reports nothing of anybody, but that its member crashes or starts again
+record IsMute (kind : What) : Type 0 where
+  claim : claimed_state kind ≡ None
+  view : list_any (sameb the_type kind) views ≡ false
+  alive : sameb the_type kind what.Alive ≡ false
+  suspect : sameb the_type kind what.Suspect ≡ false
+  confirm : sameb the_type kind what.Confirm ≡ false
+  refute : sameb the_type kind what.Refute ≡ false
+  fail : sameb the_type kind what.Fail ≡ false
+
+crash_mute : IsMute what.Crash
+crash_mute = record { claim = refl; view = refl; alive = refl; suspect = refl; confirm = refl; refute = refl; fail = refl }
+
+restart_mute : IsMute what.Restart
+restart_mute = record { claim = refl; view = refl; alive = refl; suspect = refl; confirm = refl; refute = refl; fail = refl }
+
+mute_tells : (s : Setup) (subject : ℕ) (row : Row) → IsMute row.what → TellsNothing s subject row
+mute_tells s subject row mute =
     record {
-      claim = ap (λ w. if is_about subject row then option_map (λ state. record { member = row.member; state = state; span = span_at s row.at }) (claimed_state w) else None) is ∙ no_claim (is_about subject row);
-      back = λ held. ap (λ w. (sameb the_type w what.Alive && held) && is_about subject row) is;
-      view = λ member. ap (λ w. list_any (sameb the_type w) views && ((row.member == member) && is_about subject row)) is;
-      suspect = ap (λ w. sameb the_type w what.Suspect && is_about subject row) is;
-      confirm = ap (λ w. sameb the_type w what.Confirm && is_about subject row) is;
-      refute = ap (λ w. sameb the_type w what.Refute && is_about subject row) is;
-      fail = ap (λ w. sameb the_type w what.Fail && is_about subject row) is;
+      claim = ap (λ state. if is_about subject row then option_map (λ n. record { member = row.member; state = n; span = span_at s row.at }) state else None) mute.claim ∙ no_claim (is_about subject row);
+      back = λ held. ap (λ b. (b && held) && is_about subject row) mute.alive;
+      view = λ member. ap (λ b. b && ((row.member == member) && is_about subject row)) mute.view;
+      suspect = ap (λ b. b && is_about subject row) mute.suspect;
+      confirm = ap (λ b. b && is_about subject row) mute.confirm;
+      refute = ap (λ b. b && is_about subject row) mute.refute;
+      fail = ap (λ b. b && is_about subject row) mute.fail;
     }
   where
     no_claim : (b : Bool) → ◌≡◌ {A = Option Change} (if b then None else None) None
     no_claim true = refl
     no_claim false = refl
 
--- what such a row leaves of when others learned of its crash, with whether it crashes by it
-spread_same : (s : Setup) (subject : ℕ) (spread : Spread) (rows : List Row) (row : Row) (crashed : Bool) → TellsNothing s subject row → IsSpreadOf s subject spread rows
-    → crashed ≡ (spread.crashed || is_crash_of subject row) → IsSpreadOf s subject (record spread { crashed = crashed }) (rows ++ row ∷ [])
-spread_same s subject spread rows row crashed nothing is comes =
+-- neither does that of a crash, nor that of a restart
+crash_tells : (s : Setup) (subject : ℕ) (row : Row) → has_kind what.Crash row ≡ true → TellsNothing s subject row
+crash_tells s subject row crash = mute_tells s subject row (subst IsMute (sym (same_true the_type tt row.what what.Crash crash)) crash_mute)
+
+restart_tells : (s : Setup) (subject : ℕ) (row : Row) → has_kind what.Restart row ≡ true → TellsNothing s subject row
+restart_tells s subject row restart = mute_tells s subject row (subst IsMute (sym (same_true the_type tt row.what what.Restart restart)) restart_mute)
+
+-- what such a row leaves of when others learned of its crash, with whether it crashes by it, or is back
+spread_same : (s : Setup) (subject : ℕ) (spread : Spread) (rows : List Row) (row : Row) (crashed back : Bool) → TellsNothing s subject row → IsSpreadOf s subject spread rows
+    → crashed ≡ (spread.crashed || is_crash_of subject row) → back ≡ (spread.back || (spread.crashed && restarts subject row))
+    → IsSpreadOf s subject (record spread { crashed = crashed; back = back }) (rows ++ row ∷ [])
+spread_same s subject spread rows row crashed back nothing is comes returns =
     record {
       since = is.since;
       crashed = comes ∙ ap (λ b. b || is_crash_of subject row) is.crashed ∙ sym (crashed_more subject rows row);
+      back =
+          returns ∙ ap (λ b. b || (spread.crashed && restarts subject row)) is.back
+          ∙ ap (λ c. returns_among false subject rows || (c && restarts subject row)) is.crashed ∙ sym (returns_more false subject rows row);
       suspecting = is.suspecting;
       confirming = is.confirming;
-      suspected = λ m low. is.suspected m low ∙ heard_other what.Suspect subject m rows row (nothing.view m) (ap (λ t. t && row.member == m) nothing.suspect);
-      confirmed = λ m low. is.confirmed m low ∙ heard_other what.Confirm subject m rows row (nothing.view m) (ap (λ t. t && row.member == m) nothing.confirm);
+      suspected = λ m low. is.suspected m low ∙ heard_unmoved what.Suspect subject m rows row (nothing.view m) (ap (λ t. t && row.member == m) nothing.suspect);
+      confirmed = λ m low. is.confirmed m low ∙ heard_unmoved what.Confirm subject m rows row (nothing.view m) (ap (λ t. t && row.member == m) nothing.confirm);
     }
 
 -- what such a row leaves of its story, but for that
@@ -133,43 +161,113 @@ same_crashed : (a b : Bool) → b ≡ false → a ≡ (a || b)
 same_crashed true b none = refl
 same_crashed false b none = sym none
 
--- a row of another kind isn't that of a crash
+same_back : (b c r : Bool) → r ≡ false → b ≡ (b || (c && r))
+same_back b c r none = sym (ap (λ x. b || (c && x)) none ∙ ap (λ x. b || x) (and-false c) ∙ or_none b)
+  where
+    or_none : (x : Bool) → (x || false) ≡ x
+    or_none true = refl
+    or_none false = refl
+
+-- neither of two tests holds, or the second where the first doesn't
+pub neither : (a b : Bool) → (a || b) ≡ false → a ≡ false
+neither true b h = h
+neither false b h = refl
+
+pub other : (a b : Bool) → (a || b) ≡ false → b ≡ false
+other true b h = absurd (no h)
+  where
+    no : true ≡ false → ⊥
+    no is = cc
+other false b h = h
+
+pub second : (a b : Bool) → (a || b) ≡ true → a ≡ false → b ≡ true
+second true b h none = absurd (no none)
+  where
+    no : true ≡ false → ⊥
+    no is = cc
+second false b h none = h
+
+-- a row of another kind isn't that of a crash, nor that of a restart
 pub no_crash : (subject : ℕ) (row : Row) → has_kind what.Crash row ≡ false → is_crash_of subject row ≡ false
 no_crash subject row apart = ap (λ t. t && row.member == subject) apart
 
--- a row about another member, which isn't that of this one's crash, leaves its story
-pub untold : (s : Setup) (subject : ℕ) (story : Story) (rows : List Row) (row : Row) → is_about subject row ≡ false → is_crash_of subject row ≡ false → IsStoryOf s subject story rows
-    → IsStoryOf s subject story (rows ++ row ∷ [])
-untold s subject story rows row other no_crash is =
-    let nothing = other_tells s subject row other in
-    unmoved s subject story story.spread rows row nothing is (spread_same s subject story.spread rows row story.spread.crashed nothing is.spread (same_crashed story.spread.crashed _ no_crash))
+pub no_restart : (subject : ℕ) (row : Row) → has_kind what.Restart row ≡ false → restarts subject row ≡ false
+no_restart subject row apart = ap (λ t. (row.member == subject) && t) apart ∙ and-false (row.member == subject)
 
--- so does the row of another's crash
-pub untold_crash : (s : Setup) (subject : ℕ) (story : Story) (rows : List Row) (row : Row) → has_kind what.Crash row ≡ true → ¬ (subject ≡ row.member) → IsStoryOf s subject story rows
-    → IsStoryOf s subject story (rows ++ row ∷ [])
-untold_crash s subject story rows row crash apart is =
-    let nothing = crash_tells s subject row (same_true the_type tt row.what what.Crash crash) in
-    let no_crash : is_crash_of subject row ≡ false = ap (λ t. has_kind what.Crash row && t) (unlike row.member subject apart) ∙ and-false (has_kind what.Crash row) in
-    unmoved s subject story story.spread rows row nothing is (spread_same s subject story.spread rows row story.spread.crashed nothing is.spread (same_crashed story.spread.crashed _ no_crash))
+-- neither is the row of another member
+others_crash : (subject : ℕ) (row : Row) → ¬ (subject ≡ row.member) → is_crash_of subject row ≡ false
+others_crash subject row apart = ap (λ t. has_kind what.Crash row && t) (unlike row.member subject apart) ∙ and-false (has_kind what.Crash row)
   where
     unlike : (a b : ℕ) → ¬ (b ≡ a) → (a == b) ≡ false
     unlike a b h = grind (arith)
+
+others_restart : (subject : ℕ) (row : Row) → ¬ (subject ≡ row.member) → restarts subject row ≡ false
+others_restart subject row apart = ap (λ t. t && has_kind what.Restart row) (unlike row.member subject apart)
+  where
+    unlike : (a b : ℕ) → ¬ (b ≡ a) → (a == b) ≡ false
+    unlike a b h = grind (arith)
+
+-- a row that reports nothing of a member, nor that it crashes or starts again, leaves its story
+unturned : (s : Setup) (subject : ℕ) (story : Story) (rows : List Row) (row : Row) → TellsNothing s subject row → is_crash_of subject row ≡ false → restarts subject row ≡ false → IsStoryOf s subject story rows
+    → IsStoryOf s subject story (rows ++ row ∷ [])
+unturned s subject story rows row nothing crash restart is =
+    unmoved s subject story story.spread rows row nothing is
+    (spread_same s subject story.spread rows row story.spread.crashed story.spread.back nothing is.spread (same_crashed story.spread.crashed _ crash) (same_back story.spread.back story.spread.crashed _ restart))
+
+-- so does a row about another member
+pub untold : (s : Setup) (subject : ℕ) (story : Story) (rows : List Row) (row : Row) → is_about subject row ≡ false → is_crash_of subject row ≡ false → restarts subject row ≡ false → IsStoryOf s subject story rows
+    → IsStoryOf s subject story (rows ++ row ∷ [])
+untold s subject story rows row other = unturned s subject story rows row (other_tells s subject row other)
+
+-- and the row of another's crash, or of its return
+pub untold_crash : (s : Setup) (subject : ℕ) (story : Story) (rows : List Row) (row : Row) → has_kind what.Crash row ≡ true → ¬ (subject ≡ row.member) → IsStoryOf s subject story rows
+    → IsStoryOf s subject story (rows ++ row ∷ [])
+untold_crash s subject story rows row crash apart =
+    unturned s subject story rows row (crash_tells s subject row crash) (others_crash subject row apart) (others_restart subject row apart)
+
+pub untold_restart : (s : Setup) (subject : ℕ) (story : Story) (rows : List Row) (row : Row) → has_kind what.Restart row ≡ true → ¬ (subject ≡ row.member) → IsStoryOf s subject story rows
+    → IsStoryOf s subject story (rows ++ row ∷ [])
+untold_restart s subject story rows row restart apart =
+    unturned s subject story rows row (restart_tells s subject row restart) (others_crash subject row apart) (others_restart subject row apart)
+
+alike : (a b : ℕ) → a ≡ b → (a == b) ≡ true
+alike a b h = grind (arith)
+
+-- a row has one kind
+kinds_apart : (row : Row) → has_kind what.Crash row ≡ true → has_kind what.Restart row ≡ false
+kinds_apart row crash = ap (λ w. sameb the_type w what.Restart) (same_true the_type tt row.what what.Crash crash)
+
+apart_kinds : (row : Row) → has_kind what.Restart row ≡ true → has_kind what.Crash row ≡ false
+apart_kinds row restart = ap (λ w. sameb the_type w what.Crash) (same_true the_type tt row.what what.Restart restart)
 
 -- the row of its own crash reports that alone
 pub told_crash : (s : Setup) (subject : ℕ) (story : Story) (rows : List Row) (row : Row) → has_kind what.Crash row ≡ true → row.member ≡ subject → IsStoryOf s subject story rows
     → IsStoryOf s subject (record story { spread = record story.spread { crashed = true } }) (rows ++ row ∷ [])
 told_crash s subject story rows row crash is_its is =
-    let nothing = crash_tells s subject row (same_true the_type tt row.what what.Crash crash) in
+    let nothing = crash_tells s subject row crash in
     let comes : is_crash_of subject row ≡ true = ap (λ t. t && row.member == subject) crash ∙ alike row.member subject is_its in
     unmoved s subject story (record story.spread { crashed = true }) rows row nothing is
-    (spread_same s subject story.spread rows row true nothing is.spread (sym (ap (λ b. story.spread.crashed || b) comes ∙ or-true story.spread.crashed)))
+    (spread_same s subject story.spread rows row true story.spread.back nothing is.spread (sym (ap (λ b. story.spread.crashed || b) comes ∙ or-true story.spread.crashed))
+    (same_back story.spread.back story.spread.crashed _ (no_restart subject row (kinds_apart row crash))))
   where
-    alike : (a b : ℕ) → a ≡ b → (a == b) ≡ true
-    alike a b h = grind (arith)
-
     or-true : (b : Bool) → (b || true) ≡ true
     or-true true = refl
     or-true false = refl
+
+-- that of its own restart reports that it is back, where it has crashed
+pub told_restart : (s : Setup) (subject : ℕ) (story : Story) (rows : List Row) (row : Row) → has_kind what.Restart row ≡ true → row.member ≡ subject → IsStoryOf s subject story rows
+    → IsStoryOf s subject (record story { spread = record story.spread { back = story.spread.back || story.spread.crashed } }) (rows ++ row ∷ [])
+told_restart s subject story rows row restart is_its is =
+    let nothing = restart_tells s subject row restart in
+    let returns : restarts subject row ≡ true = ap (λ t. t && has_kind what.Restart row) (alike row.member subject is_its) ∙ restart in
+    unmoved s subject story (record story.spread { back = story.spread.back || story.spread.crashed }) rows row nothing is
+    (spread_same s subject story.spread rows row story.spread.crashed (story.spread.back || story.spread.crashed) nothing is.spread
+    (same_crashed story.spread.crashed _ (no_crash subject row (apart_kinds row restart)))
+    (ap (λ c. story.spread.back || c) (sym (ap (λ r. story.spread.crashed && r) returns ∙ and_true story.spread.crashed))))
+  where
+    and_true : (b : Bool) → (b && true) ≡ b
+    and_true true = refl
+    and_true false = refl
 
 -- what a row about the member reports of it
 pub told : (s : Setup) (subject : ℕ) (old new : Story) (rows : List Row) (row : Row) (span number : ℕ) → is_about subject row ≡ true → ComesNext s row span number rows → IsStoryOf s subject old rows
@@ -199,18 +297,20 @@ told s subject old new rows row span number about next is claims refuted revived
           ∙ sym (count-push (tells_of what.Fail subject) rows row);
     }
 
-pub spread_more : (s : Setup) (subject : ℕ) (old new : Spread) (rows : List Row) (row : Row) → is_about subject row ≡ true → is_crash_of subject row ≡ false → IsSpreadOf s subject old rows
-    → new.since ≡ old.since → new.crashed ≡ old.crashed
+pub spread_more : (s : Setup) (subject : ℕ) (old new : Spread) (rows : List Row) (row : Row) → is_about subject row ≡ true → is_crash_of subject row ≡ false → restarts subject row ≡ false
+    → old.back ≡ false → IsSpreadOf s subject old rows
+    → new.since ≡ old.since → new.crashed ≡ old.crashed → new.back ≡ old.back
     → length new.suspected.items ≡ length old.suspected.items → length new.confirmed.items ≡ length old.confirmed.items
     → ((m : ℕ) → m < length old.suspected.items → slice_index_or new.suspected.items m None
     ≡ (if row.member == m then with_row old.crashed what.Suspect row (slice_index_or old.suspected.items m None) else slice_index_or old.suspected.items m None))
     → ((m : ℕ) → m < length old.confirmed.items → slice_index_or new.confirmed.items m None
     ≡ (if row.member == m then with_row old.crashed what.Confirm row (slice_index_or old.confirmed.items m None) else slice_index_or old.confirmed.items m None))
     → IsSpreadOf s subject new (rows ++ row ∷ [])
-spread_more s subject old new rows row about no_crash is same crashed long long_too suspected confirmed =
+spread_more s subject old new rows row about no_crash no_return yet is same crashed back long long_too suspected confirmed =
     record {
       since = same ∙ is.since;
       crashed = crashed ∙ same_crashed old.crashed _ no_crash ∙ ap (λ b. b || is_crash_of subject row) is.crashed ∙ sym (crashed_more subject rows row);
+      back = back ∙ is.back ∙ sym (returns_same subject rows row no_return);
       suspecting = long ∙ is.suspecting;
       confirming = long_too ∙ is.confirming;
       suspected = λ m low.
@@ -226,7 +326,21 @@ spread_more s subject old new rows row about no_crash is same crashed long long_
     next kind m was so_far =
         ap (λ o. if row.member == m then with_row old.crashed kind row o else o) so_far
         ∙ ap (λ c. if row.member == m then with_row c kind row (heard kind subject m rows) else heard kind subject m rows) is.crashed
-        ∙ sym (heard_more kind subject m rows row about no_crash)
+        ∙ sym (heard_with kind subject m rows row about no_crash no_return (sym is.back ∙ yet))
+
+-- a row about a member that is back leaves when others learned of its crash
+pub spread_over : (s : Setup) (subject : ℕ) (spread : Spread) (rows : List Row) (row : Row) → is_crash_of subject row ≡ false → restarts subject row ≡ false → spread.back ≡ true
+    → IsSpreadOf s subject spread rows → IsSpreadOf s subject spread (rows ++ row ∷ [])
+spread_over s subject spread rows row no_crash no_return over is =
+    record {
+      since = is.since;
+      crashed = same_crashed spread.crashed _ no_crash ∙ ap (λ b. b || is_crash_of subject row) is.crashed ∙ sym (crashed_more subject rows row);
+      back = is.back ∙ sym (returns_same subject rows row no_return);
+      suspecting = is.suspecting;
+      confirming = is.confirming;
+      suspected = λ m low. is.suspected m low ∙ heard_no_more what.Suspect subject m rows row (sym is.back ∙ over);
+      confirmed = λ m low. is.confirmed m low ∙ heard_no_more what.Confirm subject m rows row (sym is.back ∙ over);
+    }
 
 -- ---- no more is counted than there are rows
 

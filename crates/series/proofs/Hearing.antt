@@ -11,7 +11,7 @@ use Rattle.reports.specs.Rows.{has_kind, is_about}
 use Rattle.reports.specs.Revivals.{is_view, is_view_of}
 use Rattle.reports.specs.Departures.{moment_of}
 use Rattle.reports.proofs.Detections.{tells_of-it, first-or, or-none}
-use Rattle.series.specs.Stories.{says, first_said, is_crash_of, before_crash, from_crash, told_at, held_so, heard, with_row}
+use Rattle.series.specs.Stories.{says, first_said, is_crash_of, before_crash, from_crash, told_at, held_so, heard_in, with_row}
 
 -- ---- rows before a crash, and from it on
 
@@ -138,7 +138,7 @@ abbrev heard_of : What → ℕ → ℕ → List Row → List Row → Option ℕ
 heard_of kind subject member before from = option_or (held_so kind subject member before) (first_said kind subject member from)
 
 after : (kind : What) (subject member : ℕ) (rows : List Row) (row : Row) → has_crashed subject rows ≡ true
-    → heard kind subject member (rows ++ row ∷ []) ≡ option_or (heard kind subject member rows) (if says kind subject member row then Some row.at else None)
+    → heard_in kind subject member (rows ++ row ∷ []) ≡ option_or (heard_in kind subject member rows) (if says kind subject member row then Some row.at else None)
 after kind subject member rows row came =
     ap (λ l. heard_of kind subject member l (from_crash subject (rows ++ row ∷ []))) (before_same subject rows row came)
     ∙ ap (heard_of kind subject member (before_crash subject rows)) (from_more subject rows row came)
@@ -146,19 +146,19 @@ after kind subject member rows row came =
     ∙ or_or (held_so kind subject member (before_crash subject rows)) _ _
 
 before : (kind : What) (subject member : ℕ) (rows : List Row) (row : Row) → has_crashed subject rows ≡ false
-    → heard kind subject member (rows ++ row ∷ []) ≡ heard_of kind subject member (rows ++ (if is_crash_of subject row then [] else row ∷ [])) (if is_crash_of subject row then row ∷ [] else [])
+    → heard_in kind subject member (rows ++ row ∷ []) ≡ heard_of kind subject member (rows ++ (if is_crash_of subject row then [] else row ∷ [])) (if is_crash_of subject row then row ∷ [] else [])
 before kind subject member rows row none =
     ap (λ l. heard_of kind subject member l (from_crash subject (rows ++ row ∷ []))) (before_more subject rows row none)
     ∙ ap (heard_of kind subject member (rows ++ (if is_crash_of subject row then [] else row ∷ []))) (from_first subject rows row none)
 
-so_far : (kind : What) (subject member : ℕ) (rows : List Row) → has_crashed subject rows ≡ false → heard kind subject member rows ≡ held_so kind subject member rows
+so_far : (kind : What) (subject member : ℕ) (rows : List Row) → has_crashed subject rows ≡ false → heard_in kind subject member rows ≡ held_so kind subject member rows
 so_far kind subject member rows none =
     ap (λ l. heard_of kind subject member l (from_crash subject rows)) (before_all subject rows none)
     ∙ ap (heard_of kind subject member rows) (from_none subject rows none) ∙ or-none (held_so kind subject member rows)
 
 -- a row that neither reports what the member holds of the subject, nor says this of it
 pub heard_other : (kind : What) (subject member : ℕ) (rows : List Row) (row : Row) → is_view_of member subject row ≡ false → says kind subject member row ≡ false
-    → heard kind subject member rows ≡ heard kind subject member (rows ++ row ∷ [])
+    → heard_in kind subject member rows ≡ heard_in kind subject member (rows ++ row ∷ [])
 heard_other kind subject member rows row no_view none = sym (by_crash (has_crashed subject rows) refl)
   where
     held : held_so kind subject member (rows ++ row ∷ []) ≡ held_so kind subject member rows
@@ -170,20 +170,20 @@ heard_other kind subject member rows row no_view none = sym (by_crash (has_crash
         ∙ ap (λ t. option_or (held_so kind subject member rows) (moment_of (cond t (Some row) None))) none ∙ or-none (held_so kind subject member rows)
     by_row false = or-none (held_so kind subject member (rows ++ row ∷ [])) ∙ held
 
-    by_crash : (t : Bool) → has_crashed subject rows ≡ t → heard kind subject member (rows ++ row ∷ []) ≡ heard kind subject member rows
+    by_crash : (t : Bool) → has_crashed subject rows ≡ t → heard_in kind subject member (rows ++ row ∷ []) ≡ heard_in kind subject member rows
     by_crash true came =
-        after kind subject member rows row came ∙ ap (λ t. option_or (heard kind subject member rows) (if t then Some row.at else None)) none
-        ∙ or-none (heard kind subject member rows)
+        after kind subject member rows row came ∙ ap (λ t. option_or (heard_in kind subject member rows) (if t then Some row.at else None)) none
+        ∙ or-none (heard_in kind subject member rows)
     by_crash false yet = before kind subject member rows row yet ∙ by_row (is_crash_of subject row) ∙ sym (so_far kind subject member rows yet)
 
 -- a row that is about the subject, and isn't that of its crash
 pub heard_more : (kind : What) (subject member : ℕ) (rows : List Row) (row : Row) → is_about subject row ≡ true → is_crash_of subject row ≡ false
-    → heard kind subject member (rows ++ row ∷ [])
-    ≡ (if row.member == member then with_row (has_crashed subject rows) kind row (heard kind subject member rows) else heard kind subject member rows)
+    → heard_in kind subject member (rows ++ row ∷ [])
+    ≡ (if row.member == member then with_row (has_crashed subject rows) kind row (heard_in kind subject member rows) else heard_in kind subject member rows)
 heard_more kind subject member rows row about no_crash = by_crash (has_crashed subject rows) refl
   where
     old : Option ℕ
-    old = heard kind subject member rows
+    old = heard_in kind subject member rows
 
     said : (k t : Bool) → option_or old (if k && t then Some row.at else None) ≡ (if t then option_or old (if k then Some row.at else None) else old)
     said true true = refl
@@ -202,7 +202,7 @@ heard_more kind subject member rows row about no_crash = by_crash (has_crashed s
         no is = cc
 
     by_crash : (t : Bool) → has_crashed subject rows ≡ t
-        → heard kind subject member (rows ++ row ∷ []) ≡ (if row.member == member then with_row (has_crashed subject rows) kind row old else old)
+        → heard_in kind subject member (rows ++ row ∷ []) ≡ (if row.member == member then with_row (has_crashed subject rows) kind row old else old)
     by_crash true came =
         after kind subject member rows row came
         ∙ ap (λ t. option_or old (if t && row.member == member then Some row.at else None)) (tells_of-it kind subject row about)

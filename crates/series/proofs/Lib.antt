@@ -5,6 +5,7 @@ pub mod Telling
 pub mod Counted
 pub mod Revived
 pub mod Hearing
+pub mod Returning
 pub mod Gathering
 pub mod Holding
 mod Watching

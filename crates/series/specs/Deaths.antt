@@ -1,12 +1,11 @@
 -- How members that are up come to be declared dead: what the rows before report of it.
-use Rattle.std.specs.Prelude.{◌≡◌, ℕ, ◌+◌, ◌<◌, ◌^◌, Bool, false, ◌&&◌, ◌||◌, ◌==◌, not, nat_le, if◌then◌else◌, Option, Some, None, IfSome, List, [], ◌∷◌, map, filter, count_by, length, slice_get, slice_index_or}
+use Rattle.std.specs.Prelude.{◌≡◌, ℕ, ◌+◌, ◌<◌, ◌^◌, Bool, false, ◌&&◌, ◌||◌, ◌==◌, not, nat_le, if◌then◌else◌, Option, Some, None, IfSome, List, [], ◌∷◌, map, filter, fold, count_by, length, slice_get, slice_index_or}
 use Rattle.std.specs.Option.{option_map_or}
 use Rattle.std.specs.List.{last_or, list_any}
 use Rattle.trace.specs.declared.row.What.{What}
 use Rattle.trace.specs.declared.row.What.TheVariants as what
 use Rattle.trace.specs.declared.row.Row.{Row}
 use Rattle.reports.specs.Rows.{Placed, rows_in_place, has_kind, is_about, tells_of}
-use Rattle.reports.specs.FalsePositives.{ways_to_depart, departed_in, is_false_claim}
 use Rattle.series.specs.declared.lines.TraceLine.{TraceLine}
 use Rattle.series.specs.declared.accusers.ProbeStory.{ProbeStory}
 use Rattle.series.specs.declared.accusers.Accusation.{Accusation}
@@ -163,10 +162,26 @@ times_heard subject rows = count_by (hears_of subject) (since (λ r. tells_of wh
 
 -- ---- deaths
 
+-- the row's member crashes or leaves
+abbrev pub departs : Row → Bool
+departs row = has_kind what.Crash row || has_kind what.Leave row
+
+-- a member that was gone or not is gone with one row more of its own: once it crashes or leaves, until it starts again
+abbrev pub gone_by : Row → Bool → Bool
+gone_by row gone = departs row || (gone && not (has_kind what.Restart row))
+
+-- the same with any row
+abbrev pub gone_with : ℕ → Bool → Row → Bool
+gone_with member gone row = if row.member == member then gone_by row gone else gone
+
+-- the member crashes or leaves in these rows, and hasn't started again since
+abbrev pub is_gone : ℕ → List Row → Bool
+is_gone member rows = fold (gone_with member) false rows
+
 -- A member that is up is declared dead, for the first time under this incarnation number or a higher one. Later rows under
 -- that number are of members that learn of it, or find the same.
 abbrev pub is_first_death : ℕ → Reached → Bool
-is_first_death subject r = is_false_claim what.Confirm (departed_in ways_to_depart r.earlier) r.row && is_new what.Confirm subject r
+is_first_death subject r = not (is_gone subject r.earlier) && is_new what.Confirm subject r
 
 -- the same, whomever the row is about
 abbrev pub begins_death : Reached → Bool
@@ -210,10 +225,6 @@ pub record AreToldOf (kept : List (Option Death)) (many : ℕ) (rows : List Row)
   pub count : many ≡ length (deaths_of rows)
   pub told : (place : ℕ) → place < 20 → IsToldOf (slice_index_or kept place None) (slice_get (deaths_of rows) place)
   pub room : length kept ≡ 20
-
--- the member crashes or leaves in these rows
-abbrev pub is_gone : ℕ → List Row → Bool
-is_gone member rows = list_any (λ gone. gone == member) (departed_in ways_to_depart rows)
 
 -- what is kept of each member, at its number, is what these rows report
 abbrev pub AreGoneOf : List Bool → List Row → Type 0

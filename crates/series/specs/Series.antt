@@ -45,6 +45,7 @@ kind_place what.Call = Some 8
 kind_place what.Answer = Some 9
 kind_place what.Push = Some 10
 kind_place what.Pull = Some 11
+kind_place what.Reconnect = Some 12
 kind_place _ = None
 
 -- what is gathered is what these rows report
@@ -55,8 +56,8 @@ pub record AreSeriesOf (s : Setup) (series : Series) (rows : List Row) : Type 0 
   pub lost : (kind : What) (place span : ℕ) → kind_place kind ≡ Some place → span < 120 → count_at series.lost place span ≡ count_by (loses_in s kind span) rows
   pub health : AreFlowsOf 17 series.health (healths_of s rows)
   pub ready : (member : ℕ) → member < member_count s → AreOpen member 17 series.health
-  pub sent_room : 12 * 120 ≤ length series.sent.counts.items
-  pub lost_room : 12 * 120 ≤ length series.lost.counts.items
+  pub sent_room : 13 * 120 ≤ length series.sent.counts.items
+  pub lost_room : 13 * 120 ≤ length series.lost.counts.items
   pub told : length series.stories.items ≡ member_count s
   pub stories : AreStoriesOf s series.stories.items rows
   pub deaths : AreDeathsOf series.deaths rows

@@ -1,5 +1,5 @@
 -- What the rows of a run report of one member.
-use Rattle.std.specs.Prelude.{◌≡◌, ℕ, ◌+◌, ◌<◌, ◌≤◌, ◌^◌, Bool, true, false, ◌&&◌, ◌==◌, if◌then◌else◌, Option, Some, None, IfSome, List, [], ◌∷◌, filter, filter_map, find, count_by, length, slice_index_or}
+use Rattle.std.specs.Prelude.{◌≡◌, ℕ, ◌+◌, ◌<◌, ◌≤◌, ◌^◌, Bool, true, false, ◌&&◌, ◌||◌, ◌==◌, if◌then◌else◌, Option, Some, None, IfSome, List, [], ◌∷◌, filter, filter_map, find, count_by, length, slice_index_or}
 use Rattle.std.specs.Option.{option_map, option_map_or, option_or}
 use Rattle.std.specs.List.{last_or, list_any, slice_get}
 use Rattle.scenario.specs.Setup.{Setup}
@@ -9,6 +9,7 @@ use Rattle.trace.specs.declared.row.Row.{Row}
 use Rattle.reports.specs.Rows.{Placed, rows_in_place, has_kind, is_about, tells_of}
 use Rattle.reports.specs.Revivals.{is_view, is_view_of, is_revival}
 use Rattle.reports.specs.Departures.{moment_of}
+use Rattle.incidents.specs.Lives.{restarts}
 use Rattle.series.specs.declared.story.Story.{Story}
 use Rattle.series.specs.declared.spread.Spread.{Spread}
 use Rattle.series.specs.Spans.{span_at}
@@ -73,9 +74,23 @@ told_at kind row = if has_kind kind row then Some row.at else None
 abbrev pub held_so : What → ℕ → ℕ → List Row → Option ℕ
 held_so kind subject member rows = option_map_or (told_at kind) (last_or None (filter (is_view_of member subject) rows)) None
 
--- when a member learned of a subject's crash: it held the subject so when it crashed, or else said so first from then on
+-- when a member learned of a subject's crash by these rows: it held the subject so when it crashed, or else said so first from then on
+abbrev pub heard_in : What → ℕ → ℕ → List Row → Option ℕ
+heard_in kind subject member rows = option_or (held_so kind subject member (before_crash subject rows)) (first_said kind subject member (from_crash subject rows))
+
+-- the rows up to that with which a subject starts again behind its crash, where it may have crashed before them
+abbrev pub rows_until : Bool → ℕ → List Row → List Row
+rows_until crashed subject [] = []
+rows_until crashed subject (row ∷ rows) = if crashed && restarts subject row then [] else row ∷ rows_until (crashed || is_crash_of subject row) subject rows
+
+-- one of them starts it again so
+abbrev pub returns_among : Bool → ℕ → List Row → Bool
+returns_among crashed subject [] = false
+returns_among crashed subject (row ∷ rows) = (crashed && restarts subject row) || returns_among (crashed || is_crash_of subject row) subject rows
+
+-- the news of a crash ends where its subject starts again
 abbrev pub heard : What → ℕ → ℕ → List Row → Option ℕ
-heard kind subject member rows = option_or (held_so kind subject member (before_crash subject rows)) (first_said kind subject member (from_crash subject rows))
+heard kind subject member rows = heard_in kind subject member (rows_until false subject rows)
 
 -- when a member learned of a crash, or came to hold so whom hasn't crashed yet, with one row of its own more that is about this one
 abbrev pub with_row : Bool → What → Row → Option ℕ → Option ℕ
@@ -86,6 +101,7 @@ with_row false kind row moment = if is_view row then told_at kind row else momen
 pub record IsSpreadOf (s : Setup) (subject : ℕ) (spread : Spread) (rows : List Row) : Type 0 where
   pub since : spread.since ≡ watched s subject
   pub crashed : spread.crashed ≡ list_any (is_crash_of subject) rows
+  pub back : spread.back ≡ returns_among false subject rows
   pub suspecting : length spread.suspected.items ≡ places s subject
   pub confirming : length spread.confirmed.items ≡ places s subject
   pub suspected : (member : ℕ) → member < length spread.suspected.items → slice_index_or spread.suspected.items member None ≡ heard what.Suspect subject member rows

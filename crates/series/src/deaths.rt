@@ -3,7 +3,7 @@ ghost use Rattle.std.specs.Prelude.{◌≡◌, ℕ, ◌+◌, ◌<◌, ◌≤◌,
 ghost use Rattle.reports.specs.Rows.{has_kind};
 ghost use Rattle.series.specs.Lines.{line_at};
 ghost use Rattle.trace.specs.declared.row.Row.{Row as AnyRow};
-ghost use Rattle.series.specs.Deaths.{AreAnswersOf, AreGoneOf, AreProbesOf, AreStandingsOf, AreToldOf, CanStand, IsToldOf, answers_of, begins_death, no_answers};
+ghost use Rattle.series.specs.Deaths.{AreAnswersOf, AreGoneOf, AreProbesOf, AreStandingsOf, AreToldOf, CanStand, IsToldOf, answers_of, begins_death, gone_by, no_answers};
 
 use crate::accusers::ProbeStory;
 use crate::answers::Answers;
@@ -234,14 +234,24 @@ fn begun(last: Option<ProbeStory>, row: &Row, number: u64) -> Option<ProbeStory>
     }
 }
 
-/// Takes in that a member crashes or leaves, where it does.
+/// Takes in that a member crashes, leaves or starts again, where it does.
 fn follow_departure(gone: &mut Vec<bool>, row: &Row)
     requires member { row.now.member < length gone.old.items }
     ensures follows { (rows : List AnyRow) → AreGoneOf gone.old.items rows → AreGoneOf gone.new.items (rows ++ row.now ∷ []) }
     ensures kept { length gone.new.items ≡ length gone.old.items }
 {
-    if row.what == What::Crash || row.what == What::Leave {
-        gone[row.member.index()] = true;
+    let place = row.member.index();
+    gone[place] = gone_by(row, gone[place]);
+}
+
+/// Whether a row's member, which was gone or not, is gone now.
+fn gone_by(row: &Row, was_gone: bool) -> bool
+    ensures { result ≡ gone_by row.now was_gone }
+{
+    match row.what {
+        What::Crash | What::Leave => true,
+        What::Restart => false,
+        _ => was_gone,
     }
 }
 

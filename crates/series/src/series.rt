@@ -1,5 +1,5 @@
 //! What is gathered of a run.
-ghost use Rattle.std.specs.Prelude.{◌≡◌, ◌≢◌, ℕ, ◌+◌, ◌*◌, ◌<◌, ◌≤◌, ◌^◌, ◌&&◌, ◌==◌, ◌++◌, ◌∷◌, [], cond, min, nat_lt, if◌then◌else◌, List, Some, None, IfSome, OnOk, OnErr, IfOk, IfErr, IsErrOf, length};
+ghost use Rattle.std.specs.Prelude.{◌≡◌, ◌≢◌, ℕ, ◌+◌, ◌*◌, ◌<◌, ◌≤◌, ◌^◌, ◌&&◌, ◌||◌, ◌==◌, ◌++◌, ◌∷◌, [], true, cond, min, nat_lt, if◌then◌else◌, List, Some, None, IfSome, OnOk, OnErr, IfOk, IfErr, IsErrOf, length};
 ghost use Rattle.trace.specs.declared.row.Row.{Row as AnyRow};
 ghost use Rattle.trace.specs.declared.row.What.{What as AKind};
 ghost use Rattle.std.specs.Option.{option_to_list};
@@ -55,9 +55,9 @@ impl Series {
         ensures { IfOk result (λ series. AreSeriesOf scenario.now series []) }
     {
         let mut sent = Grid::new(alloc);
-        sent.make_room(12)?;
+        sent.make_room(13)?;
         let mut lost = Grid::new(alloc);
-        lost.make_room(12)?;
+        lost.make_room(13)?;
         let mut health = Flows::new(alloc);
         health.make_room(scenario.members(), 17)?;
         let stories = new_stories(alloc, scenario)?;
@@ -201,8 +201,8 @@ fn crash_by_end(scenario: &Scenario, member: MemberId) -> Option<Moment>
     }
 }
 
-/// Takes in what a row, which stands on the line of that number, reports of the member that crashes by it,
-/// or else of the one that it is about. A refusal leaves what is known.
+/// Takes in what a row, which stands on the line of that number, reports of the member that crashes or starts
+/// again by it, or else of the one that it is about. A refusal leaves what is known.
 fn follow_subject(
     stories: &mut Vec<Story>,
     row: &Row,
@@ -216,8 +216,8 @@ fn follow_subject(
     ensures err { OnErr result ((s : Setup) (rows : List AnyRow) → AreStoriesOf s stories.old.items rows → AreStoriesOf s stories.new.items rows) }
     ensures all { length stories.new.items ≡ length stories.old.items }
 {
-    if is_crash(row) {
-        stories[row.member.index()].crash();
+    if is_turn(row) {
+        follow_turn(stories, row);
         return Ok(());
     }
     let Some(about) = row.about else {
@@ -230,6 +230,27 @@ fn follow_subject(
     Ok(())
 }
 
+/// Takes in that the member of a row crashes or starts again by it.
+fn follow_turn(stories: &mut Vec<Story>, row: &Row)
+    requires can { CanFollow row.now stories.old.items }
+    requires turn { (has_kind What.Crash row.now || has_kind What.Restart row.now) ≡ true }
+    ensures told { (s : Setup) (rows : List AnyRow) → AreStoriesOf s stories.old.items rows → AreStoriesOf s stories.new.items (rows ++ row.now ∷ []) }
+    ensures all { length stories.new.items ≡ length stories.old.items }
+{
+    if is_crash(row) {
+        stories[row.member.index()].crash();
+        return;
+    }
+    stories[row.member.index()].restart();
+}
+
+/// Whether a row is that of a crash or a restart.
+fn is_turn(row: &Row) -> bool
+    ensures { result ≡ (has_kind What.Crash row.now || has_kind What.Restart row.now) }
+{
+    row.what == What::Crash || row.what == What::Restart
+}
+
 /// Whether a row is that of a crash.
 fn is_crash(row: &Row) -> bool
     ensures { result ≡ has_kind What.Crash row.now }
@@ -240,8 +261,8 @@ fn is_crash(row: &Row) -> bool
 /// Counts the message that a row reports, and whether it was lost.
 fn follow_message(sent: &mut Grid, lost: &mut Grid, row: &Row, span: usize)
     requires span { span < 120 }
-    requires sent_room { 12 * 120 ≤ length sent.old.counts.items }
-    requires lost_room { 12 * 120 ≤ length lost.old.counts.items }
+    requires sent_room { 13 * 120 ≤ length sent.old.counts.items }
+    requires lost_room { 13 * 120 ≤ length lost.old.counts.items }
     requires sent_by_one { (place : ℕ) → kind_place row.now.what ≡ Some place → count_at sent.old place span < 2 ^ 63 }
     requires lost_by_one { (place : ℕ) → kind_place row.now.what ≡ Some place → count_at lost.old place span < 2 ^ 63 }
     ensures sent { (kind : AKind) (place k : ℕ) → kind_place kind ≡ Some place → k < 120
@@ -275,7 +296,7 @@ fn follow_health(health: &mut Flows, row: &Row, span: usize)
 /// The place of a kind of message among those that are counted.
 fn kind_place(kind: What) -> Option<usize>
     ensures place { result ≡ kind_place kind }
-    ensures within { IfSome result (λ place. place < 12) }
+    ensures within { IfSome result (λ place. place < 13) }
 {
     match kind {
         What::Join => Some(0),
@@ -290,6 +311,7 @@ fn kind_place(kind: What) -> Option<usize>
         What::Answer => Some(9),
         What::Push => Some(10),
         What::Pull => Some(11),
+        What::Reconnect => Some(12),
         _ => None,
     }
 }

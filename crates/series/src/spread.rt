@@ -1,5 +1,5 @@
 //! When members learned of a crash.
-ghost use Rattle.std.specs.Prelude.{◌≡◌, ℕ, ◌<◌, ◌==◌, ◌++◌, ◌∷◌, [], true, false, if◌then◌else◌, List, None, IfOk, length, slice_index_or};
+ghost use Rattle.std.specs.Prelude.{◌≡◌, ℕ, ◌<◌, ◌==◌, ◌||◌, ◌++◌, ◌∷◌, [], true, false, if◌then◌else◌, List, None, IfOk, length, slice_index_or};
 ghost use Rattle.reports.specs.Revivals.{is_view};
 ghost use Rattle.series.specs.Stories.{told_at, with_row};
 
@@ -15,8 +15,10 @@ pub struct Spread {
     since: Option<Moment>,
     /// Whether the row of its crash came.
     crashed: bool,
+    /// Whether the row came behind that with which it started again.
+    back: bool,
     /// Since when each member suspects it, until it crashes; from then on, when each suspected it that
-    /// did so when it crashed, or first did so later.
+    /// did so when it crashed, or first did so later, before it started again.
     suspected: Vec<Option<Moment>>,
     /// The same of those who confirm that it failed.
     confirmed: Vec<Option<Moment>>,
@@ -28,6 +30,7 @@ impl Spread {
     ghost use Rattle.series.specs.Watched.{watched};
     ghost use Rattle.trace.specs.declared.row.Row.{Row as AnyRow};
     ghost use Rattle.reports.specs.Rows.{is_about};
+    ghost use Rattle.incidents.specs.Lives.{restarts};
 
     /// What is known, before any row, of a member whose crash is watched from that moment on, or isn't, where there
     /// are so many members.
@@ -42,16 +45,21 @@ impl Spread {
         Ok(Spread {
             since,
             crashed: false,
+            back: false,
             suspected: no_moments(alloc, places)?,
             confirmed: no_moments(alloc, places)?,
         })
     }
 
-    /// Takes in a row that is about the member, and isn't that of its crash.
+    /// Takes in a row that is about the member, and is neither that of its crash nor that with which it
+    /// starts again.
     pub(crate) fn follow(&mut self, row: &Row)
-        ensures { (s : Setup) (subject : ℕ) (rows : List AnyRow) → is_about subject row.now ≡ true → is_crash_of subject row.now ≡ false → IsSpreadOf s subject self.old rows
-            → IsSpreadOf s subject self.new (rows ++ row.now ∷ []) }
+        ensures { (s : Setup) (subject : ℕ) (rows : List AnyRow) → is_about subject row.now ≡ true → is_crash_of subject row.now ≡ false → restarts subject row.now ≡ false
+            → IsSpreadOf s subject self.old rows → IsSpreadOf s subject self.new (rows ++ row.now ∷ []) }
     {
+        if self.back {
+            return;
+        }
         note(&mut self.suspected, self.crashed, What::Suspect, row);
         note(&mut self.confirmed, self.crashed, What::Confirm, row);
     }
@@ -63,6 +71,13 @@ impl Spread {
         self.crashed = true;
     }
 
+    /// Takes in that the member starts again.
+    pub(crate) fn restart(&mut self)
+        ensures { self.new ≡ record self.old { back = self.old.back || self.old.crashed } }
+    {
+        self.back = is_back(self.back, self.crashed);
+    }
+
     /// When the member crashes, where that is watched.
     pub fn since(&self) -> Option<Moment>
         ensures { result ≡ self.now.since }
@@ -70,8 +85,8 @@ impl Spread {
         self.since
     }
 
-    /// When each member suspected it that did so when it crashed, or first did so later, at that member's
-    /// number; empty where its crash isn't watched.
+    /// When each member suspected it that did so when it crashed, or first did so later and before it
+    /// started again, at that member's number; empty where its crash isn't watched.
     pub fn suspected(&self) -> &[Option<Moment>]
         ensures { result.now ≡ self.now.suspected.items }
     {
@@ -84,6 +99,13 @@ impl Spread {
     {
         self.confirmed.as_slice()
     }
+}
+
+/// Whether a member that starts again is back behind its crash, or was already.
+fn is_back(back: bool, crashed: bool) -> bool
+    ensures { result ≡ (back || crashed) }
+{
+    back || crashed
 }
 
 /// A place for each of so many members, with no moment yet.

@@ -1,5 +1,5 @@
 //! What the rows of a run say of one member.
-ghost use Rattle.std.specs.Prelude.{◌≡◌, ℕ, ◌+◌, ◌<◌, ◌≤◌, ◌^◌, ◌&&◌, ◌==◌, ◌++◌, ◌∷◌, [], true, false, cond, List, Some, OnOk, length, slice_index};
+ghost use Rattle.std.specs.Prelude.{◌≡◌, ℕ, ◌+◌, ◌<◌, ◌≤◌, ◌^◌, ◌&&◌, ◌||◌, ◌==◌, ◌++◌, ◌∷◌, [], true, false, cond, List, Some, OnOk, length, slice_index};
 ghost use Rattle.std.specs.Option.{option_to_list};
 ghost use Rattle.reports.specs.Rows.{has_kind, is_about};
 ghost use Rattle.series.specs.Grid.{count_at};
@@ -36,6 +36,7 @@ pub struct Story {
 impl Story {
     ghost use Rattle.scenario.specs.Setup.{Setup};
     ghost use Rattle.trace.specs.declared.row.Row.{Row as AnyRow};
+    ghost use Rattle.incidents.specs.Lives.{restarts};
     ghost use Rattle.series.specs.Stories.{is_crash_of, IsSpreadOf, IsStoryOf, HasRoom, ComesNext, CanTell};
 
     /// What is known before any row, with what is watched of the member's crash.
@@ -71,13 +72,13 @@ impl Story {
         }
     }
 
-    /// Takes in a row that is about the member, and stands on the line of that number. It isn't
-    /// that of a crash.
+    /// Takes in a row that is about the member, and stands on the line of that number. It is
+    /// neither that of a crash nor that of a restart.
     pub(crate) fn follow(&mut self, row: &Row, span: usize, number: u64)
         requires span { span < 120 }
         requires room { HasRoom row.now.member row.now.what self.old }
         requires can { CanTell row.now self.old }
-        ensures { (s : Setup) (subject : ℕ) (rows : List AnyRow) → is_about subject row.now ≡ true → is_crash_of subject row.now ≡ false → ComesNext s row.now span number rows
+        ensures { (s : Setup) (subject : ℕ) (rows : List AnyRow) → is_about subject row.now ≡ true → is_crash_of subject row.now ≡ false → restarts subject row.now ≡ false → ComesNext s row.now span number rows
             → IsStoryOf s subject self.old rows → IsStoryOf s subject self.new (rows ++ row.now ∷ []) }
     {
         let is_back = takes_back(&self.claims, row);
@@ -95,6 +96,13 @@ impl Story {
         ensures { self.new ≡ record self.old { spread = record self.old.spread { crashed = true } } }
     {
         self.spread.crash();
+    }
+
+    /// Takes in that the member starts again.
+    pub(crate) fn restart(&mut self)
+        ensures { self.new ≡ record self.old { spread = record self.old.spread { back = self.old.spread.back || self.old.spread.crashed } } }
+    {
+        self.spread.restart();
     }
 
     /// How others hold it: state 0 is alive, 1 suspected, 2 confirmed to have failed.

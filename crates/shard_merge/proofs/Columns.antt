@@ -1,8 +1,10 @@
 -- Headers with which one text begins have the same columns.
-use Rattle.std.proofs.Common.{◌≡◌, ◌<◌, ℕ, Bool, true, false, List, [], ◌∷◌, ◌++◌, map, length, get_or, codes, arith, refl, sym, ap, ◌∙◌, append_assoc}
+use Rattle.std.proofs.Common.{◌≡◌, ◌<◌, ℕ, true, false, List, [], ◌∷◌, ◌++◌, map, length, get_or, codes, arith, refl, sym, ap, ◌∙◌, append_assoc}
 use Rattle.std.specs.List.{join_with_byte}
 use Rattle.std.proofs.lemmas.List.{append_cancel_left, map-append}
 use Rattle.csv.specs.Writing.{default_writer, field_text}
+use Rattle.figures.specs.declared.column_set.ColumnSet.{ColumnSet}
+use Rattle.figures.specs.declared.column_set.ColumnSet.TheVariants.{First, WithRevived, WithIncidents}
 use Rattle.figures.specs.Lines.{claim_names, header_line, protocol_names, table_line}
 
 -- a list whose items are joined, with a first part that has some
@@ -14,7 +16,7 @@ joined_parts c (x ∷ z ∷ xs) y ys some =
     ap (λ l. x ++ c ∷ l) (joined_parts c (z ∷ xs) y ys (omega arith))
     ∙ sym (append_assoc x (c ∷ join_with_byte c (z ∷ xs)) (c ∷ join_with_byte c (y ∷ ys)))
 
--- what stands before the column that only some tables have
+-- what stands before the columns that only some tables have
 abbrev before : List (List ℕ) → List (List ℕ)
 before names = names ++ codes "seed" ∷ claim_names
 
@@ -38,8 +40,11 @@ laid names column columns rest =
     some [] = omega arith
     some (name ∷ names) = omega arith
 
--- the column differs from the one that follows it in its first letter
-differ : (names : List (List ℕ)) (x y : List ℕ) → header_line true names ++ x ≡ header_line false names ++ y → ⊥
+-- a header with a column differs from one with another in that place: behind the comma in its first letter, or later where what follows is the same
+abbrev later : List (List ℕ)
+later = codes "alarms" ∷ codes "deaths" ∷ codes "deaths_well" ∷ codes "restarts" ∷ codes "whole" ∷ protocol_names
+
+differ : (names : List (List ℕ)) (x y : List ℕ) → header_line WithRevived names ++ x ≡ header_line First names ++ y → ⊥
 differ names x y same =
     let with_it = laid names (codes "revived") protocol_names x in
     let without = laid names (codes "accuse") (codes "refute" ∷ codes "fail" ∷ codes "health" ∷ codes "sent" ∷ codes "lost" ∷ []) y in
@@ -47,14 +52,36 @@ differ names x y same =
     let letter : 114 ≡ 97 = ap (λ l. get_or l 1 0) behind in
     omega (arith, letter)
 
-pub same_revived : (r b : Bool) (names : List (List ℕ)) (x y : List ℕ) → header_line r names ++ x ≡ header_line b names ++ y → r ≡ b
-same_revived true true names x y same = refl
-same_revived true false names x y same = absurd (differ names x y same)
-same_revived false true names x y same = absurd (differ names y x (sym same))
-same_revived false false names x y same = refl
+differ_more : (names : List (List ℕ)) (x y : List ℕ) → header_line WithIncidents names ++ x ≡ header_line First names ++ y → ⊥
+differ_more names x y same =
+    let with_it = laid names (codes "revived") later x in
+    let without = laid names (codes "accuse") (codes "refute" ∷ codes "fail" ∷ codes "health" ∷ codes "sent" ∷ codes "lost" ∷ []) y in
+    let behind = append_cancel_left (cells names) _ _ (sym with_it ∙ same ∙ without) in
+    let letter : 114 ≡ 97 = ap (λ l. get_or l 1 0) behind in
+    omega (arith, letter)
+
+-- `alarms` and `accuse` in their second
+differ_later : (names : List (List ℕ)) (x y : List ℕ) → header_line WithIncidents names ++ x ≡ header_line WithRevived names ++ y → ⊥
+differ_later names x y same =
+    let with_it = laid names (codes "revived") later x in
+    let without = laid names (codes "revived") protocol_names y in
+    let behind = append_cancel_left (cells names) _ _ (sym with_it ∙ same ∙ without) in
+    let letter : 108 ≡ 99 = ap (λ l. get_or l 10 0) behind in
+    omega (arith, letter)
+
+pub same_columns : (r b : ColumnSet) (names : List (List ℕ)) (x y : List ℕ) → header_line r names ++ x ≡ header_line b names ++ y → r ≡ b
+same_columns First First names x y same = refl
+same_columns First WithRevived names x y same = absurd (differ names y x (sym same))
+same_columns First WithIncidents names x y same = absurd (differ_more names y x (sym same))
+same_columns WithRevived First names x y same = absurd (differ names x y same)
+same_columns WithRevived WithRevived names x y same = refl
+same_columns WithRevived WithIncidents names x y same = absurd (differ_later names y x (sym same))
+same_columns WithIncidents First names x y same = absurd (differ_more names x y same)
+same_columns WithIncidents WithRevived names x y same = absurd (differ_later names x y same)
+same_columns WithIncidents WithIncidents names x y same = refl
 
 -- and so the same comes behind them
-pub behind_header : (r b : Bool) (names : List (List ℕ)) (x y : List ℕ) → header_line r names ++ x ≡ header_line b names ++ y → x ≡ y
+pub behind_header : (r b : ColumnSet) (names : List (List ℕ)) (x y : List ℕ) → header_line r names ++ x ≡ header_line b names ++ y → x ≡ y
 behind_header r b names x y same =
-    let one = same_revived r b names x y same in
+    let one = same_columns r b names x y same in
     append_cancel_left (header_line b names) x y (ap (λ q. header_line q names ++ x) (sym one) ∙ same)

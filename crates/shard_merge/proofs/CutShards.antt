@@ -1,5 +1,5 @@
 -- A shard that was cut off goes on as the shard that it is.
-use Rattle.std.proofs.Common.{◌≡◌, ◌⊎◌, ◌≤◌, ◌+◌, ◌-◌, ℕ, zero, suc, Bool, List, [], ◌∷◌, ◌++◌, inl, inr, length, take, drop, lit<, arith, refl, sym, ap, subst, ◌∙◌, append_assoc}
+use Rattle.std.proofs.Common.{◌≡◌, ◌⊎◌, ◌≤◌, ◌+◌, ◌-◌, ℕ, zero, suc, List, [], ◌∷◌, ◌++◌, inl, inr, length, take, drop, lit<, arith, refl, sym, ap, subst, ◌∙◌, append_assoc}
 use Rattle.std.specs.Prelude.{Option, Some, All}
 use Rattle.std.specs.List.{AllZip, flat_map}
 use Rattle.std.specs.Io.KnownBytes.{Appends}
@@ -10,12 +10,13 @@ use Rattle.std.proofs.lemmas.List.Elements.{All-head, All-tail}
 use Rattle.toml.specs.Data.{Data}
 use Rattle.sweep_plan.proofs.Words.{Lacks, cut_once}
 use Rattle.sweep_plan.specs.Sweep.{Sweep, run_count}
+use Rattle.figures.specs.declared.column_set.ColumnSet.{ColumnSet}
 use Rattle.figures.specs.Notes.{note_cell, note_text}
 use Rattle.line_sums.proofs.Cuts.{sum_no_feed}
 use Rattle.shards.specs.declared.shard.Shard.{Shard}
 use Rattle.shards.specs.Shards.{first_run, past_run}
 use Rattle.sweep.specs.Runs.{Made, AreMadeBetween, IsMadeAs, noted, runs_of}
-use Rattle.sweep.specs.Table.{made_line, noted_line, counts_revived}
+use Rattle.sweep.specs.Table.{made_line, noted_line, columns_of}
 use Rattle.sweep.specs.Shards.{AreMadeBehind, WritesRest, shard_header}
 use Rattle.sweep.specs.Resumed.{IsBegun, IsLong, IsShort, RefusesBegun, runs_in}
 use Rattle.sweep.specs.Sums.{IsFed, key_of_text, sweep_key}
@@ -39,39 +40,39 @@ zipped_first R (x ∷ xs) [] (suc n) all = absurd all
 zipped_first R (x ∷ xs) (y ∷ ys) (suc n) all = (all.0, zipped_first R xs ys n all.1)
 
 -- lines with which those of some runs begin are the first of them
-pub record AreFirst (revived : Bool) (key : List ℕ) (lines : List (List ℕ)) (made : List Made) : Type 0 where
+pub record AreFirst (columns : ColumnSet) (key : List ℕ) (lines : List (List ℕ)) (made : List Made) : Type 0 where
   pub fit : length lines ≤ length made
-  pub same : flat_map (λ line. line) lines ≡ flat_map (noted_line revived key) (take (length lines) made)
+  pub same : flat_map (λ line. line) lines ≡ flat_map (noted_line columns key) (take (length lines) made)
 
-module _ (revived : Bool) (key : List ℕ) where
+module _ (columns : ColumnSet) (key : List ℕ) where
   abbrev line : Made → List ℕ
-  line = noted_line revived key
+  line = noted_line columns key
 
   abbrev joined : List (List ℕ) → List ℕ
   joined = flat_map (λ (one : List ℕ). one)
 
   -- the line of a run without its line feed
   abbrev body_of : Made → List ℕ
-  body_of m = (line_from revived key m).sum ++ 32 ∷ (note_text (noted m) ++ 44 ∷ (line_from revived key m).body)
+  body_of m = (line_from columns key m).sum ++ 32 ∷ (note_text (noted m) ++ 44 ∷ (line_from columns key m).body)
 
   line_cut : (m : Made) → line m ≡ body_of m ++ 10 ∷ []
   line_cut m =
-      let l = line_from revived key m in
-      sym (line_in_shard revived key m) ∙ ap (λ x. l.sum ++ 32 ∷ x) (sym (append_assoc (note_text (noted m)) (44 ∷ l.body) (10 ∷ [])))
+      let l = line_from columns key m in
+      sym (line_in_shard columns key m) ∙ ap (λ x. l.sum ++ 32 ∷ x) (sym (append_assoc (note_text (noted m)) (44 ∷ l.body) (10 ∷ [])))
       ∙ sym (append_assoc l.sum (32 ∷ (note_text (noted m) ++ 44 ∷ l.body)) (10 ∷ []))
 
   body_lacks : (m : Made) → FitsLine m → Lacks 10 (body_of m)
   body_lacks m fits =
-      let l = line_from revived key m in
-      let lacks_it = lacks_both 10 (note_text (noted m)) (44 ∷ l.body) (note_lacks 10 (lit< tt) refl (noted m) fits.note) (lacks_cons 10 44 l.body refl (line_sound revived key m fits).one) in
-      lacks_both 10 l.sum (32 ∷ (note_text (noted m) ++ 44 ∷ l.body)) (sum_no_feed key (note_cell (noted m) ++ made_line revived m)) (lacks_cons 10 32 (note_text (noted m) ++ 44 ∷ l.body) refl lacks_it)
+      let l = line_from columns key m in
+      let lacks_it = lacks_both 10 (note_text (noted m)) (44 ∷ l.body) (note_lacks 10 (lit< tt) refl (noted m) fits.note) (lacks_cons 10 44 l.body refl (line_sound columns key m fits).one) in
+      lacks_both 10 l.sum (32 ∷ (note_text (noted m) ++ 44 ∷ l.body)) (sum_no_feed key (note_cell (noted m) ++ made_line columns m)) (lacks_cons 10 32 (note_text (noted m) ++ 44 ∷ l.body) refl lacks_it)
 
   no_text : (b x : List ℕ) → (b ++ 10 ∷ []) ++ x ≡ [] → ⊥
   no_text [] x same = cc
   no_text (c ∷ b) x same = cc
 
   first_lines : (lines : List (List ℕ)) (made : List Made) (x : List ℕ) → All IsFed lines → All FitsLine made → joined lines ++ x ≡ flat_map line made
-      → AreFirst revived key lines made
+      → AreFirst columns key lines made
   first_lines [] made x fed fits same = record { fit = omega arith; same = refl }
   first_lines (one ∷ lines) [] x fed fits same =
       let its = All-head IsFed one lines fed in
@@ -106,11 +107,11 @@ module _ (tree : Data) (sweep : Sweep) (first past runs : ℕ) (made later : Lis
       (subst (λ l. AllZip (IsMadeAs tree) l (take runs made)) front (zipped_first (IsMadeAs tree) (take count all) made runs are)) behind)
 
 module _ (tree : Data) (mark : List ℕ) (sweep : Sweep) (p : Shard) (made : List Made) (text : List ℕ) (cut : IsCutShard tree mark sweep p made text) where
-  abbrev revived : Bool
-  revived = counts_revived tree
+  abbrev columns : ColumnSet
+  columns = columns_of tree
 
   abbrev header : List ℕ
-  header = shard_header revived mark sweep p
+  header = shard_header columns mark sweep p
 
   abbrev key : List ℕ
   key = sweep_key mark sweep
@@ -124,14 +125,14 @@ module _ (tree : Data) (mark : List ℕ) (sweep : Sweep) (p : Shard) (made : Lis
   abbrev Long : ℕ → ℕ → Type 0
   Long kept runs = IsLong own_key sweep first (runs_in sweep p) header text kept runs
 
-  first_of : (kept runs : ℕ) (long : Long kept runs) → AreFirst revived key long.begins.lines made
+  first_of : (kept runs : ℕ) (long : Long kept runs) → AreFirst columns key long.begins.lines made
   first_of kept runs long =
       let lines = flat_map (λ (one : List ℕ). one) long.begins.lines in
-      let table = flat_map (noted_line revived key) made in
+      let table = flat_map (noted_line columns key) made in
       let body : long.rest ++ cut.rest ≡ table =
       append_cancel_left header (long.rest ++ cut.rest) table (sym (append_assoc header long.rest cut.rest) ∙ ap (λ l. l ++ cut.rest) (sym long.written) ∙ cut.written) in
       let start : lines ++ (long.left ++ cut.rest) ≡ table = sym (append_assoc lines long.left cut.rest) ∙ ap (λ l. l ++ cut.rest) (sym long.begins.written) ∙ body in
-      first_lines revived key long.begins.lines made (long.left ++ cut.rest) (all_fed own_key sweep first runs long.begins.lines long.begins.are) cut.fits start
+      first_lines columns key long.begins.lines made (long.left ++ cut.rest) (all_fed own_key sweep first runs long.begins.lines long.begins.are) cut.fits start
 
   -- the first runs that were made, and those behind them, are the runs of the shard
   both_left : (runs : ℕ) (later : List Made) → first + runs ≤ past_run p (run_count sweep) → AreMadeBehind tree sweep p runs later → AreMadeBehind tree sweep p 0 (take runs made ++ later)
@@ -145,7 +146,7 @@ module _ (tree : Data) (mark : List ℕ) (sweep : Sweep) (p : Shard) (made : Lis
   going_on kept runs new begun writes = by begun.stands
     where
       made_lines : Made → List ℕ
-      made_lines = noted_line revived key
+      made_lines = noted_line columns key
 
       by : IsShort header text kept runs ⊎ Long kept runs → WritesRest tree mark sweep p 0 0 (Some []) new
       by (inl short) = record {
@@ -169,7 +170,7 @@ module _ (tree : Data) (mark : List ℕ) (sweep : Sweep) (p : Shard) (made : Lis
           }
 
   pub taken_for_one : RefusesBegun tree mark sweep p text begun_fault.Other → ⊥
-  taken_for_one apart = on (one_begins_with_other text cut.rest header (flat_map (noted_line revived key) made) cut.written)
+  taken_for_one apart = on (one_begins_with_other text cut.rest header (flat_map (noted_line columns key) made) cut.written)
     where
       on : ((more : List ℕ) × (text ≡ header ++ more)) ⊎ ((more : List ℕ) × (header ≡ text ++ more)) → ⊥
       on (inl it) = apart.no_more it.0 it.1

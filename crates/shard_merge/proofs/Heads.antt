@@ -1,5 +1,5 @@
 -- What the name of a shard says is that shard, of that sweep.
-use Rattle.std.proofs.Common.{◌≡◌, ◌<◌, ◌≤◌, ◌==◌, ◌^◌, ℕ, Bool, true, false, suc, List, [], ◌∷◌, ◌++◌, map, length, length-drop, get_or, take, drop, ◌-◌, codes, decimal, lit<, arith, refl, sym, ap, subst, ◌∙◌}
+use Rattle.std.proofs.Common.{◌≡◌, ◌<◌, ◌≤◌, ◌==◌, ◌^◌, ℕ, true, false, suc, List, [], ◌∷◌, ◌++◌, map, length, length-drop, get_or, take, drop, ◌-◌, codes, decimal, lit<, arith, refl, sym, ap, subst, ◌∙◌}
 use Rattle.std.specs.Prelude.{Option, Some, None, Result, Ok, Err, IfOk, IfErr, bytes_eq, if◌then◌else◌}
 use Rattle.std.specs.Borrow.{Bor}
 use Rattle.std.specs.Option.{ForSome, MatchOption}
@@ -25,6 +25,8 @@ use Rattle.sweep.specs.Shards.{shard_header}
 use Rattle.shard_merge.specs.Joined.{IsMark}
 use Rattle.shard_merge.specs.Reasons.{BeginsAs, BeginsAsNone, RefusesName, SaysWidth}
 use Rattle.shard_merge.proofs.SameSweep.{asked_axes, joined_is, no_dash, no_swept_says, same_rest, same_seeds, same_swept_keys, until_words, words_lack, words_of}
+use Rattle.figures.specs.declared.column_set.ColumnSet.{ColumnSet}
+use Rattle.figures.specs.declared.column_set.ColumnSet.TheVariants.{First, WithRevived, WithIncidents}
 
 -- the shard of a word is one
 pub same_shard : (word : List ℕ) (q p : Shard) → IsShardWord word q → word ≡ shard_text p → IsShard p → q ≡ p
@@ -45,22 +47,25 @@ name_refused text unread.Words none = none refl
 name_refused text unread.Memory none = tt
 
 -- a text that begins with the first line that its name stands for, and one that doesn't
-pub begun : (text mark : List ℕ) (revived : Bool) (sweep : Sweep) (p : Shard) → IsAskedFor sweep → IsMark mark → IsShard p
-    → (rest : List ℕ) × (text ≡ shard_header revived mark sweep p ++ rest) → BeginsAs text mark revived sweep p
-begun text mark revived sweep p asked marked sound front = record { asked = asked; marked = marked; sound = sound; rest = front.0; written = front.1 }
+pub begun : (text mark : List ℕ) (columns : ColumnSet) (sweep : Sweep) (p : Shard) → IsAskedFor sweep → IsMark mark → IsShard p
+    → (rest : List ℕ) × (text ≡ shard_header columns mark sweep p ++ rest) → BeginsAs text mark columns sweep p
+begun text mark columns sweep p asked marked sound front = record { asked = asked; marked = marked; sound = sound; rest = front.0; written = front.1 }
 
-pub not_begun : (text m : List ℕ) (r revived : Bool) (s : Sweep) (q : Shard) → r ≡ revived
-    → ((mark : List ℕ) (with_it : Bool) (sweep : Sweep) (p : Shard) → BeginsAs text mark with_it sweep p → (m ≡ mark) × (s ≡ sweep) × (q ≡ p))
-    → ((rest : List ℕ) → ¬ (text ≡ shard_header r m s q ++ rest)) → (mark : List ℕ) (sweep : Sweep) (p : Shard) → ¬ (BeginsAs text mark revived sweep p)
-not_begun text m r revived s q same only none mark sweep p begins =
-    let its = only mark revived sweep p begins in
+pub not_begun : (text m : List ℕ) (r columns : ColumnSet) (s : Sweep) (q : Shard) → r ≡ columns
+    → ((mark : List ℕ) (with_it : ColumnSet) (sweep : Sweep) (p : Shard) → BeginsAs text mark with_it sweep p → (m ≡ mark) × (s ≡ sweep) × (q ≡ p))
+    → ((rest : List ℕ) → ¬ (text ≡ shard_header r m s q ++ rest)) → (mark : List ℕ) (sweep : Sweep) (p : Shard) → ¬ (BeginsAs text mark columns sweep p)
+not_begun text m r columns s q same only none mark sweep p begins =
+    let its = only mark columns sweep p begins in
     none begins.rest (begins.written ∙ (λ i. shard_header (sym same i) (sym its.0 i) (sym its.1 i) (sym its.2 i) ++ begins.rest))
 
--- one that begins so with neither table begins as none
-pub neither : (text : List ℕ) → ((mark : List ℕ) (sweep : Sweep) (p : Shard) → ¬ (BeginsAs text mark false sweep p))
-    → ((mark : List ℕ) (sweep : Sweep) (p : Shard) → ¬ (BeginsAs text mark true sweep p)) → BeginsAsNone text
-neither text without with_it mark false sweep p = without mark sweep p
-neither text without with_it mark true sweep p = with_it mark sweep p
+-- one that begins so with no kind of table begins as none
+abbrev pub BeginsNotAs : List ℕ → ColumnSet → Type 0
+BeginsNotAs text columns = (mark : List ℕ) (sweep : Sweep) (p : Shard) → ¬ (BeginsAs text mark columns sweep p)
+
+pub neither : (text : List ℕ) → BeginsNotAs text First → BeginsNotAs text WithRevived → BeginsNotAs text WithIncidents → BeginsAsNone text
+neither text first revived incidents mark First sweep p = first mark sweep p
+neither text first revived incidents mark WithRevived sweep p = revived mark sweep p
+neither text first revived incidents mark WithIncidents sweep p = incidents mark sweep p
 
 -- ---- the words of a sweep, cut at their spaces
 

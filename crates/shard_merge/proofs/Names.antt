@@ -1,5 +1,5 @@
 -- The name with which a text begins that is a shard.
-use Rattle.std.proofs.Common.{◌≡◌, ◌<◌, ◌==◌, ℕ, Bool, false, List, [], ◌∷◌, ◌++◌, length, decimal, lit<, arith, refl, sym, ap, subst, ◌∙◌, append_assoc, take, drop, take_at, is_some}
+use Rattle.std.proofs.Common.{◌≡◌, ◌<◌, ◌==◌, ℕ, false, List, [], ◌∷◌, ◌++◌, length, decimal, lit<, arith, refl, sym, ap, subst, ◌∙◌, append_assoc, take, drop, take_at, is_some}
 use Rattle.std.specs.Prelude.{Option, Some, None, IfSome}
 use Rattle.std.specs.Borrow.{Bor}
 use Rattle.std.specs.Option.{MatchOption}
@@ -8,6 +8,7 @@ use Rattle.std.proofs.Math.Seq.{drop_at}
 use Rattle.std.proofs.lemmas.Str.Pattern.{IsSplitOnceResult, split_after, split_parts}
 use Rattle.sweep_plan.specs.Sweep.{Sweep}
 use Rattle.sweep_plan.proofs.Words.{Lacks, decimal_lacks, lacks_each, unlike}
+use Rattle.figures.specs.declared.column_set.ColumnSet.{ColumnSet}
 use Rattle.figures.specs.Lines.{header_line}
 use Rattle.shards.specs.declared.shard.Shard.{Shard}
 use Rattle.shards.specs.Shards.{IsShard, shard_text}
@@ -47,17 +48,17 @@ shard_lacks c p sound slash small =
     lacks_both c (decimal p.number) (47 ∷ decimal p.of) (decimal_lacks p.number c (omega arith) small)
     (lacks_cons c 47 (decimal p.of) slash (decimal_lacks p.of c (omega arith) small))
 
-module _ (text mark : List ℕ) (revived : Bool) (sweep : Sweep) (p : Shard) (b : BeginsAs text mark revived sweep p) where
+module _ (text mark : List ℕ) (columns : ColumnSet) (sweep : Sweep) (p : Shard) (b : BeginsAs text mark columns sweep p) where
   abbrev name : List ℕ
   name = shard_name mark sweep p
 
   abbrev tail : List ℕ
-  tail = 44 ∷ (header_line revived (names_of sweep.swept_keys) ++ b.rest)
+  tail = 44 ∷ (header_line columns (names_of sweep.swept_keys) ++ b.rest)
 
   pub laid : text ≡ 34 ∷ (name ++ 34 ∷ tail)
   laid =
-      b.written ∙ append_assoc (head_cell mark sweep p) (header_line revived (names_of sweep.swept_keys)) b.rest
-      ∙ ap (λ l. 34 ∷ l) (append_assoc name (34 ∷ 44 ∷ []) (header_line revived (names_of sweep.swept_keys) ++ b.rest))
+      b.written ∙ append_assoc (head_cell mark sweep p) (header_line columns (names_of sweep.swept_keys)) b.rest
+      ∙ ap (λ l. 34 ∷ l) (append_assoc name (34 ∷ 44 ∷ []) (header_line columns (names_of sweep.swept_keys) ++ b.rest))
 
   name_lacks : Lacks 34 name
   name_lacks =

@@ -143,7 +143,7 @@ unnamed = refl
 
 tabled_each : AllByRecursion (λ j. is_some j.table ≡ true) listed
 unfolding listed key_rules_of spelling_of
-tabled_each = (refl, (refl, (refl, (refl, (refl, (refl, (refl, (refl, (refl, (refl, (refl, (refl, (refl, (refl, tt))))))))))))))
+tabled_each = (refl, (refl, (refl, (refl, (refl, (refl, (refl, (refl, (refl, (refl, (refl, (refl, (refl, (refl, (refl, (refl, (refl, tt)))))))))))))))))
 
 -- a key of a table has a dot in its name
 not_of_table : (table : Option FormatKey) (item : Option ItemName) (k : FormatKey) → is_some table ≡ true → key_name (record { table = table; item = item; key = k }) ≡ codes "until" → ⊥

@@ -10,6 +10,7 @@ use Rattle.std.proofs.lemmas.List.Concat.{flat_map-append}
 use Rattle.std.proofs.lemmas.List.Elements.{All-append, All-nil}
 use Rattle.trace.proofs.Beginnings.{Appends-none, Appends-then, Keeps-same}
 use Rattle.sweep_plan.specs.Sweep.{Sweep, setting_count, run_count, seed_count}
+use Rattle.figures.specs.declared.column_set.ColumnSet.{ColumnSet}
 use Rattle.figures.specs.declared.summary.SettingSummary.{SettingSummary}
 use Rattle.shards.specs.declared.shard.Shard.{Shard}
 use Rattle.shards.specs.Shards.{IsShard, first_run, past_run}
@@ -34,9 +35,9 @@ use Rattle.shard_merge.proofs.Shares.{first_is, grows, no_share, share_behind, s
 
 -- ---- things
 
-module _ {X : Type 0} (Sound : X → Type 0) (text_of : X → List ℕ) (total : ℕ) (texts : List (Vec ℕ Global)) (mark : List ℕ) (revived : Bool) (sweep : Sweep) (of : ℕ) where
+module _ {X : Type 0} (Sound : X → Type 0) (text_of : X → List ℕ) (total : ℕ) (texts : List (Vec ℕ Global)) (mark : List ℕ) (columns : ColumnSet) (sweep : Sweep) (of : ℕ) where
   abbrev Shards : (List X → Type 0) → ℕ → Option (List ℕ) → Option (List ℕ) → Type 0
-  Shards Holds count old new = JoinsThings Sound text_of total Holds texts mark revived sweep of count old new
+  Shards Holds count old new = JoinsThings Sound text_of total Holds texts mark columns sweep of count old new
 
   no_shard : (Holds : List X → Type 0) (held : Option (List ℕ)) → 0 < of → Holds [] → Shards Holds 0 held held
   no_shard Holds held some holds = record {
@@ -49,7 +50,7 @@ module _ {X : Type 0} (Sound : X → Type 0) (text_of : X → List ℕ) (total :
   }
 
   shard_more : (Held Holds : List X → Type 0) (number : ℕ) (old mid new : Option (List ℕ)) (body : List ℕ) → number < of → (so : Shards Held number old mid)
-      → IsAmongTexts texts (shard_header revived mark sweep (shard_at number of) ++ body) → (are : IsAllOf Sound text_of body (share total (shard_at number of))) → Appends mid new body
+      → IsAmongTexts texts (shard_header columns mark sweep (shard_at number of) ++ body) → (are : IsAllOf Sound text_of body (share total (shard_at number of))) → Appends mid new body
       → Holds (so.things ++ are.items) → Shards Holds (number + 1) old new
   shard_more Held Holds number old mid new body within so here are put holds =
       let things = so.things in
@@ -67,25 +68,25 @@ module _ {X : Type 0} (Sound : X → Type 0) (text_of : X → List ℕ) (total :
       }
     where
       by : (q : Shard) → IsShard q → q.of ≡ of → q.number ≤ number + 1 → (b : Bool) → nat_le q.number number ≡ b
-          → IsAmongTexts texts (shard_header revived mark sweep q ++ flat_map text_of (share_of total q (so.things ++ are.items)))
+          → IsAmongTexts texts (shard_header columns mark sweep q ++ flat_map text_of (share_of total q (so.things ++ are.items)))
       by q sound same upto true e =
           let low : q.number ≤ number = grind (arith, nat_tests) in
           let past : past_run q total ≤ number * total / of =
           subst (λ n. q.number * total / q.of ≤ number * total / n) same (share_grows q.number number q.of total low (omega (arith, sound.least, sound.most))) in
           let kept = share_kept so.things are.items total q (omega (arith, past, so.many)) in
-          subst (λ l. IsAmongTexts texts (shard_header revived mark sweep q ++ flat_map text_of l)) (sym kept) (so.there q sound same low)
+          subst (λ l. IsAmongTexts texts (shard_header columns mark sweep q ++ flat_map text_of l)) (sym kept) (so.there q sound same low)
       by q sound same upto false e =
           let high : number < q.number = grind (arith, nat_tests) in
           let at : q.number ≡ number + 1 = omega (arith, upto, high) in
           let last : shard_at number of ≡ q = (λ i. record { number = sym at i; of = sym same i }) in
           let behind = share_behind so.things are.items total (shard_at number of) (so.many ∙ sym (first_is of total number)) are.many in
-          subst (λ r. IsAmongTexts texts (shard_header revived mark sweep r ++ flat_map text_of (share_of total r (so.things ++ are.items)))) last
-          (subst (λ l. IsAmongTexts texts (shard_header revived mark sweep (shard_at number of) ++ l)) (are.written ∙ ap (flat_map text_of) (sym behind)) here)
+          subst (λ r. IsAmongTexts texts (shard_header columns mark sweep r ++ flat_map text_of (share_of total r (so.things ++ are.items)))) last
+          (subst (λ l. IsAmongTexts texts (shard_header columns mark sweep (shard_at number of) ++ l)) (are.written ∙ ap (flat_map text_of) (sym behind)) here)
 
   -- all shards
   joined : (seed : ℕ) (Holds Sums : List X → Type 0) (old new : Option (List ℕ)) → 0 < of → (all : Shards Holds of old new) → Sums all.things → (until : Option ℕ) (settings : List SettingSummary)
-      → (length all.things ≡ total → length settings ≡ setting_count sweep.swept_keys) → ((body : Shard → List ℕ) → AreShared Sound text_of total Sums body → AreOf until (line_key revived (Some seed) mark sweep) sweep body settings)
-      → JoinsBehind [] texts mark revived seed sweep of old new until settings
+      → (length all.things ≡ total → length settings ≡ setting_count sweep.swept_keys) → ((body : Shard → List ℕ) → AreShared Sound text_of total Sums body → AreOf until (line_key columns (Some seed) mark sweep) sweep body settings)
+      → JoinsBehind [] texts mark columns seed sweep of old new until settings
   joined seed Holds Sums old new some all sums until settings each so =
       let many : length all.things ≡ total = all.many ∙ whole_share of total some in
       let body : Shard → List ℕ = λ p. flat_map text_of (share_of total p all.things) in
@@ -99,12 +100,12 @@ module _ {X : Type 0} (Sound : X → Type 0) (text_of : X → List ℕ) (total :
 
 -- ---- runs' lines, or settings
 
-module _ (texts : List (Vec ℕ Global)) (mark : List ℕ) (revived : Bool) (seed : ℕ) (sweep : Sweep) (of : ℕ) where
+module _ (texts : List (Vec ℕ Global)) (mark : List ℕ) (columns : ColumnSet) (seed : ℕ) (sweep : Sweep) (of : ℕ) where
   abbrev each : ℕ
   each = seed_count sweep.seeds
 
   abbrev key : LineKey
-  key = line_key revived (Some seed) mark sweep
+  key = line_key columns (Some seed) mark sweep
 
   abbrev Gathered : SettingsRead → List Line → Type 0
   Gathered so_far lines = IsGathered each (notes_of lines) so_far.gathering × ArePlaced key sweep lines
@@ -145,37 +146,37 @@ module _ (texts : List (Vec ℕ Global)) (mark : List ℕ) (revived : Bool) (see
       (both_settings key sweep width 0 (length own) (length more) (flat_map shard_setting own) (flat_map shard_setting more) placed behind))
 
   pub none_joined : (until : Option ℕ) (held : Option (List ℕ)) (so_far : SettingsRead) → 0 < of → IsGathered each [] so_far.gathering → so_far.settings.items ≡ []
-      → JoinsShards until texts mark revived seed sweep of 0 held held so_far
-  none_joined None held so_far some fresh none = no_shard IsLine shard_line (run_count sweep) texts mark revived sweep of (Gathered so_far) held some (fresh, no_lines key sweep 0 [])
+      → JoinsShards until texts mark columns seed sweep of 0 held held so_far
+  none_joined None held so_far some fresh none = no_shard IsLine shard_line (run_count sweep) texts mark columns sweep of (Gathered so_far) held some (fresh, no_lines key sweep 0 [])
   none_joined (Some width) held so_far some fresh none =
-      no_shard (IsSetting width each) shard_setting (setting_count sweep.swept_keys) texts mark revived sweep of (SummedUp width so_far.settings.items) held some
+      no_shard (IsSetting width each) shard_setting (setting_count sweep.swept_keys) texts mark columns sweep of (SummedUp width so_far.settings.items) held some
       (subst (λ settings. AllZip SumsUpLines [] settings) (sym none) tt, no_settings key sweep width 0 [])
 
-  pub one_joined : (until : Option ℕ) (number : ℕ) (old mid new : Option (List ℕ)) (between after : SettingsRead) → number < of → JoinsShards until texts mark revived seed sweep of number old mid between
-      → JoinsShard until texts mark revived seed sweep of number mid new between after → JoinsShards until texts mark revived seed sweep of (number + 1) old new after
+  pub one_joined : (until : Option ℕ) (number : ℕ) (old mid new : Option (List ℕ)) (between after : SettingsRead) → number < of → JoinsShards until texts mark columns seed sweep of number old mid between
+      → JoinsShard until texts mark columns seed sweep of number mid new between after → JoinsShards until texts mark columns seed sweep of (number + 1) old new after
   one_joined None number old mid new between after within so one =
       let are = one.read.0.are in
       let more = are.items in
-      shard_more IsLine shard_line (run_count sweep) texts mark revived sweep of (Gathered between) (Gathered after) number old mid new one.body within so one.there are one.put (
+      shard_more IsLine shard_line (run_count sweep) texts mark columns sweep of (Gathered between) (Gathered after) number old mid new one.body within so one.there are one.put (
         subst (λ notes. IsGathered each notes after.gathering) (sym (map-append (λ (l : Line). l.note) so.things more)) (one.read.0.gathered each (notes_of so.things) so.holds.0),
         placed_more number so.things more one.body so.many so.holds.1 are.written are.many one.read.1,
       )
   one_joined (Some width) number old mid new between after within so one =
       let read = one.read.0 in
       let more = read.are.items in
-      shard_more (IsSetting width each) shard_setting (setting_count sweep.swept_keys) texts mark revived sweep of (SummedUp width between.settings.items) (SummedUp width after.settings.items) number old mid new
+      shard_more (IsSetting width each) shard_setting (setting_count sweep.swept_keys) texts mark columns sweep of (SummedUp width between.settings.items) (SummedUp width after.settings.items) number old mid new
       one.body within so one.there read.are one.put (
         subst (λ settings. AllZip SumsUpLines (so.things ++ more) settings) (sym read.added) (zipped_both SumsUpLines so.things more between.settings.items read.summaries so.holds.0 read.summed),
         settings_more width number so.things more one.body so.many so.holds.1 read.are.written read.are.many one.read.1,
       )
 
-  pub all_joined : (until : Option ℕ) (old new : Option (List ℕ)) (so_far : SettingsRead) (settings : List SettingSummary) → 0 < of → JoinsShards until texts mark revived seed sweep of of old new so_far
-      → settings ≡ summaries_read until so_far → JoinsBehind [] texts mark revived seed sweep of old new until settings
+  pub all_joined : (until : Option ℕ) (old new : Option (List ℕ)) (so_far : SettingsRead) (settings : List SettingSummary) → 0 < of → JoinsShards until texts mark columns seed sweep of of old new so_far
+      → settings ≡ summaries_read until so_far → JoinsBehind [] texts mark columns seed sweep of old new until settings
   all_joined None old new so_far settings some all same =
-      joined IsLine shard_line (run_count sweep) texts mark revived sweep of seed (Gathered so_far) (λ lines. SumUp each (notes_of lines) settings × ArePlaced key sweep lines) old new some all
+      joined IsLine shard_line (run_count sweep) texts mark columns sweep of seed (Gathered so_far) (λ lines. SumUp each (notes_of lines) settings × ArePlaced key sweep lines) old new some all
       (subst (SumUp each (notes_of all.things)) (sym same) all.holds.0.summed, all.holds.1) None settings
       (λ long. ap length same ∙ all_through sweep (notes_of all.things) so_far.gathering (length-map all.things (λ (l : Line). l.note) ∙ long) all.holds.0) (λ body are. are)
   all_joined (Some width) old new so_far settings some all same =
-      joined (IsSetting width each) shard_setting (setting_count sweep.swept_keys) texts mark revived sweep of seed (SummedUp width so_far.settings.items) (SummedUp width settings) old new some all
+      joined (IsSetting width each) shard_setting (setting_count sweep.swept_keys) texts mark columns sweep of seed (SummedUp width so_far.settings.items) (SummedUp width settings) old new some all
       (subst (λ cs. AllZip SumsUpLines all.things cs) (sym same) all.holds.0, all.holds.1) (Some width) settings
       (λ long. ap length same ∙ sym (zipped_long SumsUpLines all.things so_far.settings.items all.holds.0) ∙ long) (λ body are. are)

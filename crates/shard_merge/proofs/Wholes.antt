@@ -1,5 +1,5 @@
 -- All shards put together are the whole.
-use Rattle.std.proofs.Common.{◌≤◌, ℕ, Bool, List, [], ◌∷◌, arith}
+use Rattle.std.proofs.Common.{◌≤◌, ℕ, List, [], ◌∷◌, arith}
 use Rattle.std.specs.Prelude.{Option, Some, None, Vec, All}
 use Rattle.std.specs.List.{AllZip}
 use Rattle.std.specs.declared.alloc.Global.{Global}
@@ -8,6 +8,7 @@ use Rattle.std.proofs.lemmas.List.Elements.{All-cons, All-head, All-nil, All-tai
 use Rattle.trace.proofs.Beginnings.{Appends-then, Appends-kept}
 use Rattle.goals.specs.Wants.{HasFewRuns}
 use Rattle.sweep_plan.specs.Sweep.{Sweep, seed_count}
+use Rattle.figures.specs.declared.column_set.ColumnSet.{ColumnSet}
 use Rattle.figures.specs.declared.summary.SettingSummary.{SettingSummary}
 use Rattle.shards.specs.declared.shard.Shard.{Shard}
 use Rattle.shards.specs.Shards.{whole}
@@ -22,10 +23,10 @@ use Rattle.shard_merge.specs.Joined.{AreOf, IsMark, Joins, JoinsBehind}
 
 -- ---- behind the first line
 
-pub whole_joined : (texts : List (Vec ℕ Global)) (mark : List ℕ) (revived : Bool) (seed : ℕ) (sweep : Sweep) (of : ℕ) (asked : IsAskedFor sweep) (marked : IsMark mark) (some : 1 ≤ of) (few : of ≤ 10000)
-    (old begun full new : Option (List ℕ)) (settings : List SettingSummary) → JoinsBehind [] texts mark revived seed sweep of begun full sweep.until settings
-    → Appends old begun (shard_header revived mark sweep whole) → Keeps full new → Joins texts old new sweep revived settings
-whole_joined texts mark revived seed sweep of asked marked some few old begun full new settings put head kept = record {
+pub whole_joined : (texts : List (Vec ℕ Global)) (mark : List ℕ) (columns : ColumnSet) (seed : ℕ) (sweep : Sweep) (of : ℕ) (asked : IsAskedFor sweep) (marked : IsMark mark) (some : 1 ≤ of) (few : of ≤ 10000)
+    (old begun full new : Option (List ℕ)) (settings : List SettingSummary) → JoinsBehind [] texts mark columns seed sweep of begun full sweep.until settings
+    → Appends old begun (shard_header columns mark sweep whole) → Keeps full new → Joins texts old new sweep columns settings
+whole_joined texts mark columns seed sweep of asked marked some few old begun full new settings put head kept = record {
   asked = asked;
   mark = mark;
   marked = marked;
@@ -36,7 +37,7 @@ whole_joined texts mark revived seed sweep of asked marked some few old begun fu
   put = record {
     body = put.body;
     there = put.there;
-    written = Appends-kept old full new _ (Appends-then old begun full (shard_header revived mark sweep whole) (put.body whole) head put.written) kept;
+    written = Appends-kept old full new _ (Appends-then old begun full (shard_header columns mark sweep whole) (put.body whole) head put.written) kept;
     each = put.each;
     are = put.are;
   };
@@ -57,6 +58,6 @@ few_by : (until : Option ℕ) (key : LineKey) (sweep : Sweep) (body : Shard → 
 few_by None key sweep body settings few are = few_with_all (seed_count sweep.seeds) (notes_of are.things) settings few are.holds.0
 few_by (Some width) key sweep body settings few are = few_with_own width (seed_count sweep.seeds) are.things settings few are.sound are.holds.0
 
-pub few_joined : (texts : List (Vec ℕ Global)) (mark : List ℕ) (revived : Bool) (seed : ℕ) (sweep : Sweep) (of : ℕ) (old new : Option (List ℕ)) (until : Option ℕ) (settings : List SettingSummary) → IsAskedFor sweep
-    → JoinsBehind [] texts mark revived seed sweep of old new until settings → All HasFewRuns settings
-few_joined texts mark revived seed sweep of old new until settings asked put = few_by until (line_key revived (Some seed) mark sweep) sweep put.body settings (few_runs sweep asked) put.are
+pub few_joined : (texts : List (Vec ℕ Global)) (mark : List ℕ) (columns : ColumnSet) (seed : ℕ) (sweep : Sweep) (of : ℕ) (old new : Option (List ℕ)) (until : Option ℕ) (settings : List SettingSummary) → IsAskedFor sweep
+    → JoinsBehind [] texts mark columns seed sweep of old new until settings → All HasFewRuns settings
+few_joined texts mark columns seed sweep of old new until settings asked put = few_by until (line_key columns (Some seed) mark sweep) sweep put.body settings (few_runs sweep asked) put.are

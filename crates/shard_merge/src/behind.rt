@@ -30,10 +30,10 @@ pub(crate) fn lines_behind<'a>(
     places: &[Option<usize>],
     number: usize,
 ) -> Result<Behind<'a>, JoinFault>
-    requires first { IsFirst texts.now head.now.mark.now head.now.revived head.now.plan head.now.shard }
-    requires places { ArePlaces texts.now head.now.mark.now head.now.revived head.now.plan head.now.shard.of places.now (length texts.now) }
+    requires first { IsFirst texts.now head.now.mark.now head.now.columns head.now.plan head.now.shard }
+    requires places { ArePlaces texts.now head.now.mark.now head.now.columns head.now.plan head.now.shard.of places.now (length texts.now) }
     requires within { number < head.now.shard.of }
-    ensures there { IfOk result (λ behind. IsBehind texts.entry.now head.now.mark.now head.now.revived head.now.plan head.now.shard.of places.now number behind.place behind.lines.now) }
+    ensures there { IfOk result (λ behind. IsBehind texts.entry.now head.now.mark.now head.now.columns head.now.plan head.now.shard.of places.now number behind.place behind.lines.now) }
     ensures refused { IfErr result (IsReason texts.entry.now) }
 {
     let Some(place) = place_of_run(places, number) else {
@@ -52,9 +52,9 @@ pub fn lines_at<'a>(
     shard: Shard,
     place: usize,
 ) -> Result<&'a str, JoinFault>
-    requires begins { BeginsAs text.now head.now.mark.now head.now.revived head.now.plan shard }
-    ensures there { IfOk result (λ lines. text.entry.now ≡ shard_header head.now.revived head.now.mark.now head.now.plan shard ++ lines.now) }
-    ensures refused { IfErr result (RefusesLines text.entry.now (shard_header head.now.revived head.now.mark.now head.now.plan shard) place) }
+    requires begins { BeginsAs text.now head.now.mark.now head.now.columns head.now.plan shard }
+    ensures there { IfOk result (λ lines. text.entry.now ≡ shard_header head.now.columns head.now.mark.now head.now.plan shard ++ lines.now) }
+    ensures refused { IfErr result (RefusesLines text.entry.now (shard_header head.now.columns head.now.mark.now head.now.plan shard) place) }
 {
     let header = header_of(alloc, head, shard)?;
     let Some(rest) = text.strip_prefix(header.as_slice()) else {

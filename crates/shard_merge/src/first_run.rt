@@ -23,15 +23,15 @@ pub(crate) fn seed_of_first_run(
     head: &Head<'_>,
     places: &[Option<usize>],
 ) -> Result<u64, JoinFault>
-    requires first { IsFirst texts.now head.now.mark.now head.now.revived head.now.plan head.now.shard }
-    requires places { ArePlaces texts.now head.now.mark.now head.now.revived head.now.plan head.now.shard.of places.now (length texts.now) }
-    ensures seed { IfOk result (IsFirstSeed texts.now head.now.mark.now head.now.revived head.now.plan head.now.shard.of) }
+    requires first { IsFirst texts.now head.now.mark.now head.now.columns head.now.plan head.now.shard }
+    requires places { ArePlaces texts.now head.now.mark.now head.now.columns head.now.plan head.now.shard.of places.now (length texts.now) }
+    ensures seed { IfOk result (IsFirstSeed texts.now head.now.mark.now head.now.columns head.now.plan head.now.shard.of) }
     ensures refused { IfErr result (IsReason texts.now) }
 {
     let number = shard_of_first_run(&head.plan, head.shard.of as usize);
     let behind = lines_behind(alloc, texts, head, places, number)?;
     let lines = behind.lines.as_bytes();
-    match first_seed(alloc, &head.plan, head.mark, head.revived, lines)? {
+    match first_seed(alloc, &head.plan, head.mark, head.columns, lines)? {
         Some(seed) => Ok(seed),
         None => Err(JoinFault::Torn(behind.place)),
     }

@@ -14,6 +14,7 @@ ghost use Rattle.shard_merge.specs.Reasons.{BeginsAs, BeginsAsNone, RefusesName,
 
 use crate::fault::JoinFault;
 use decimals::number;
+use figures::ColumnSet;
 use shards::Shard;
 use std::alloc::Global;
 use sweep::front_of;
@@ -28,22 +29,36 @@ pub struct Head<'a> {
     pub mark: &'a str,
     /// The sweep.
     pub plan: Plan,
-    /// Whether its tables count members that were taken for alive again.
-    pub revived: bool,
+    /// The columns of its tables.
+    pub columns: ColumnSet,
 }
 
-/// What the first line of a text says, where that is the first line of a shard whose table counts, or doesn't, members
-/// that were taken for alive again.
+/// What the first line of a text says, where that is the first line of a shard, whichever columns its table has.
+pub fn head_of_any<'a>(alloc: Global, text: &'a str) -> Result<Option<Head<'a>>, JoinFault>
+    ensures found { IfOk result (λ found. IfSome found (λ head. BeginsAs text.entry.now head.mark.now head.columns head.plan head.shard)) }
+    ensures none { IfOk result (λ found. IsNone found → BeginsAsNone text.entry.now) }
+    ensures memory { IfErr result (λ fault. fault ≡ join.Memory) }
+{
+    if let Some(head) = head_of(alloc, text, ColumnSet::First)? {
+        return Ok(Some(head));
+    }
+    if let Some(head) = head_of(alloc, text, ColumnSet::WithRevived)? {
+        return Ok(Some(head));
+    }
+    head_of(alloc, text, ColumnSet::WithIncidents)
+}
+
+/// What the first line of a text says, where that is the first line of a shard whose table has these columns.
 pub fn head_of<'a>(
     alloc: Global,
     text: &'a str,
-    revived: bool,
+    columns: ColumnSet,
 ) -> Result<Option<Head<'a>>, JoinFault>
-    ensures found { IfOk result (λ found. IfSome found (λ head. BeginsAs text.entry.now head.mark.now head.revived head.plan head.shard)) }
-    ensures none { IfOk result (λ found. IsNone found → (mark : List ℕ) (sweep : Sweep) (p : Part) → ¬ (BeginsAs text.entry.now mark revived sweep p)) }
+    ensures found { IfOk result (λ found. IfSome found (λ head. BeginsAs text.entry.now head.mark.now head.columns head.plan head.shard)) }
+    ensures none { IfOk result (λ found. IsNone found → (mark : List ℕ) (sweep : Sweep) (p : Part) → ¬ (BeginsAs text.entry.now mark columns sweep p)) }
     ensures memory { IfErr result (λ fault. fault ≡ join.Memory) }
 {
-    let head = match read_head(alloc, text, revived) {
+    let head = match read_head(alloc, text, columns) {
         Ok(head) => head,
         Err(PlanFault::Words) => return Ok(None),
         Err(PlanFault::Memory) => return Err(JoinFault::Memory),
@@ -58,12 +73,12 @@ pub fn head_of<'a>(
 /// What the name of a text says; the name says nothing of the table, so that is given.
 ///
 /// Faults: `Words` where it is no name of a shard; `Memory`.
-fn read_head<'a>(alloc: Global, text: &'a str, revived: bool) -> Result<Head<'a>, PlanFault>
+fn read_head<'a>(alloc: Global, text: &'a str, columns: ColumnSet) -> Result<Head<'a>, PlanFault>
     ensures shard { IfOk result (λ head. IsShard head.shard) }
     ensures asked { IfOk result (λ head. IsAskedFor head.plan) }
     ensures marked { IfOk result (λ head. IsMark head.mark.now) }
-    ensures same { IfOk result (λ head. head.revived ≡ revived) }
-    ensures only { IfOk result (λ head. (mark : List ℕ) (column : Bool) (sweep : Sweep) (p : Part) → BeginsAs text.entry.now mark column sweep p
+    ensures same { IfOk result (λ head. head.columns ≡ columns) }
+    ensures only { IfOk result (λ head. (mark : List ℕ) (column : ColumnSet) (sweep : Sweep) (p : Part) → BeginsAs text.entry.now mark column sweep p
         → (head.mark.now ≡ mark) × (head.plan ≡ sweep) × (head.shard ≡ p)) }
     ensures refused { IfErr result (RefusesName text.entry.now) }
 {
@@ -81,14 +96,14 @@ fn read_head<'a>(alloc: Global, text: &'a str, revived: bool) -> Result<Head<'a>
         shard,
         mark,
         plan,
-        revived,
+        columns,
     })
 }
 
 /// Which shard a text says that it is, and the rest of its name.
 fn parts_of_name<'a>(text: &'a str) -> Option<(&'a str, &'a str)>
     ensures quoteless { IfSome result (λ parts. All (λ byte. (byte == 34) ≡ false) parts.1.now) }
-    ensures some { IfSome result (λ parts. (mark : List ℕ) (revived : Bool) (sweep : Sweep) (p : Part) → BeginsAs text.entry.now mark revived sweep p
+    ensures some { IfSome result (λ parts. (mark : List ℕ) (columns : ColumnSet) (sweep : Sweep) (p : Part) → BeginsAs text.entry.now mark columns sweep p
         → (parts.0.now ≡ shard_text p) × (parts.1.now ≡ mark ++ 32 ∷ plan_text sweep)) }
     ensures none { IsNone result → BeginsAsNone text.entry.now }
 {
@@ -108,8 +123,8 @@ pub fn begins_as(
     head: &Head<'_>,
     shard: Shard,
 ) -> Result<bool, JoinFault>
-    ensures begins { IfOk result (λ it. it ≡ true → (rest : List ℕ) × (text.now ≡ shard_header head.now.revived head.now.mark.now head.now.plan shard ++ rest)) }
-    ensures other { IfOk result (λ it. it ≡ false → (rest : List ℕ) → ¬ (text.now ≡ shard_header head.now.revived head.now.mark.now head.now.plan shard ++ rest)) }
+    ensures begins { IfOk result (λ it. it ≡ true → (rest : List ℕ) × (text.now ≡ shard_header head.now.columns head.now.mark.now head.now.plan shard ++ rest)) }
+    ensures other { IfOk result (λ it. it ≡ false → (rest : List ℕ) → ¬ (text.now ≡ shard_header head.now.columns head.now.mark.now head.now.plan shard ++ rest)) }
     ensures memory { IfErr result (λ fault. fault ≡ join.Memory) }
 {
     let header = header_of(alloc, head, shard)?;
@@ -118,16 +133,16 @@ pub fn begins_as(
 
 /// The first line of a shard of the sweep.
 pub(crate) fn header_of(alloc: Global, head: &Head<'_>, shard: Shard) -> Result<Vec<u8>, JoinFault>
-    ensures header { IfOk result (λ header. header.items ≡ shard_header head.now.revived head.now.mark.now head.now.plan shard) }
+    ensures header { IfOk result (λ header. header.items ≡ shard_header head.now.columns head.now.mark.now head.now.plan shard) }
     ensures memory { IfErr result (λ fault. fault ≡ join.Memory) }
 {
-    Ok(front_of(alloc, &head.plan, shard, head.mark, head.revived)?)
+    Ok(front_of(alloc, &head.plan, shard, head.mark, head.columns)?)
 }
 
 /// The number of the shard that a text says that it is.
 pub fn number_of(text: &str) -> Option<u64>
     ensures some { IfSome result (λ number. 1 ≤ number) }
-    ensures only { IfSome result (λ number. (mark : List ℕ) (revived : Bool) (sweep : Sweep) (p : Part) → BeginsAs text.now mark revived sweep p → p.number ≡ number) }
+    ensures only { IfSome result (λ number. (mark : List ℕ) (columns : ColumnSet) (sweep : Sweep) (p : Part) → BeginsAs text.now mark columns sweep p → p.number ≡ number) }
     ensures none { IsNone result → BeginsAsNone text.now }
 {
     let Some((word, _)) = parts_of_name(text) else {

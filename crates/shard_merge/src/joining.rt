@@ -10,10 +10,10 @@ ghost use Rattle.shard_merge.specs.Reasons.{ArePlaces, HasNoHead, IsFirst, IsOfS
 use crate::behind::{lines_behind, shard_at};
 use crate::fault::JoinFault;
 use crate::first_run::seed_of_first_run;
-use crate::head::{Head, head_of};
+use crate::head::{Head, head_of_any};
 use crate::places::{places_of, text_at};
 use crate::settings_read::SettingsRead;
-use figures::SettingSummary;
+use figures::{ColumnSet, SettingSummary};
 use shards::Shard;
 use std::alloc::Global;
 use std::str::from_utf8;
@@ -27,8 +27,8 @@ use trace::{Sink, Stopped, WriteError, put_all};
 pub struct Joined {
     /// The sweep.
     pub plan: Plan,
-    /// Whether its tables count members that were taken for alive again.
-    pub revived: bool,
+    /// The columns of its tables.
+    pub columns: ColumnSet,
     /// The summaries of its settings, in their order.
     pub settings: Vec<SettingSummary>,
 }
@@ -42,7 +42,7 @@ pub struct Joined {
 /// where the sink failed; `Memory`.
 pub fn join<S: Sink>(alloc: Global, texts: &[Vec<u8>], table: &mut S) -> Result<Joined, JoinFault>
     requires { S.failed table.old < 2 ^ 63 }
-    ensures joined { IfOk result (λ joined. Joins texts.now (S.held table.old) (S.held table.new) joined.plan joined.revived joined.settings.items) }
+    ensures joined { IfOk result (λ joined. Joins texts.now (S.held table.old) (S.held table.new) joined.plan joined.columns joined.settings.items) }
     ensures few { IfOk result (λ joined. All HasFewRuns joined.settings.items) }
     ensures refused { IfErr result (IsReason texts.now) }
 {
@@ -51,10 +51,10 @@ pub fn join<S: Sink>(alloc: Global, texts: &[Vec<u8>], table: &mut S) -> Result<
     put_header(alloc, &head, table)?;
     let settings = join_shards(alloc, texts, &head, &places, table)?;
     flush(table)?;
-    let revived = head.revived;
+    let columns = head.columns;
     Ok(Joined {
         plan: head.plan,
-        revived,
+        columns,
         settings,
     })
 }
@@ -68,10 +68,10 @@ fn join_shards<S: Sink>(
     places: &[Option<usize>],
     table: &mut S,
 ) -> Result<Vec<SettingSummary>, JoinFault>
-    requires first { IsFirst texts.now head.now.mark.now head.now.revived head.now.plan head.now.shard }
-    requires places { ArePlaces texts.now head.now.mark.now head.now.revived head.now.plan head.now.shard.of places.now (length texts.now) }
+    requires first { IsFirst texts.now head.now.mark.now head.now.columns head.now.plan head.now.shard }
+    requires places { ArePlaces texts.now head.now.mark.now head.now.columns head.now.plan head.now.shard.of places.now (length texts.now) }
     requires countable { S.failed table.old < 2 ^ 63 }
-    ensures whole { IfOk result (λ settings. (seed : ℕ) × JoinsBehind [] texts.now head.now.mark.now head.now.revived seed head.now.plan head.now.shard.of
+    ensures whole { IfOk result (λ settings. (seed : ℕ) × JoinsBehind [] texts.now head.now.mark.now head.now.columns seed head.now.plan head.now.shard.of
         (S.held table.old) (S.held table.new) head.now.plan.until settings.items) }
     ensures same { OnOk result (S.failed table.new ≡ S.failed table.old) }
     ensures refused { IfErr result (IsReason texts.now) }
@@ -96,19 +96,19 @@ fn join_shard<S: Sink>(
     so_far: &mut SettingsRead,
     table: &mut S,
 ) -> Result<(), JoinFault>
-    requires first { IsFirst texts.now head.now.mark.now head.now.revived head.now.plan head.now.shard }
-    requires places { ArePlaces texts.now head.now.mark.now head.now.revived head.now.plan head.now.shard.of places.now (length texts.now) }
-    requires seeded { IsFirstSeed texts.now head.now.mark.now head.now.revived head.now.plan head.now.shard.of seed }
+    requires first { IsFirst texts.now head.now.mark.now head.now.columns head.now.plan head.now.shard }
+    requires places { ArePlaces texts.now head.now.mark.now head.now.columns head.now.plan head.now.shard.of places.now (length texts.now) }
+    requires seeded { IsFirstSeed texts.now head.now.mark.now head.now.columns head.now.plan head.now.shard.of seed }
     requires within { number < head.now.shard.of }
     requires countable { S.failed table.old < 2 ^ 63 }
-    ensures whole { OnOk result (JoinsShard head.now.plan.until texts.now head.now.mark.now head.now.revived seed head.now.plan head.now.shard.of number
+    ensures whole { OnOk result (JoinsShard head.now.plan.until texts.now head.now.mark.now head.now.columns seed head.now.plan head.now.shard.of number
         (S.held table.old) (S.held table.new) so_far.old so_far.new) }
     ensures same { OnOk result (S.failed table.new ≡ S.failed table.old) }
     ensures refused { IfErr result (IsReason texts.now) }
 {
     let behind = lines_behind(alloc, texts, head, places, number)?;
     let shard = shard_at(number, head.shard.of);
-    let key = line_key(alloc, &head.plan, head.mark, head.revived, Some(seed))?;
+    let key = line_key(alloc, &head.plan, head.mark, head.columns, Some(seed))?;
     match so_far.read(alloc, &head.plan, &key, shard, behind.lines) {
         Ok(()) => put_lines(behind.lines, table),
         Err(LineFault::Torn) => Err(JoinFault::Torn(behind.place)),
@@ -118,7 +118,7 @@ fn join_shard<S: Sink>(
 
 /// What the first line of the first text says; there must be one.
 pub fn first_head<'a>(alloc: Global, texts: &'a [Vec<u8>]) -> Result<Head<'a>, JoinFault>
-    ensures first { IfOk result (λ head. IsFirst texts.entry.now head.mark.now head.revived head.plan head.shard) }
+    ensures first { IfOk result (λ head. IsFirst texts.entry.now head.mark.now head.columns head.plan head.shard) }
     ensures refused { IfErr result (IsReason texts.entry.now) }
     ensures early { IfErr result HasNoHead }
 {
@@ -129,10 +129,7 @@ pub fn first_head<'a>(alloc: Global, texts: &'a [Vec<u8>]) -> Result<Head<'a>, J
     let Ok(text) = from_utf8(bytes) else {
         return Err(JoinFault::NoShard(0));
     };
-    if let Some(head) = head_of(alloc, text, false)? {
-        return Ok(head);
-    }
-    match head_of(alloc, text, true)? {
+    match head_of_any(alloc, text)? {
         Some(head) => Ok(head),
         None => Err(JoinFault::NoShard(0)),
     }
@@ -141,12 +138,12 @@ pub fn first_head<'a>(alloc: Global, texts: &'a [Vec<u8>]) -> Result<Head<'a>, J
 /// Puts the first line of the table.
 pub fn put_header<S: Sink>(alloc: Global, head: &Head<'_>, table: &mut S) -> Result<(), JoinFault>
     requires { S.failed table.old < 2 ^ 63 }
-    ensures whole { OnOk result (Appends (S.held table.old) (S.held table.new) (shard_header head.now.revived head.now.mark.now head.now.plan whole)) }
+    ensures whole { OnOk result (Appends (S.held table.old) (S.held table.new) (shard_header head.now.columns head.now.mark.now head.now.plan whole)) }
     ensures same { OnOk result (S.failed table.new ≡ S.failed table.old) }
     ensures refused { IfErr result IsOfSink }
 {
     let shard = Shard::whole();
-    match write_front(alloc, &head.plan, shard, head.mark, head.revived, table) {
+    match write_front(alloc, &head.plan, shard, head.mark, head.columns, table) {
         Ok(()) => Ok(()),
         Err(WriteError::Memory) => Err(JoinFault::Memory),
         Err(WriteError::Stopped) => Err(JoinFault::Write),

@@ -12,6 +12,6 @@ mod settings_read;
 
 pub use behind::lines_at;
 pub use fault::JoinFault;
-pub use head::{Head, begins_as, head_of, number_of, read_plan};
+pub use head::{Head, begins_as, head_of, head_of_any, number_of, read_plan};
 pub use joining::{Joined, first_head, flush, join, put_header};
 pub use places::text_at;

@@ -12,6 +12,7 @@ ghost use Rattle.shard_merge.specs.Reasons.{ArePlaces, BeginsAs, IsFirst, IsReas
 
 use crate::fault::JoinFault;
 use crate::head::{Head, begins_as, number_of};
+use figures::ColumnSet;
 use shards::Shard;
 use std::alloc::Global;
 use std::str::from_utf8;
@@ -22,8 +23,8 @@ pub(crate) fn places_of(
     texts: &[Vec<u8>],
     head: &Head<'_>,
 ) -> Result<Vec<Option<usize>>, JoinFault>
-    requires { IsFirst texts.now head.now.mark.now head.now.revived head.now.plan head.now.shard }
-    ensures places { IfOk result (λ places. ArePlaces texts.now head.now.mark.now head.now.revived head.now.plan head.now.shard.of places.items (length texts.now)) }
+    requires { IsFirst texts.now head.now.mark.now head.now.columns head.now.plan head.now.shard }
+    ensures places { IfOk result (λ places. ArePlaces texts.now head.now.mark.now head.now.columns head.now.plan head.now.shard.of places.items (length texts.now)) }
     ensures refused { IfErr result (IsReason texts.now) }
 {
     let mut places = no_places(alloc, head.shard.of as usize)?;
@@ -52,8 +53,8 @@ fn number_at(alloc: Global, text: &[u8], head: &Head<'_>, place: usize) -> Resul
     requires marked { IsMark head.now.mark.now }
     requires sound { IsShard head.now.shard }
     ensures within { IfOk result (λ number. number < head.now.shard.of) }
-    ensures begins { IfOk result (λ number. BeginsAs text.now head.now.mark.now head.now.revived head.now.plan (shard_at number head.now.shard.of)) }
-    ensures refused { IfErr result (RefusesText text.now head.now.mark.now head.now.revived head.now.plan head.now.shard.of place) }
+    ensures begins { IfOk result (λ number. BeginsAs text.now head.now.mark.now head.now.columns head.now.plan (shard_at number head.now.shard.of)) }
+    ensures refused { IfErr result (RefusesText text.now head.now.mark.now head.now.columns head.now.plan head.now.shard.of place) }
 {
     let Ok(words) = from_utf8(text) else {
         return Err(JoinFault::NoShard(place));
@@ -75,8 +76,8 @@ fn number_at(alloc: Global, text: &[u8], head: &Head<'_>, place: usize) -> Resul
 /// Keeps the place of the shard of this number, where it has none yet.
 fn take_place(places: &mut Vec<Option<usize>>, number: usize, place: usize) -> Result<(), JoinFault>
     requires { number < length places.old.items }
-    ensures kept { OnOk result ((texts : List (Vec ℕ Heap)) (text mark : List ℕ) (revived : Bool) (sweep : Sweep) (of : ℕ) → ArePlaces texts mark revived sweep of places.old.items place
-        → IsTextAt texts place text → BeginsAs text mark revived sweep (shard_at number of) → ArePlaces texts mark revived sweep of places.new.items (place + 1)) }
+    ensures kept { OnOk result ((texts : List (Vec ℕ Heap)) (text mark : List ℕ) (columns : ColumnSet) (sweep : Sweep) (of : ℕ) → ArePlaces texts mark columns sweep of places.old.items place
+        → IsTextAt texts place text → BeginsAs text mark columns sweep (shard_at number of) → ArePlaces texts mark columns sweep of places.new.items (place + 1)) }
     ensures refused { IfErr result (RefusesPlace places.old.items number place) }
 {
     match place_of_run(places.as_slice(), number) {

@@ -167,17 +167,17 @@ size_log-small Memberlist m h = refl
 size_log-small Hashicorp m h = close_is_fine m (length-decimal-le 2 m (lit≤ tt) (omega arith) (omega arith))
 
 -- the logarithm of a cluster's size
-pub size_log-le : (p : Profile) (n : ℕ) → n ≤ 4096 → size_log p n ≤ 4000
+pub size_log-le : (p : Profile) (n : ℕ) → n ≤ 16384 → size_log p n ≤ 5000
 size_log-le Papers n h =
-    let few : digit_count n ≤ 4 = length-decimal-le 4 n (lit≤ tt) (omega arith) (omega arith) in
+    let few : digit_count n ≤ 5 = length-decimal-le 5 n (lit≤ tt) (omega arith) (omega arith) in
     let entry = thousandths-le (leading_digit n) in
     omega (arith, few, entry)
 size_log-le Memberlist n h =
-    let few : digit_count n ≤ 4 = length-decimal-le 4 n (lit≤ tt) (omega arith) (omega arith) in
+    let few : digit_count n ≤ 5 = length-decimal-le 5 n (lit≤ tt) (omega arith) (omega arith) in
     let entry = tenth-le (leading_digits n) in
     omega (arith, few, entry)
 size_log-le Hashicorp n h =
-    let few : digit_count n ≤ 4 = length-decimal-le 4 n (lit≤ tt) (omega arith) (omega arith) in
+    let few : digit_count n ≤ 5 = length-decimal-le 5 n (lit≤ tt) (omega arith) (omega arith) in
     let third : three_leading_digits n % 10 ≤ 10 = let below : three_leading_digits n % 10 < 10 = mod-lt (three_leading_digits n) (lit≤ tt) in omega (arith, below) in
     let rest = further-le_thousand (three_leading_digits n / 10) (three_leading_digits n % 10) third in
     omega (arith, few, rest)

@@ -28,11 +28,11 @@ div_rises : (a b k : ℕ) → 0 < k → a ≤ b → a / k ≤ b / k
 div_rises a b k some h = let down = div-mul-le_self a k in le-div (a / k) b k some (omega (arith, down))
 
 -- the shortest timeout is a moment of any run
-pub min_timeout-lt : (alpha log period : ℕ) → alpha ≤ 100 → log ≤ 4000 → period ≤ 2 ^ 24 → max 1 (alpha * max 1000 log * period / 1000) < 2 ^ 33
+pub min_timeout-lt : (alpha log period : ℕ) → alpha ≤ 100 → log ≤ 5000 → period ≤ 2 ^ 24 → max 1 (alpha * max 1000 log * period / 1000) < 2 ^ 33
 min_timeout-lt alpha log period a l p =
-    let larger : max 1000 log ≤ 4000 = omega arith in
-    let product : alpha * max 1000 log * period ≤ 100 * 4000 * 2 ^ 24 = mul-le (alpha * max 1000 log) period (100 * 4000) (2 ^ 24) (mul-le alpha (max 1000 log) 100 4000 a larger) p in
-    let quotient : alpha * max 1000 log * period / 1000 ≤ 400 * 2 ^ 24 = omega (arith, product) in
+    let larger : max 1000 log ≤ 5000 = omega arith in
+    let product : alpha * max 1000 log * period ≤ 100 * 5000 * 2 ^ 24 = mul-le (alpha * max 1000 log) period (100 * 5000) (2 ^ 24) (mul-le alpha (max 1000 log) 100 5000 a larger) p in
+    let quotient : alpha * max 1000 log * period / 1000 ≤ 500 * 2 ^ 24 = omega (arith, product) in
     omega arith
 
 -- the longest one is

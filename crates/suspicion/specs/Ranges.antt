@@ -13,5 +13,5 @@ pub record AreSound (terms : Terms) : Type 0 where
 pub record IsKept (terms : Terms) (members since : ℕ) : Type 0 where
   pub sound : AreSound terms
   pub some : 1 ≤ members
-  pub few : members ≤ 4096
+  pub few : members ≤ 16384
   pub early : since ≤ 2 ^ 40

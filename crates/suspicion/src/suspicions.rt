@@ -75,7 +75,7 @@ impl Suspicions {
         scenario: &Scenario,
     ) -> Result<Moment, Memory>
         requires some { 1 ≤ members }
-        requires at_most_4096 { members ≤ 4096 }
+        requires at_most_16384 { members ≤ 16384 }
         requires early { now ≤ 2 ^ 40 }
         ensures started { let started = started_of (terms_of scenario.now) accuser members now generation in
             OnOk result (self.new ≡ insert self.old subject started) }
@@ -107,7 +107,7 @@ impl Suspicions {
     ) -> Result<Moment, Memory>
         requires sound { AreSound terms }
         requires some { 1 ≤ members }
-        requires at_most_4096 { members ≤ 4096 }
+        requires at_most_16384 { members ≤ 16384 }
         requires early { now ≤ 2 ^ 40 }
         ensures started { let started = started_of terms accuser members now generation in
             OnOk result (self.new ≡ insert self.old subject started) }

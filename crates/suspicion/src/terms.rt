@@ -48,7 +48,7 @@ impl Terms {
     pub fn timeout(self, members: u32, accusers: u64) -> u64
         requires sound { AreSound self }
         requires some { 1 ≤ members }
-        requires at_most_4096 { members ≤ 4096 }
+        requires at_most_16384 { members ≤ 16384 }
         ensures value { result ≡ timeout self members accusers }
 
         // It is never over at once, and no moment of a run is too late to start it.
@@ -84,7 +84,7 @@ fn logarithm(profile: Profile, n: u32) -> u64
 fn shortest(terms: Terms, members: u32) -> u64
     requires sound { AreSound terms }
     requires some { 1 ≤ members }
-    requires at_most_4096 { members ≤ 4096 }
+    requires at_most_16384 { members ≤ 16384 }
     ensures value { result ≡ min_timeout terms members }
     ensures positive { 1 ≤ result }
     ensures short { result < 2 ^ 33 }

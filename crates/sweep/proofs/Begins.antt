@@ -9,7 +9,7 @@ use Rattle.shards.proofs.Bounds.{share_grows}
 use Rattle.sweep.specs.Shards.{shard_header}
 use Rattle.sweep.specs.Resumed.{IsBegun, RefusesStart, runs_in}
 use Rattle.sweep.specs.Sums.{BeginsWithLines, HasLineOf, IsOlder, key_of_text}
-use Rattle.sweep.specs.Table.{counts_revived}
+use Rattle.sweep.specs.Table.{columns_of}
 use Rattle.sweep.specs.declared.summing.LineKey.{LineKey}
 use Rattle.sweep.specs.declared.begun.BegunFault.TheVariants as begun_fault
 
@@ -31,7 +31,7 @@ in_order p runs sound = share_grows (p.number - 1) p.number p.of runs (omega ari
 
 module _ (tree : Data) (mark : List ℕ) (sweep : Sweep) (p : Shard) (sound : IsShard p) (text : List ℕ) where
   abbrev header : List ℕ
-  header = shard_header (counts_revived tree) mark sweep p
+  header = shard_header (columns_of tree) mark sweep p
 
   abbrev first : ℕ
   first = first_run p (run_count sweep)

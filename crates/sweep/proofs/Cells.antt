@@ -17,6 +17,7 @@ use Rattle.sweep_plan.specs.declared.values.SweptValue.TheVariants.{Whole, Switc
 use Rattle.sweep_plan.proofs.Words.{Lacks, cut_once, decimal_lacks}
 use Rattle.line_sums.specs.Sums.{IsCut}
 use Rattle.line_sums.proofs.Cuts.{cut_one, not_cut}
+use Rattle.figures.specs.declared.column_set.ColumnSet.{ColumnSet}
 use Rattle.figures.specs.Cells.{AreCellsOf}
 use Rattle.figures.specs.Lines.{cell, cells_joined, figures_in_order, run_line, table_line}
 use Rattle.figures.specs.Notes.{IsNoteWord, Note, note_text}
@@ -62,11 +63,11 @@ cells_lead (c ∷ next ∷ setting) x xs fit =
     ∙ sym (append_assoc (value_text c.value) (44 ∷ []) (value_cells (next ∷ setting) ++ cells_joined (x ∷ xs)))
     ∙ sym (append_assoc (value_text c.value ++ 44 ∷ []) (value_cells (next ∷ setting)) (cells_joined (x ∷ xs)))
 
-pub line_lead : (revived : Bool) (setting : List Choice) (seed : ℕ) (run : RunFigures) → All (λ (c : Choice). FitsToml c.value) setting
-    → run_line revived (texts_of setting) seed run ≡ value_cells setting ++ run_line revived [] seed run
+pub line_lead : (columns : ColumnSet) (setting : List Choice) (seed : ℕ) (run : RunFigures) → All (λ (c : Choice). FitsToml c.value) setting
+    → run_line columns (texts_of setting) seed run ≡ value_cells setting ++ run_line columns [] seed run
 unfolding table_line
-line_lead revived setting seed run fit =
-    let cells : List (List ℕ) = map cell (figures_in_order revived run) in
+line_lead columns setting seed run fit =
+    let cells : List (List ℕ) = map cell (figures_in_order columns run) in
     ap (λ l. l ++ 10 ∷ []) (cells_lead setting (decimal seed) cells fit) ∙ append_assoc (value_cells setting) (cells_joined (decimal seed ∷ cells)) (10 ∷ [])
 
 -- ---- what a line has behind its metadata
@@ -77,16 +78,16 @@ module _ (key : LineKey) (sweep : Sweep) (number : ℕ) (note : Note) (behind : 
   same_run its = same_Some its.planned (planned_as setting asked) (sym its.there ∙ there)
 
   -- the cells of the line behind its values
-  pub cells_laid : (its : IsBehindMetadata key sweep number note behind) → behind ≡ values ++ run_line key.revived [] its.seed its.run
+  pub cells_laid : (its : IsBehindMetadata key sweep number note behind) → behind ≡ values ++ run_line key.columns [] its.seed its.run
   cells_laid its =
-      its.written ∙ ap (λ p. run_line key.revived (texts_of p.setting) its.seed its.run) (same_run its) ∙ line_lead key.revived setting its.seed its.run fit
-      ∙ ap (λ l. l ++ run_line key.revived [] its.seed its.run) (sym laid)
+      its.written ∙ ap (λ p. run_line key.columns (texts_of p.setting) its.seed its.run) (same_run its) ∙ line_lead key.columns setting its.seed its.run fit
+      ∙ ap (λ l. l ++ run_line key.columns [] its.seed its.run) (sym laid)
 
   pub other_values : ((rest : List ℕ) → ¬ (behind ≡ values ++ rest)) → ¬ (IsBehindMetadata key sweep number note behind)
-  other_values none its = none (run_line key.revived [] its.seed its.run) (cells_laid its)
+  other_values none its = none (run_line key.columns [] its.seed its.run) (cells_laid its)
 
   module _ (cells : List ℕ) (split : behind ≡ values ++ cells) where
-    pub is_behind : AreCellsOf key.revived seed note cells → IsBehindMetadata key sweep number note behind
+    pub is_behind : AreCellsOf key.columns seed note cells → IsBehindMetadata key sweep number note behind
     is_behind are = record {
       planned = planned_as setting asked;
       there = there;
@@ -95,17 +96,17 @@ module _ (key : LineKey) (sweep : Sweep) (number : ℕ) (note : Note) (behind : 
       run = are.run;
       agrees = are.agrees;
       small = are.small;
-      written = split ∙ (λ i. laid i ++ are.written i) ∙ sym (line_lead key.revived setting are.seed are.run fit);
+      written = split ∙ (λ i. laid i ++ are.written i) ∙ sym (line_lead key.columns setting are.seed are.run fit);
     }
 
-    pub no_cells : ¬ (AreCellsOf key.revived seed note cells) → ¬ (IsBehindMetadata key sweep number note behind)
+    pub no_cells : ¬ (AreCellsOf key.columns seed note cells) → ¬ (IsBehindMetadata key sweep number note behind)
     no_cells none its = none (record {
       seed = its.seed;
       seeded = subst (λ k. ForSome k (λ n. its.seed ≡ n)) (ap (λ (p : Planned). known_seed p.seed key.own) (same_run its) ∙ sym known) its.seeded;
       run = its.run;
       agrees = its.agrees;
       small = its.small;
-      written = append_cancel_left values cells (run_line key.revived [] its.seed its.run) (sym split ∙ cells_laid its);
+      written = append_cancel_left values cells (run_line key.columns [] its.seed its.run) (sym split ∙ cells_laid its);
     })
 
 -- ---- the metadata of a line
@@ -144,12 +145,20 @@ module _ (key : LineKey) (sweep : Sweep) (number : ℕ) (line : List ℕ) where
 -- ---- lines without checksums
 
 module _ (text word behind : List ℕ) (cut : IsCut 44 text word behind) where
-  pub older_so : (found : Option Note) → IfSome found (IsNoteWord word) → (it : Bool) → it ≡ is_some found → it ≡ true → IsOlder text
-  older_so None some it is so = absurd (true≢false (sym so ∙ is))
-  older_so (Some note) some it is so = record { word = word; behind = behind; cut = cut; note = note; says = some }
+  pub older_so : (note : Note) → IsNoteWord word note → note.incidents ≡ None → IsOlder text
+  older_so note says first = record { word = word; behind = behind; cut = cut; note = note; says = says; first = first }
 
-  pub not_older : (found : Option Note) → (IsNone found → (note : Note) → ¬ (IsNoteWord word note)) → (it : Bool) → it ≡ is_some found → it ≡ false → ¬ (IsOlder text)
-  not_older (Some note) none it is so older = absurd (true≢false (sym is ∙ so))
-  not_older None none it is so older =
+  word_so : (older : IsOlder text) → IsNoteWord word older.note
+  word_so older =
       let same = cut_one 44 older.word word older.behind behind older.cut.lacks cut.lacks (sym older.cut.written ∙ cut.written) in
-      none refl older.note (subst (λ w. IsNoteWord w older.note) same.0 older.says)
+      subst (λ w. IsNoteWord w older.note) same.0 older.says
+
+  pub not_older : ((note : Note) → ¬ (IsNoteWord word note)) → ¬ (IsOlder text)
+  not_older none older = none older.note (word_so older)
+
+  -- it says a note with incidents, and no other
+  pub not_first : (note : Note) → IsNoteWord word note → ¬ (note.incidents ≡ None) → ¬ (IsOlder text)
+  not_first note says later older =
+      let so = word_so older in
+      let same : older.note ≡ note = same_note older.note note so.small says.small (so.written ∙ sym says.written) in
+      later (ap (λ n. n.incidents) (sym same) ∙ older.first)

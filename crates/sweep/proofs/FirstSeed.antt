@@ -1,5 +1,5 @@
 -- The seed in the line of a sweep's first run.
-use Rattle.std.proofs.Common.{◌≡◌, ◌≢◌, ◌∙◌, ◌<◌, ◌≤◌, ◌^◌, ℕ, Bool, List, [], ◌∷◌, ◌++◌, map, decimal, lit<, arith, refl, sym, ap, subst, append_assoc}
+use Rattle.std.proofs.Common.{◌≡◌, ◌≢◌, ◌∙◌, ◌<◌, ◌≤◌, ◌^◌, ℕ, List, [], ◌∷◌, ◌++◌, map, decimal, lit<, arith, refl, sym, ap, subst, append_assoc}
 use Rattle.std.specs.Prelude.{All, IfSome, IsNone, Option, Some, None}
 use Rattle.std.specs.Option.{ForSome}
 use Rattle.std.specs.Str.{IsUtf8}
@@ -17,6 +17,7 @@ use Rattle.sweep_plan.proofs.Choices.{settings_some}
 use Rattle.sweep_plan.proofs.Words.{Lacks, decimal_lacks}
 use Rattle.line_sums.specs.Sums.{IsCut, checksum}
 use Rattle.line_sums.proofs.Cuts.{cut_one, not_cut, sum_no_space}
+use Rattle.figures.specs.declared.column_set.ColumnSet.{ColumnSet}
 use Rattle.figures.specs.Lines.{cell, cells_joined, figures_in_order, run_line, table_line}
 use Rattle.figures.specs.Notes.{note_text}
 use Rattle.figures.specs.declared.run.RunFigures.{RunFigures}
@@ -117,11 +118,11 @@ some_of_all sweep asked =
     let some : 1 ≤ setting_count sweep.swept_keys = settings_some sweep.swept_keys asked.asked.swept_keys.axes.sound in
     omega (arith, mul-le 1 1 (setting_count sweep.swept_keys) (seed_count sweep.seeds) some (some_runs sweep asked))
 
-seed_cell : (revived : Bool) (seed : ℕ) (run : RunFigures) → seed < 2 ^ 64
-    → run_line revived [] seed run ≡ decimal seed ++ 44 ∷ (cells_joined (map cell (figures_in_order revived run)) ++ 10 ∷ [])
+seed_cell : (columns : ColumnSet) (seed : ℕ) (run : RunFigures) → seed < 2 ^ 64
+    → run_line columns [] seed run ≡ decimal seed ++ 44 ∷ (cells_joined (map cell (figures_in_order columns run)) ++ 10 ∷ [])
 unfolding table_line
-seed_cell revived seed run low =
-    let more = cells_joined (map cell (figures_in_order revived run)) in
+seed_cell columns seed run low =
+    let more = cells_joined (map cell (figures_in_order columns run)) in
     let plain = plain_field (decimal seed) (decimal_lacks seed 44 low (lit< tt)) (decimal_lacks seed 34 low (lit< tt)) (decimal_lacks seed 13 low (lit< tt)) (decimal_lacks seed 10 low (lit< tt)) in
     ap (λ l. (l ++ 44 ∷ more) ++ 10 ∷ []) plain ∙ append_assoc (decimal seed) (44 ∷ more) (10 ∷ [])
 
@@ -130,7 +131,7 @@ module _ (key : LineKey) (sweep : Sweep) (text values : List ℕ) (setting : Lis
   small_seed : has.1.is.placed.cells.seed < 2 ^ 63
   small_seed =
       let held = has.1.is.placed.cells in
-      All-head Small (Some held.seed) (figures_in_order key.revived held.run) held.small held.seed refl
+      All-head Small (Some held.seed) (figures_in_order key.columns held.run) held.small held.seed refl
 
   pub has_seed : HasSeed values text has.1.is.placed.cells.seed
   has_seed =
@@ -141,9 +142,9 @@ module _ (key : LineKey) (sweep : Sweep) (text values : List ℕ) (setting : Lis
       let note = note_text placed.note in
       let sum = checksum key.digest has.1.is.rest in
       let low : seed < 2 ^ 64 = let l = small_seed in omega (arith, l) in
-      let more : List ℕ = cells_joined (map cell (figures_in_order key.revived held.run)) ++ 10 ∷ [] in
+      let more : List ℕ = cells_joined (map cell (figures_in_order key.columns held.run)) ++ 10 ∷ [] in
       let behind : placed.behind ≡ values ++ (decimal seed ++ 44 ∷ more) =
-      cells_laid key sweep 0 placed.note placed.behind setting asked there fit (known_seed asked key.own) refl values laid held ∙ ap (λ l. values ++ l) (seed_cell key.revived seed held.run low) in
+      cells_laid key sweep 0 placed.note placed.behind setting asked there fit (known_seed asked key.own) refl values laid held ∙ ap (λ l. values ++ l) (seed_cell key.columns seed held.run low) in
       let line : has.1.is.rest ≡ note ++ 44 ∷ (values ++ (decimal seed ++ 44 ∷ more)) = placed.written ∙ append_assoc note (44 ∷ []) placed.behind ∙ ap (λ l. note ++ 44 ∷ l) behind in
       let further : has.1.is.rest ++ left ≡ note ++ 44 ∷ (values ++ (decimal seed ++ 44 ∷ (more ++ left))) =
       ap (λ l. l ++ left) line ∙ append_assoc note (44 ∷ (values ++ (decimal seed ++ 44 ∷ more))) left
@@ -177,8 +178,8 @@ own_seed : (s : ℕ) (asked : Option ℕ) → ForSome (known_seed asked None) (�
 own_seed s None known = λ k one. same_Some s k one
 own_seed s (Some a) known = known
 
-module _ (revived : Bool) (mark : List ℕ) (sweep : Sweep) (text : List ℕ) where
-  with_own : (has : HasLineOf (line_key revived None mark sweep) sweep 0 text) → HasLineOf (line_key revived (Some has.1.is.placed.cells.seed) mark sweep) sweep 0 text
+module _ (columns : ColumnSet) (mark : List ℕ) (sweep : Sweep) (text : List ℕ) where
+  with_own : (has : HasLineOf (line_key columns None mark sweep) sweep 0 text) → HasLineOf (line_key columns (Some has.1.is.placed.cells.seed) mark sweep) sweep 0 text
   with_own has =
       let it = has.1 in
       let placed = it.is.placed in
@@ -212,5 +213,5 @@ module _ (revived : Bool) (mark : List ℕ) (sweep : Sweep) (text : List ℕ) wh
       )
 
   -- so a text that begins with no such line with its seed begins with none
-  pub no_line : (seed : ℕ) → IsItsSeed sweep text seed → ¬ (HasLineOf (line_key revived (Some seed) mark sweep) sweep 0 text) → ¬ (HasLineOf (line_key revived None mark sweep) sweep 0 text)
-  no_line seed its none has = none (subst (λ s. HasLineOf (line_key revived (Some s) mark sweep) sweep 0 text) (its (line_key revived None mark sweep) has) (with_own has))
+  pub no_line : (seed : ℕ) → IsItsSeed sweep text seed → ¬ (HasLineOf (line_key columns (Some seed) mark sweep) sweep 0 text) → ¬ (HasLineOf (line_key columns None mark sweep) sweep 0 text)
+  no_line seed its none has = none (subst (λ s. HasLineOf (line_key columns (Some s) mark sweep) sweep 0 text) (its (line_key columns None mark sweep) has) (with_own has))

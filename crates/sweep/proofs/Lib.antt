@@ -18,3 +18,4 @@ pub mod Kept
 mod Begins
 pub mod Fronts
 mod WholeSweep
+pub mod Ticks

@@ -1,9 +1,9 @@
--- What a document is answered doesn't depend on its seed.
+-- What a document of before version 4 is answered doesn't depend on its seed.
 use Rattle.std.proofs.Common.{◌≡◌, ◌≢◌, ◌∙◌, ℕ, ◌<◌, ◌-◌, ◌||◌, ◌&&◌, Bool, true, false, List, [], ◌∷◌, map, flat_map, Option, Some, None, Result, Ok, Err, Ordering, Less, Equal, Greater, nat_cmp, true≢false, bytes_eq, refl, sym, ap, subst, arith, if◌then◌else◌}
 use Rattle.std.specs.Prelude.{pos, drop, ◌^◌}
 use Rattle.std.specs.Cmp.Lexicographic.{slice_cmp}
 use Rattle.std.specs.List.{list_any}
-use Rattle.std.specs.Option.{option_map_or, option_or}
+use Rattle.std.specs.Option.{option_map, option_and_then, option_map_or, option_or}
 use Rattle.std.specs.Ordering.{match_ordering}
 use Rattle.toml.specs.Data.{Data, string, integer, float, boolean, datetime, array, table, Members, no_members, member, get_member}
 use Rattle.schema.specs.Schema.{spelling_of, key_rules_of}
@@ -22,9 +22,11 @@ use Rattle.schema.specs.declared.schema.Absence.TheVariants.{Refused, RefusedOve
 use Rattle.schema.specs.declared.schema.Section.TheVariants as section
 use Rattle.schema.specs.declared.shape.Check.{Check}
 use Rattle.schema.specs.declared.shape.Check.TheVariants.{Missing, Unknown, WrongKind, OutOfRange}
-use Rattle.scenario.specs.Setup.{Setup, Group, IsSound}
-use Rattle.scenario_reader.specs.Reading.{version_numbered, version_of, plain_group, plain_groups, group_in, path_in, swim_in, suspicion_in, lifeguard_in, link_in, gossip_in, stream_in, stream_table, slow_in, crash_in, leave_in, cut_in, pause_in, added_items, pause_items, setup_of_tree}
-use Rattle.scenario_reader.specs.Rules.{has_lost_contact, names_no_member, names_no_group, breaks_names, breaks_references, breaks_added_references, breaks_pairs, breaks_departures, breaks_pauses, breaks_times, breaks_added_times, breaks_size, least_of, least_broken_by, least_broken, unless_broken, document_verdict}
+use Rattle.scenario.specs.Setup.{Setup, Group, is_fourth}
+use Rattle.scenario_reader.specs.Reading.{version_numbered, version_of, plain_group, plain_groups, group_in, path_in, swim_in, suspicion_in, lifeguard_in, link_in, gossip_in, stream_in, stream_table, slow_in, crash_in, leave_in, cut_in, pause_in, restart_in, queue_in, dial_in, serf_in, added_items, pause_items, fourth_items, fourth_table, setup_of_tree}
+use Rattle.scenario_reader.specs.Rules.{has_lost_contact, names_no_member, names_no_group, breaks_names, breaks_references, breaks_added_references, breaks_pairs, breaks_departures, breaks_pauses, breaks_times, breaks_added_times, breaks_size, least_of, least_broken_by, least_broken_in, least_broken, unless_broken, document_verdict}
+use Rattle.scenario_reader.proofs.Chain.{earlier_least}
+use Rattle.text_reader.specs.Answers.{AnswersBy, AnswersDocument}
 use Rattle.sweep_plan.specs.Document.{put, with_entry, with_seed}
 use Rattle.sweep_plan.proofs.Names.{bytes_eq_same}
 use Rattle.sweep_plan.proofs.Puts.{entry_other, get_here}
@@ -113,56 +115,21 @@ seeded n s = record {
   gossip = s.gossip;
   stream = s.stream;
   pauses = s.pauses;
+  restarts = s.restarts;
+  blocks = s.blocks;
+  queue = s.queue;
+  dial = s.dial;
+  serf = s.serf;
 }
 
--- no range of a sound scenario is about its seed
-sound_too : (n m : ℕ) (s : Setup) → IsSound (seeded n s) → IsSound (seeded m s)
-sound_too n m s h = record {
-  end = h.end;
-  period = h.period;
-  timeout = h.timeout;
-  helpers = h.helpers;
-  carry = h.carry;
-  lambda = h.lambda;
-  spread = h.spread;
-  alpha = h.alpha;
-  beta = h.beta;
-  ceiling = h.ceiling;
-  confirmations = h.confirmations;
-  nack_percent = h.nack_percent;
-  delay = h.delay;
-  jitter = h.jitter;
-  loss = h.loss;
-  between = h.between;
-  names = h.names;
-  members = h.members;
-  starts = h.starts;
-  contacts = λ k low. let c = h.contacts k low in record { none = c.none; some = c.some };
-  crashes = h.crashes;
-  extras = h.extras;
-  leaves = h.leaves;
-  once = h.once;
-  cuts = h.cuts;
-  first = λ is. let p = h.first is in (record { leaves = p.0.leaves; cuts = p.0.cuts }, p.1);
-  gossip = h.gossip;
-  connect = h.connect;
-  again = h.again;
-  pauses = h.pauses;
-  before_third = λ other. let w = h.before_third other in record { fallback = w.fallback; gossip = w.gossip; pauses = w.pauses };
-}
-
--- nor is a rule
+-- no rule is about it
 ruled_too : (tree : Data) (n m : ℕ) (s : Setup) → least_broken_by tree (seeded n s) ≡ least_broken_by tree (seeded m s)
 unfolding least_broken_by breaks_times breaks_added_times
 ruled_too tree n m s = refl
 
 -- an answer without a broken rule
-answer_says : (t : Setup) (o : Option ℕ) (s : Setup) → unless_broken t o ≡ Ok s → (o ≡ None) × (t ≡ s)
-answer_says t None s ok = (refl, ap (scenario_or t) ok)
-  where
-    scenario_or : Setup → Result Setup ℕ → Setup
-    scenario_or other (Ok s) = s
-    scenario_or other (Err rule) = other
+answer_says : (t : Setup) (o : Option ℕ) (s : Setup) → unless_broken t o ≡ Ok s → o ≡ None
+answer_says t None s ok = refl
 answer_says t (Some rule) s ok = absurd (true≢false (sym (ap is_accepted ok)))
   where
     is_accepted : Result Setup ℕ → Bool
@@ -296,6 +263,18 @@ module _ (a b : ℕ) (ms : Members) where
   streamed Three = λ i. f i key.Stream
   streamed Four = λ i. f i key.Stream
 
+  fourth : (v : Version) (k : FormatKey) → is_seed k ≡ false → fourth_items v k (table (given a ms)) ≡ fourth_items v k (table (given b ms))
+  fourth One k other = refl
+  fourth Two k other = refl
+  fourth Three k other = refl
+  fourth Four k other = ap listed (elsewhere a b ms k other)
+
+  tabled : (v : Version) (k : FormatKey) → is_seed k ≡ false → fourth_table v k (table (given a ms)) ≡ fourth_table v k (table (given b ms))
+  tabled One k other = refl
+  tabled Two k other = refl
+  tabled Three k other = refl
+  tabled Four k other = elsewhere a b ms k other
+
   -- but for its seed it is the same
   same_setup : seeded 0 (setup_of_tree (table (given a ms))) ≡ seeded 0 (setup_of_tree (table (given b ms)))
   unfolding setup_of_tree number_at plain_groups
@@ -305,6 +284,11 @@ module _ (a b : ℕ) (ms : Members) where
       let cuts = ap (λ u. added_items u key.Cut (table (given a ms))) same_version ∙ added v key.Cut refl in
       let pauses = ap (λ u. pause_items u (table (given a ms))) same_version ∙ paused v in
       let streams = ap (λ u. stream_table u (table (given a ms))) same_version ∙ streamed v in
+      let restarts = ap (λ u. fourth_items u key.Restart (table (given a ms))) same_version ∙ fourth v key.Restart refl in
+      let blocks = ap (λ u. fourth_items u key.Block (table (given a ms))) same_version ∙ fourth v key.Block refl in
+      let queue = ap (λ u. fourth_table u key.Gossip (table (given a ms))) same_version ∙ tabled v key.Gossip refl in
+      let dial = ap (λ u. fourth_table u key.Stream (table (given a ms))) same_version ∙ tabled v key.Stream refl in
+      let serf = ap (λ u. fourth_table u key.Serf (table (given a ms))) same_version ∙ tabled v key.Serf refl in
       λ i. record {
         version = same_version i;
         seed = 0;
@@ -322,6 +306,11 @@ module _ (a b : ℕ) (ms : Members) where
         gossip = gossip_in (same_version i) (f i key.Gossip);
         stream = stream_in (streams i);
         pauses = map (pause_in (groups_by (f i))) (pauses i);
+        restarts = map (restart_in (groups_by (f i))) (restarts i);
+        blocks = map (pause_in (groups_by (f i))) (blocks i);
+        queue = option_and_then queue_in (queue i);
+        dial = dial_in (dial i);
+        serf = option_map serf_in (serf i);
       }
 
   -- ---- the rules on the values
@@ -345,41 +334,51 @@ module _ (a b : ℕ) (ms : Members) where
   same_ruled s = λ i. least_of (breaks_names (same_groups i)) (same_references i || same_added s.version i)
       (breaks_pairs s.crashes s.slows || (breaks_departures s.crashes s.leaves || breaks_pauses s.pauses)) (breaks_times s || breaks_added_times s) (breaks_size s)
 
-  same_values_broken : least_broken_by (table (given a ms)) (setup_of_tree (table (given a ms))) ≡ least_broken_by (table (given b ms)) (setup_of_tree (table (given b ms)))
-  same_values_broken =
-      let s = setup_of_tree (table (given a ms)) in
-      let t = setup_of_tree (table (given b ms)) in
-      ruled_too (table (given a ms)) s.seed 0 s ∙ ap (least_broken_by (table (given a ms))) same_setup ∙ ruled_too (table (given a ms)) 0 t.seed t ∙ same_ruled t
+  module _ (old : is_fourth (version_of (table (given a ms))) ≡ false) where
+    old_too : is_fourth (version_of (table (given b ms))) ≡ false
+    old_too = sym (ap is_fourth same_version) ∙ old
 
-  same_broken : is_outside seed_kind (number a) ≡ is_outside seed_kind (number b) → least_broken (table (given a ms)) ≡ least_broken (table (given b ms))
-  unfolding least_broken
-  same_broken within =
-      let shape = ap (λ v. least_broken_of_shape v (table (given a ms))) same_version ∙ same_shape within (version_of (table (given b ms))) in
-      λ i. option_or (shape i) (same_values_broken i)
+    same_values_broken : least_broken_in (version_of (table (given a ms))) (table (given a ms)) (setup_of_tree (table (given a ms)))
+        ≡ least_broken_in (version_of (table (given b ms))) (table (given b ms)) (setup_of_tree (table (given b ms)))
+    same_values_broken =
+        let s = setup_of_tree (table (given a ms)) in
+        let t = setup_of_tree (table (given b ms)) in
+        earlier_least (version_of (table (given a ms))) (table (given a ms)) s old ∙ ruled_too (table (given a ms)) s.seed 0 s ∙ ap (least_broken_by (table (given a ms))) same_setup
+        ∙ ruled_too (table (given a ms)) 0 t.seed t ∙ same_ruled t ∙ sym (earlier_least (version_of (table (given b ms))) (table (given b ms)) t old_too)
+
+    same_broken : is_outside seed_kind (number a) ≡ is_outside seed_kind (number b) → least_broken (table (given a ms)) ≡ least_broken (table (given b ms))
+    unfolding least_broken
+    same_broken within =
+        let shape = ap (λ v. least_broken_of_shape v (table (given a ms))) same_version ∙ same_shape within (version_of (table (given b ms))) in
+        λ i. option_or (shape i) (same_values_broken i)
+
+-- ---- the answer
 
 -- a document that is accepted
 abbrev pub IsTaken : Data → Type 0
-IsTaken tree = (s : Setup) × (document_verdict tree ≡ Ok s) × IsSound s
+IsTaken tree = (s : Setup) × AnswersDocument tree (Ok s)
 
-taken_too : (a b : ℕ) (ms : Members) → is_outside seed_kind (number a) ≡ is_outside seed_kind (number b) → IsTaken (table (given a ms)) → IsTaken (table (given b ms))
-taken_too a b ms within taken =
-    let s = setup_of_tree (table (given a ms)) in
+taken_too : (a b : ℕ) (ms : Members) → is_outside seed_kind (number a) ≡ is_outside seed_kind (number b) → is_fourth (version_of (table (given a ms))) ≡ false → IsTaken (table (given a ms))
+    → IsTaken (table (given b ms))
+taken_too a b ms within old taken =
     let t = setup_of_tree (table (given b ms)) in
-    let says = answer_says s (least_broken (table (given a ms))) taken.0 taken.1 in
-    let none : least_broken (table (given b ms)) ≡ None = sym (same_broken a b ms within) ∙ says.0 in
-    let sound : IsSound s = subst IsSound (sym says.1) taken.2 in
-    (t, ap (unless_broken t) none, sound_too 0 t.seed t (subst IsSound (same_setup a b ms) (sound_too s.seed 0 s sound)))
+    let answered : document_verdict (table (given a ms)) ≡ Ok taken.0 = subst (λ fourth. AnswersBy fourth (table (given a ms)) (Ok taken.0)) old taken.1 in
+    let says = answer_says (setup_of_tree (table (given a ms))) (least_broken (table (given a ms))) taken.0 answered in
+    let none : least_broken (table (given b ms)) ≡ None = sym (same_broken a b ms old within) ∙ says in
+    let answered_too : document_verdict (table (given b ms)) ≡ Ok t = ap (unless_broken t) none in
+    (t, subst (λ fourth. AnswersBy fourth (table (given b ms)) (Ok t)) (sym (old_too a b ms old)) answered_too)
 
 -- both seeds are in the range
 both_within : (a b : ℕ) → a < 2 ^ 63 → b < 2 ^ 63 → is_outside seed_kind (number a) ≡ is_outside seed_kind (number b)
 both_within a b low high = grind (arith, low, high)
 
 -- what is accepted with a seed is accepted with another
-pub accepted_with : (a b : ℕ) (tree : Data) → a < 2 ^ 63 → b < 2 ^ 63 → IsTaken (with_seed (Some a) tree) → IsTaken (with_seed (Some b) tree)
-accepted_with a b (table ms) low high taken = taken_too a b ms (both_within a b low high) taken
-accepted_with a b (string x) low high taken = taken
-accepted_with a b (integer z) low high taken = taken
-accepted_with a b (float x) low high taken = taken
-accepted_with a b (boolean c) low high taken = taken
-accepted_with a b (datetime x) low high taken = taken
-accepted_with a b (array ds) low high taken = taken
+pub accepted_with : (a b : ℕ) (tree : Data) → a < 2 ^ 63 → b < 2 ^ 63 → is_fourth (version_of (with_seed (Some a) tree)) ≡ false → IsTaken (with_seed (Some a) tree)
+    → IsTaken (with_seed (Some b) tree)
+accepted_with a b (table ms) low high old taken = taken_too a b ms (both_within a b low high) old taken
+accepted_with a b (string x) low high old taken = taken
+accepted_with a b (integer z) low high old taken = taken
+accepted_with a b (float x) low high old taken = taken
+accepted_with a b (boolean c) low high old taken = taken
+accepted_with a b (datetime x) low high old taken = taken
+accepted_with a b (array ds) low high old taken = taken

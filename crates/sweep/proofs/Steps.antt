@@ -23,11 +23,12 @@ use Rattle.member_laws.specs.Runs.{IsRunOf}
 use Rattle.run_output.specs.Written.{sink_failures}
 use Rattle.figures.specs.Notes.{Note}
 use Rattle.sweep_plan.specs.Sweep.{Sweep, run_count}
-use Rattle.sweep.specs.Runs.{Planned, Made, IsMadeAs, AreMadeBetween, IsRunAt, noted, runs_of, runs_between, verdict_of}
-use Rattle.sweep.specs.Table.{counts_revived, noted_line, lines_text, Course, HasLines, BeginsLines, HasCause, IsCauseAt, IsMadeOf, IsMadeRun}
+use Rattle.sweep.specs.Runs.{Planned, Made, IsMadeAs, AreMadeBetween, IsRunAt, noted, runs_of, runs_between, document_of, IsAnswered}
+use Rattle.sweep.specs.Table.{columns_of, noted_line, lines_text, Course, HasLines, BeginsLines, HasCause, IsCauseAt, IsMadeOf, IsMadeRun}
 use Rattle.sweep.specs.declared.making.MadeRun.{MadeRun}
 use Rattle.sweep.specs.Summaries.{HasCome}
-use Rattle.sweep.specs.Judged.{IsAccepted, IsAcceptedAt, AreAccepted}
+use Rattle.sweep.specs.Judged.{IsAccepted, IsAcceptedAt, AreAccepted, AreFirstAccepted}
+use Rattle.text_reader.proofs.One.{one_answer}
 use Rattle.sweep.proofs.Flat.{runs_counted}
 use Rattle.figures.proofs.Handing.{handed}
 
@@ -50,9 +51,9 @@ between_more xs from n x le e =
     ap (λ k. take k (drop from xs)) more ∙ taken_more (drop from xs) (n - from) x (past xs from n le ∙ e)
 
 pub text_more : (tree : Data) (course : Course) (made : List Made) (m : Made)
-    → lines_text tree course made ++ noted_line (counts_revived tree) course.key m ≡ lines_text tree course (made ++ m ∷ [])
+    → lines_text tree course made ++ noted_line (columns_of tree) course.key m ≡ lines_text tree course (made ++ m ∷ [])
 text_more tree course made m =
-    let line : Made → List ℕ = noted_line (counts_revived tree) course.key in
+    let line : Made → List ℕ = noted_line (columns_of tree) course.key in
     append_assoc course.front (flat_map line made) (line m)
     ∙ ap (λ l. course.front ++ l) (ap (λ l. flat_map line made ++ l) (sym (append-nil (line m))) ∙ sym (flat_map-append line made (m ∷ [])))
 
@@ -65,12 +66,12 @@ zipped_long R (a ∷ xs) (b ∷ ys) all = ap suc (zipped_long R xs ys all.1)
 module _ (tree : Data) (sweep : Sweep) where
   -- a run that is accepted is refused for want of memory alone
   pub refused_for_memory : (number : ℕ) (p : Planned) (rule : ℕ) → AreAccepted tree sweep → IsRunAt sweep number p
-      → (rule ≢ 11 → verdict_of tree p ≡ Err rule) → rule ≡ 11
+      → (rule ≢ 11 → IsAnswered tree p (Err rule)) → rule ≡ 11
   refused_for_memory number p rule all at broken =
       let runs = runs_of sweep in
       let here : IsAccepted tree p =
       subst (IsAccepted tree) (get_or_from_slice_get runs number p p at) (all number p (slice_get_within runs number p at)) in
-      by (λ other. apart here.0 rule (sym here.1 ∙ broken other)) (eqb rule 11) refl
+      by (λ other. apart here.0 rule (one_answer (document_of tree p) (Ok here.0) (Err rule) here.1 (broken other))) (eqb rule 11) refl
     where
       apart : (s : Setup) (n : ℕ) → ◌≡◌ {A = Result Setup ℕ} (Ok s) (Err n) → ⊥
       apart s n e = cc
@@ -80,13 +81,12 @@ module _ (tree : Data) (sweep : Sweep) where
       by not_other false e = absurd (not_other (λ same. true≢false (sym (eq-eqb rule 11 same) ∙ e)))
 
   -- one more run was judged
-  pub accepted_more : (number : ℕ) → IsAcceptedAt tree sweep number → All (IsAccepted tree) (take number (runs_of sweep))
-      → All (IsAccepted tree) (take (number + 1) (runs_of sweep))
+  pub accepted_more : (number : ℕ) → IsAcceptedAt tree sweep number → AreFirstAccepted tree sweep number → AreFirstAccepted tree sweep (number + 1)
   accepted_more number here before =
       subst (All (IsAccepted tree)) (sym (taken_more (runs_of sweep) number here.0 here.1)) (All-push (IsAccepted tree) (take number (runs_of sweep)) here.0 before here.2)
 
   -- all were
-  pub accepted_all : (number : ℕ) → run_count sweep ≤ number → All (IsAccepted tree) (take number (runs_of sweep)) → AreAccepted tree sweep
+  pub accepted_all : (number : ℕ) → run_count sweep ≤ number → AreFirstAccepted tree sweep number → AreAccepted tree sweep
   accepted_all number le before =
       let long : length (runs_of sweep) ≤ number = omega (arith, le, runs_counted sweep) in
       subst (All (IsAccepted tree)) (take_all number (runs_of sweep) long) before
@@ -213,8 +213,8 @@ module _ (tree : Data) (sweep : Sweep) where
         let here = All-head (IsAccepted tree) p xs all in
         let run = exists here.0 here.2 in
         let rest = runs_left xs (All-tail (IsAccepted tree) p xs all) in
-        let m : Made = record { setting = p.setting; scenario = here.0; rows = run.0 } in
-        let so : IsMadeAs tree p m = record { same = refl; accepted = here.1; run = run.1 } in
+        let m : Made = record { setting = p.setting; scenario = here.0; rows = run.0; tick = here.3.0 } in
+        let so : IsMadeAs tree p m = record { same = refl; accepted = here.1; run = run.1; timed = here.3.1 } in
         (m ∷ rest.0, (so, rest.1))
 
     -- so a beginning of the first lines is one of all lines of a course
@@ -228,7 +228,7 @@ module _ (tree : Data) (sweep : Sweep) where
         take-take count (course.till - course.from) (drop course.from (runs_of sweep)) few in
         let accepted = All-take (IsAccepted tree) (course.till - course.from) (drop course.from (runs_of sweep)) (All-drop (IsAccepted tree) course.from (runs_of sweep) all) in
         let left = runs_left (drop count planned) (All-drop (IsAccepted tree) count planned accepted) in
-        let line : Made → List ℕ = noted_line (counts_revived tree) course.key in
+        let line : Made → List ℕ = noted_line (columns_of tree) course.key in
         let text : lines_text tree course lines.made ++ flat_map line left.0 ≡ lines_text tree course (lines.made ++ left.0) =
         append_assoc course.front (flat_map line lines.made) (flat_map line left.0) ∙ ap (λ l. course.front ++ l) (sym (flat_map-append line lines.made left.0)) in (
           lines.made ++ left.0,
@@ -239,8 +239,8 @@ module _ (tree : Data) (sweep : Sweep) where
         )
 
   module _ (key : List ℕ) (number : ℕ) (run : MadeRun) (is : IsMadeRun tree sweep key number run) (course : Course) (keyed : course.key ≡ key) where
-    line_is : run.line.items ≡ noted_line (counts_revived tree) course.key is.made
-    line_is = is.written ∙ ap (λ k. noted_line (counts_revived tree) k is.made) (sym keyed)
+    line_is : run.line.items ≡ noted_line (columns_of tree) course.key is.made
+    line_is = is.written ∙ ap (λ k. noted_line (columns_of tree) k is.made) (sym keyed)
 
     -- its line was written, and it was gathered
     pub line_whole : (mid held : Option (List ℕ)) (Before After : List Note → Type 0) → Appends mid held run.line.items
@@ -256,7 +256,7 @@ module _ (tree : Data) (sweep : Sweep) where
             low = omega (arith, lines.low);
             are = are_more course.from number is.planned is.made lines.made lines.low is.there is.is lines.are;
             written = subst (Appends course.start held) (text_more tree course lines.made is.made)
-                (Appends-then course.start mid held (lines_text tree course lines.made) (noted_line (counts_revived tree) course.key is.made) lines.written (subst (Appends mid held) line_is p));
+                (Appends-then course.start mid held (lines_text tree course lines.made) (noted_line (columns_of tree) course.key is.made) lines.written (subst (Appends mid held) line_is p));
           };
           gathered = subst After added (gathers (map noted lines.made) come.gathered);
         }
@@ -271,5 +271,5 @@ module _ (tree : Data) (sweep : Sweep) where
       high = high;
       are = are_more course.from number is.planned is.made lines.made lines.low is.there is.is lines.are;
       written = beginning-of course.start held _ _ (text_more tree course lines.made is.made)
-          (beginning-then course.start mid held (lines_text tree course lines.made) (noted_line (counts_revived tree) course.key is.made) lines.written (beginning-of mid held _ _ line_is p));
+          (beginning-then course.start mid held (lines_text tree course lines.made) (noted_line (columns_of tree) course.key is.made) lines.written (beginning-of mid held _ _ line_is p));
     }

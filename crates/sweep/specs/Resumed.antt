@@ -4,7 +4,7 @@ use Rattle.toml.specs.Data.{Data}
 use Rattle.sweep_plan.specs.Sweep.{Sweep, run_count}
 use Rattle.shards.specs.declared.shard.Shard.{Shard}
 use Rattle.shards.specs.Shards.{first_run, past_run}
-use Rattle.sweep.specs.Table.{counts_revived}
+use Rattle.sweep.specs.Table.{columns_of}
 use Rattle.sweep.specs.Shards.{shard_header}
 use Rattle.sweep.specs.Sums.{BeginsWithLines, HasLineOf, IsOlder, key_of_text}
 use Rattle.sweep.specs.declared.summing.LineKey.{LineKey}
@@ -34,8 +34,8 @@ runs_in sweep p = past_run p (run_count sweep) - first_run p (run_count sweep)
 -- So much of the table of a shard stands in the text, of a sweep of this document: so many bytes stay, with the lines of so many runs. Each is genuine at its
 -- place. They are all such lines with which the text goes on behind its first one.
 pub record IsBegun (tree : Data) (mark : List ℕ) (sweep : Sweep) (p : Shard) (text : List ℕ) (kept runs : ℕ) : Type 0 where
-  pub stands : IsShort (shard_header (counts_revived tree) mark sweep p) text kept runs
-      ⊎ IsLong (key_of_text tree mark sweep) sweep (first_run p (run_count sweep)) (runs_in sweep p) (shard_header (counts_revived tree) mark sweep p) text kept runs
+  pub stands : IsShort (shard_header (columns_of tree) mark sweep p) text kept runs
+      ⊎ IsLong (key_of_text tree mark sweep) sweep (first_run p (run_count sweep)) (runs_in sweep p) (shard_header (columns_of tree) mark sweep p) text kept runs
   pub few : first_run p (run_count sweep) + runs ≤ past_run p (run_count sweep)
 
 -- of the text and the first line neither begins with the other
@@ -56,4 +56,4 @@ RefusesStart header text Older = IsOfBefore header text
 RefusesStart header text Memory = Unit {0}
 
 abbrev pub RefusesBegun : Data → List ℕ → Sweep → Shard → List ℕ → BegunFault → Type 0
-RefusesBegun tree mark sweep p text fault = RefusesStart (shard_header (counts_revived tree) mark sweep p) text fault
+RefusesBegun tree mark sweep p text fault = RefusesStart (shard_header (columns_of tree) mark sweep p) text fault

@@ -1,9 +1,11 @@
 -- The runs of a sweep: each setting with each seed, in order.
-use Rattle.std.specs.Prelude.{◌≡◌, ℕ, ◌-◌, List, [], ◌∷◌, Option, Some, None, Result, Ok, map, slice_get, take, drop}
+use Rattle.std.specs.Prelude.{◌≡◌, ◌⊎◌, ℕ, ◌-◌, List, [], ◌∷◌, Option, Some, None, Result, Ok, Err, codes, map, slice_get, take, drop}
 use Rattle.std.specs.List.{AllZip, flat_map, range_with_len}
-use Rattle.toml.specs.Data.{Data}
+use Rattle.toml.specs.Data.{Data, get}
+use Rattle.written_values.specs.Values.{SaysTickIn}
+use Rattle.written_values.specs.declared.fault.ValueFault.{ValueFault}
 use Rattle.scenario.specs.Setup.{Setup}
-use Rattle.scenario_reader.specs.Rules.{document_verdict}
+use Rattle.text_reader.specs.Answers.{AnswersDocument}
 use Rattle.trace.specs.declared.row.Row.{Row}
 use Rattle.member_laws.specs.Runs.{IsRunOf}
 use Rattle.figures.specs.Notes.{Note, note_of}
@@ -46,25 +48,36 @@ runs_between sweep from till = take (till - from) (drop from (runs_of sweep))
 abbrev pub IsRunAt : Sweep → ℕ → Planned → Type 0
 IsRunAt sweep number p = slice_get (runs_of sweep) number ≡ Some p
 
--- what the document of a run is answered
-abbrev pub verdict_of : Data → Planned → Result Setup ℕ
-verdict_of tree p = document_verdict (with_values tree p.setting p.seed)
+-- the document of a run: the text's, with the values of its setting and its seed
+abbrev pub document_of : Data → Planned → Data
+document_of tree p = with_values tree p.setting p.seed
 
--- a run that was made: its setting, its scenario and the rows of its trace
+-- it is answered so: by a scenario, or by the lowest rule that it breaks
+abbrev pub IsAnswered : Data → Planned → Result Setup ℕ → Type 0
+IsAnswered tree p answer = AnswersDocument (document_of tree p) answer
+
+-- How many microseconds a tick of a document has: what the document says. It says a thousand where it has no key for that, and where that key says none
+-- that a tick may have, which no text of a sweep does.
+abbrev pub IsTickOf : Data → ℕ → Type 0
+IsTickOf tree tick = SaysTickIn (get (codes "tick") tree) (Ok tick) ⊎ ((fault : ValueFault) × SaysTickIn (get (codes "tick") tree) (Err fault) × (tick ≡ 1000))
+
+-- a run that was made: its setting, its scenario, the rows of its trace, and how many microseconds its ticks have
 pub record Made : Type 0 where
   pub setting : List Choice
   pub scenario : Setup
   pub rows : List Row
+  pub tick : ℕ
 
 -- it is the run that was asked for, of a document
 pub record IsMadeAs (tree : Data) (p : Planned) (m : Made) : Type 0 where
   pub same : m.setting ≡ p.setting
-  pub accepted : verdict_of tree p ≡ Ok m.scenario
+  pub accepted : IsAnswered tree p (Ok m.scenario)
   pub run : IsRunOf m.scenario m.rows
+  pub timed : IsTickOf tree m.tick
 
 -- what its setting keeps of it
 abbrev pub noted : Made → Note
-noted m = note_of m.scenario m.rows
+noted m = note_of m.scenario m.tick m.rows
 
 -- these are the runs from one number to before another
 abbrev pub AreMadeBetween : Data → Sweep → ℕ → ℕ → List Made → Type 0

@@ -1,5 +1,5 @@
 -- The lines of a sweep's table, and how far they have come.
-use Rattle.std.specs.Prelude.{◌≡◌, ◌≤◌, ℕ, ◌⊎◌, List, ◌++◌, Bool, true, false, Option, Result, Ok, Err, IfOk, Vec, map}
+use Rattle.std.specs.Prelude.{◌≡◌, ◌≤◌, ℕ, ◌⊎◌, List, ◌++◌, true, false, Option, Result, Ok, Err, IfOk, Vec, map}
 use Rattle.std.specs.List.{AllZip, flat_map}
 use Rattle.std.specs.Io.KnownBytes.{Appends}
 use Rattle.std.specs.declared.alloc.Global.{Global}
@@ -14,6 +14,8 @@ use Rattle.scenario_reader.specs.Reading.{version_of}
 use Rattle.trace.specs.Sinks.{AppendsBeginning}
 use Rattle.member_laws.specs.Runs.{CounterOverflows}
 use Rattle.run_output.specs.Promise.{ReportOverflows}
+use Rattle.figures.specs.declared.column_set.ColumnSet.{ColumnSet}
+use Rattle.figures.specs.declared.column_set.ColumnSet.TheVariants.{First, WithRevived, WithIncidents}
 use Rattle.figures.specs.Figures.{figures_of}
 use Rattle.figures.specs.Lines.{run_line}
 use Rattle.figures.specs.Notes.{note_cell}
@@ -23,7 +25,7 @@ use Rattle.sweep_plan.specs.Sweep.{KeyValues, Sweep}
 use Rattle.sweep_plan.specs.declared.choice.Choice.{Choice}
 use Rattle.line_sums.specs.Sums.{summed}
 use Rattle.sweep.specs.declared.making.MadeRun.{MadeRun}
-use Rattle.sweep.specs.Runs.{Planned, Made, IsMadeAs, AreMadeBetween, IsRunAt, noted, verdict_of}
+use Rattle.sweep.specs.Runs.{Planned, Made, IsMadeAs, AreMadeBetween, IsAnswered, IsRunAt, noted}
 
 -- the values of a setting, as words say them
 abbrev pub texts_of : List Choice → List (List ℕ)
@@ -33,24 +35,24 @@ texts_of chosen = map (λ c. value_text c.value) chosen
 abbrev pub names_of : List KeyValues → List (List ℕ)
 names_of swept_keys = map (λ s. key_name s.key) swept_keys
 
--- whether a version has members that are taken for alive again
-abbrev pub has_revivals : Version → Bool
-has_revivals One = false
-has_revivals Two = false
-has_revivals Three = true
-has_revivals Four = true
+-- the columns of a version
+abbrev pub columns_in : Version → ColumnSet
+columns_in One = First
+columns_in Two = First
+columns_in Three = WithRevived
+columns_in Four = WithIncidents
 
--- the sweep of a text of such a version counts them
-abbrev pub counts_revived : Data → Bool
-counts_revived tree = has_revivals (version_of tree)
+-- those of the sweep of a text of that version
+abbrev pub columns_of : Data → ColumnSet
+columns_of tree = columns_in (version_of tree)
 
 -- the line of a run that was made
-abbrev pub made_line : Bool → Made → List ℕ
-made_line revived m = run_line revived (texts_of m.setting) m.scenario.seed (figures_of m.scenario m.rows)
+abbrev pub made_line : ColumnSet → Made → List ℕ
+made_line columns m = run_line columns (texts_of m.setting) m.scenario.seed (figures_of m.scenario m.rows)
 
 -- the line of a run that was made, with its note before it, and before that its checksum with a key
-abbrev pub noted_line : Bool → List ℕ → Made → List ℕ
-noted_line revived key m = summed key (note_cell (noted m) ++ made_line revived m)
+abbrev pub noted_line : ColumnSet → List ℕ → Made → List ℕ
+noted_line columns key m = summed key (note_cell (noted m) ++ made_line columns m)
 
 -- What lines are put one after the other: the key of their checksums, what was held before, and what is put ahead of them; and the numbers of the
 -- first run and of the one past the last.
@@ -63,7 +65,7 @@ pub record Course : Type 0 where
 
 -- what is put, with the lines of these runs
 abbrev pub lines_text : Data → Course → List Made → List ℕ
-lines_text tree course made = course.front ++ flat_map (noted_line (counts_revived tree) course.key) made
+lines_text tree course made = course.front ++ flat_map (noted_line (columns_of tree) course.key) made
 
 -- what is put ahead, and the lines of the runs to before this number, were appended
 pub record HasLines (tree : Data) (sweep : Sweep) (course : Course) (held : Option (List ℕ)) (number : ℕ) : Type 0 where
@@ -91,7 +93,7 @@ pub record OverflowsOutSome (tree : Data) (sweep : Sweep) : Type 0 where
   pub planned : Planned
   pub there : IsRunAt sweep number planned
   pub scenario : Setup
-  pub accepted : verdict_of tree planned ≡ Ok scenario
+  pub accepted : IsAnswered tree planned (Ok scenario)
   pub overflow : IsWearing scenario
 
 -- why a sweep ends before its time: a counter overflow only where some run has one; a sink where its failures say so; no relay
@@ -103,7 +105,7 @@ HasCause tree sweep fault.ThreadLost = ⊥
 
 -- the scenario is that of the run of this number
 abbrev pub IsReadAt : Data → Sweep → ℕ → Setup → Type 0
-IsReadAt tree sweep number s = (p : Planned) × IsRunAt sweep number p × (verdict_of tree p ≡ Ok s)
+IsReadAt tree sweep number s = (p : Planned) × IsRunAt sweep number p × IsAnswered tree p (Ok s)
 
 -- the run of this number has a counter overflow
 pub record OverflowsOutAt (tree : Data) (sweep : Sweep) (number : ℕ) : Type 0 where
@@ -124,7 +126,7 @@ pub record IsMadeRun (tree : Data) (sweep : Sweep) (key : List ℕ) (number : �
   pub there : IsRunAt sweep number planned
   pub made : Made
   pub is : IsMadeAs tree planned made
-  pub written : run.line.items ≡ noted_line (counts_revived tree) key made
+  pub written : run.line.items ≡ noted_line (columns_of tree) key made
   pub kept : run.note ≡ noted made
 
 -- the run of this number was made, or there is a cause for there being none

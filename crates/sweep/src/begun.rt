@@ -4,12 +4,12 @@ ghost use Rattle.toml.specs.View.{view};
 ghost use Rattle.shards.specs.Shards.{IsShard};
 ghost use Rattle.sweep.specs.Shards.{shard_header};
 ghost use Rattle.sweep.specs.Runs.{IsAskedFor};
-ghost use Rattle.sweep.specs.Table.{counts_revived};
+ghost use Rattle.sweep.specs.Table.{columns_of};
 ghost use Rattle.sweep.specs.Resumed.{IsBegun, RefusesBegun, RefusesStart};
 ghost use Rattle.sweep.specs.declared.begun.BegunFault.TheVariants as begun_fault;
 
+use crate::columns::columns_of;
 use crate::header::front_of;
-use crate::revived::counts_revived;
 use crate::standing::{is_older, lines_of_runs};
 use crate::summing::key_of_text;
 use base::Memory;
@@ -115,11 +115,11 @@ pub fn lines_behind<'a>(
     document: &Value,
     text: &'a [u8],
 ) -> Result<Option<&'a [u8]>, BegunFault>
-    ensures none { IfOk result (λ found. IsNone found → (rest : List ℕ) × (shard_header (counts_revived (view document.now)) mark.now plan.now shard ≡ text.entry.now ++ rest)) }
-    ensures some { IfOk result (λ found. IfSome found (λ lines. text.entry.now ≡ shard_header (counts_revived (view document.now)) mark.now plan.now shard ++ lines.now)) }
-    ensures refused { IfErr result (RefusesStart (shard_header (counts_revived (view document.now)) mark.now plan.now shard) text.entry.now) }
+    ensures none { IfOk result (λ found. IsNone found → (rest : List ℕ) × (shard_header (columns_of (view document.now)) mark.now plan.now shard ≡ text.entry.now ++ rest)) }
+    ensures some { IfOk result (λ found. IfSome found (λ lines. text.entry.now ≡ shard_header (columns_of (view document.now)) mark.now plan.now shard ++ lines.now)) }
+    ensures refused { IfErr result (RefusesStart (shard_header (columns_of (view document.now)) mark.now plan.now shard) text.entry.now) }
 {
-    let header = front_of(alloc, plan, shard, mark, counts_revived(document))?;
+    let header = front_of(alloc, plan, shard, mark, columns_of(document))?;
     if is_beginning(text, &header) {
         return Ok(None);
     }

@@ -11,6 +11,7 @@ use crate::standing::behind_line;
 use crate::summing::{line_key, value_cells};
 use base::Memory;
 use decimals::number;
+use figures::ColumnSet;
 use line_sums::cut_at;
 use std::alloc::Global;
 use std::str::from_utf8;
@@ -22,17 +23,17 @@ pub fn first_seed(
     alloc: Global,
     plan: &Plan,
     mark: &str,
-    revived: bool,
+    columns: ColumnSet,
     text: &[u8],
 ) -> Result<Option<u64>, Memory>
     requires asked { IsAskedFor plan.now }
-    ensures some { IfOk result (λ found. IfSome found (λ seed. HasLineOf (line_key revived (Some seed) mark.now plan.now) plan.now 0 text.now)) }
-    ensures none { IfOk result (λ found. IsNone found → ¬ (HasLineOf (line_key revived None mark.now plan.now) plan.now 0 text.now)) }
+    ensures some { IfOk result (λ found. IfSome found (λ seed. HasLineOf (line_key columns (Some seed) mark.now plan.now) plan.now 0 text.now)) }
+    ensures none { IfOk result (λ found. IsNone found → ¬ (HasLineOf (line_key columns None mark.now plan.now) plan.now 0 text.now)) }
 {
     let Some(seed) = seed_of_line(alloc, plan, text)? else {
         return Ok(None);
     };
-    let key = line_key(alloc, plan, mark, revived, Some(seed))?;
+    let key = line_key(alloc, plan, mark, columns, Some(seed))?;
     match behind_line(alloc, plan, &key, 0, text)? {
         Some(_left) => Ok(Some(seed)),
         None => Ok(None),

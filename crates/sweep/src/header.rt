@@ -7,6 +7,7 @@ ghost use Rattle.sweep.specs.Shards.{shard_header};
 
 use crate::values::write_names;
 use base::Memory;
+use figures::ColumnSet;
 use shards::{Shard, head_cell};
 use std::alloc::Global;
 use sweep_plan::Plan;
@@ -19,15 +20,15 @@ pub fn write_front_behind<S: Sink>(
     shard: Shard,
     mark: &str,
     kept: usize,
-    revived: bool,
+    columns: ColumnSet,
     table: &mut S,
 ) -> Result<(), WriteError>
     requires { S.failed table.old < 2 ^ 63 }
-    ensures whole { OnOk result (Appends (S.held table.old) (S.held table.new) (drop kept (shard_header revived mark.now plan.now shard))) }
-    ensures part { OnErr result (AppendsBeginning (S.held table.old) (S.held table.new) (drop kept (shard_header revived mark.now plan.now shard))) }
+    ensures whole { OnOk result (Appends (S.held table.old) (S.held table.new) (drop kept (shard_header columns mark.now plan.now shard))) }
+    ensures part { OnErr result (AppendsBeginning (S.held table.old) (S.held table.new) (drop kept (shard_header columns mark.now plan.now shard))) }
     ensures failures { S.failed table.new ≡ S.failed table.old + failures_of_write result }
 {
-    let front = front_of(alloc, plan, shard, mark, revived)?;
+    let front = front_of(alloc, plan, shard, mark, columns)?;
     put_all(behind(&front, kept), table)?;
     Ok(())
 }
@@ -45,35 +46,34 @@ pub fn front_of(
     plan: &Plan,
     shard: Shard,
     mark: &str,
-    revived: bool,
+    columns: ColumnSet,
 ) -> Result<Vec<u8>, Memory>
-    ensures { IfOk result (λ front. front.items ≡ shard_header revived mark.now plan.now shard) }
+    ensures { IfOk result (λ front. front.items ≡ shard_header columns mark.now plan.now shard) }
 {
     let mut front = Put::new(Vec::new(alloc));
-    match write_front(alloc, plan, shard, mark, revived, &mut front) {
+    match write_front(alloc, plan, shard, mark, columns, &mut front) {
         Ok(()) => Ok(front.into_inner()),
         // A text in memory fails by want of that.
         Err(_) => Err(Memory),
     }
 }
 
-/// Puts the first line of a shard: its name, and the header of the sweep's table. Whether that counts members that
-/// were taken for alive again is given.
+/// Puts the first line of a shard: its name, and the header of the sweep's table, which has these columns.
 pub fn write_front<S: Sink>(
     alloc: Global,
     plan: &Plan,
     shard: Shard,
     mark: &str,
-    revived: bool,
+    columns: ColumnSet,
     table: &mut S,
 ) -> Result<(), WriteError>
     requires { S.failed table.old < 2 ^ 63 }
-    ensures whole { OnOk result (Appends (S.held table.old) (S.held table.new) (shard_header revived mark.now plan.now shard)) }
-    ensures part { OnErr result (AppendsBeginning (S.held table.old) (S.held table.new) (shard_header revived mark.now plan.now shard)) }
+    ensures whole { OnOk result (Appends (S.held table.old) (S.held table.new) (shard_header columns mark.now plan.now shard)) }
+    ensures part { OnErr result (AppendsBeginning (S.held table.old) (S.held table.new) (shard_header columns mark.now plan.now shard)) }
     ensures failures { S.failed table.new ≡ S.failed table.old + failures_of_write result }
 {
     write_head(alloc, plan, shard, mark, table)?;
-    write_names(alloc, plan.swept_keys(), revived, table)
+    write_names(alloc, plan.swept_keys(), columns, table)
 }
 
 /// Puts what stands ahead of a shard's header.

@@ -3,6 +3,7 @@
 
 mod begun;
 mod chunks;
+mod columns;
 mod first_seeds;
 mod gathering;
 mod header;
@@ -11,17 +12,18 @@ mod making;
 mod planned;
 mod progress;
 mod reading;
-mod revived;
 mod shares;
 mod standing;
 mod summing;
 mod tables;
 mod texts;
+mod tick;
 mod values;
 mod work;
 mod writing;
 
 pub use begun::{Begun, BegunFault, begun_of, lines_behind};
+pub use columns::columns_of;
 pub use first_seeds::first_seed;
 pub use gathering::{Gather, Gathering, NothingKept};
 pub use header::{front_of, write_front, write_front_behind};
@@ -30,7 +32,6 @@ pub use making::{MadeRun, make_side_by_side};
 pub use planned::first_run;
 pub use progress::{NoProgress, Progress};
 pub use reading::read_run;
-pub use revived::counts_revived;
 pub use shares::{Lot, LotSize, Share, next_lot};
 pub use standing::{LeadingLines, are_lines_of, is_older, lines_of_runs};
 pub use summing::{LineKey, key_of_text, line_key, sweep_key};

@@ -9,11 +9,12 @@ ghost use Rattle.sweep.specs.Runs.{IsAskedFor};
 ghost use Rattle.sweep.specs.Shares.{numbers_of};
 ghost use Rattle.sweep.specs.Table.{IsMadeLot, IsMadeOf};
 
+use crate::columns::columns_of;
 use crate::planned::planned;
 use crate::progress::{OneRun, Progress};
 use crate::reading::read_run;
-use crate::revived::counts_revived;
 use crate::shares::Share;
+use crate::tick::tick_of;
 use crate::values::line_of;
 use base::{Fault, Memory};
 use figures::{RunFigures, RunMetadata};
@@ -124,14 +125,14 @@ fn make_run<P: Progress>(
     let mut watch = OneRun::new(progress);
     let tallies = tally_run(alloc, &scenario, &mut watch)?;
     let figures = RunFigures::of(alloc, &tallies, &scenario)?;
-    let note = RunMetadata::of(alloc, &tallies, &figures, &scenario)?;
+    let note = RunMetadata::of(alloc, &tallies, &figures, &scenario, tick_of(document))?;
     let body = line_of(
         alloc,
         &run.setting,
         scenario.seed(),
         &note,
         &figures,
-        counts_revived(document),
+        columns_of(document),
     )?;
     let line = summed(alloc, key, &body)?;
     watch.end(&scenario);

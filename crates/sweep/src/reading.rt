@@ -11,7 +11,8 @@ use base::Memory;
 use scenario::Scenario;
 use scenario_reader::Refusal;
 use std::alloc::Global;
-use sweep_plan::{Plan, read_with};
+use sweep_plan::{Plan, with_values};
+use text_reader::read_tree;
 use toml::Value;
 
 /// The scenario of the run of this number. Its document was judged, so an error is want of memory.
@@ -27,7 +28,8 @@ pub fn read_run(
     ensures { IfOk result (IsReadAt (view document.now) plan.now number) }
 {
     let run = planned(alloc, plan, number)?;
-    match read_with(alloc, document, &run.setting, run.seed) {
+    let tree = with_values(alloc, document, &run.setting, run.seed)?;
+    match read_tree(alloc, &tree) {
         Ok(scenario) => Ok(scenario),
         Err(refusal) => Err(memory_of(refusal)),
     }

@@ -1,5 +1,5 @@
 //! The lines of runs that stand in a text.
-ghost use Rattle.std.specs.Prelude.{◌≡◌, ◌⊎◌, ◌+◌, ◌<◌, ◌≤◌, true, false, IfOk, IfSome, IsNone};
+ghost use Rattle.std.specs.Prelude.{◌≡◌, ◌⊎◌, ◌+◌, ◌<◌, ◌≤◌, None, true, false, IfOk, IfSome, IsNone};
 ghost use Rattle.sweep_plan.specs.Sweep.{run_count};
 ghost use Rattle.sweep.specs.Runs.{IsAskedFor};
 ghost use Rattle.sweep.specs.Sums.{AreLinesOf, BeginsWithLine, BeginsWithLines, HasLineOf, IsOlder, IsPlaced, IsBehindMetadata};
@@ -151,7 +151,7 @@ fn is_behind_metadata(
         return Ok(false);
     };
     let seed = known_seed(run.seed, key.own);
-    are_cells_of(alloc, metadata, seed, key.revived, cells)
+    are_cells_of(alloc, metadata, seed, key.columns, cells)
 }
 
 /// Whether a text begins with a note where a line has its checksum, as the lines of versions before 1.11.0 did.
@@ -162,6 +162,20 @@ pub fn is_older(alloc: Global, text: &[u8]) -> Result<bool, Memory>
     let Some((word, _behind)) = cut_at(b',', text) else {
         return Ok(false);
     };
-    let found = metadata_of(alloc, word)?;
-    Ok(found.is_some())
+    match metadata_of(alloc, word)? {
+        Some(metadata) => Ok(is_first(&metadata)),
+        None => Ok(false),
+    }
+}
+
+/// Whether metadata has no incidents, as that of versions 1 to 3. A checksum of digits alone before it is another number: then it reads
+/// as metadata with incidents.
+fn is_first(metadata: &RunMetadata) -> bool
+    ensures first { result ≡ true → metadata.now.incidents ≡ None }
+    ensures not { result ≡ false → ¬ (metadata.now.incidents ≡ None) }
+{
+    match metadata.incidents() {
+        Some(_counts) => false,
+        None => true,
+    }
 }

@@ -3,8 +3,9 @@ ghost use Rattle.std.specs.Prelude.{◌≡◌, IfOk, string_bytes};
 ghost use Rattle.toml.specs.View.{view};
 ghost use Rattle.sweep.specs.Sums.{key_of_text, known_seed, line_key, sweep_key, text_seed, value_cells};
 
-use crate::revived::counts_revived;
+use crate::columns::columns_of;
 use base::Memory;
+use figures::ColumnSet;
 use line_sums::key_of;
 use schema::{FormatKey, Section, number};
 use shards::plan_text;
@@ -25,8 +26,8 @@ pub fn sweep_key(alloc: Global, plan: &Plan, mark: &str) -> Result<[u8; 32], Mem
 pub struct LineKey {
     /// The key of their checksums.
     pub digest: [u8; 32],
-    /// Whether they count members that were taken for alive again.
-    pub revived: bool,
+    /// The columns of the table.
+    pub columns: ColumnSet,
     /// The seed of the scenario's text, where it is known.
     pub own: Option<u64>,
 }
@@ -36,15 +37,15 @@ pub fn line_key(
     alloc: Global,
     plan: &Plan,
     mark: &str,
-    revived: bool,
+    columns: ColumnSet,
     own: Option<u64>,
 ) -> Result<LineKey, Memory>
-    ensures { IfOk result (λ key. key ≡ line_key revived own mark.now plan.now) }
+    ensures { IfOk result (λ key. key ≡ line_key columns own mark.now plan.now) }
 {
     let digest = sweep_key(alloc, plan, mark)?;
     Ok(LineKey {
         digest,
-        revived,
+        columns,
         own,
     })
 }
@@ -58,9 +59,9 @@ pub fn key_of_text(
 ) -> Result<LineKey, Memory>
     ensures { IfOk result (λ key. key ≡ key_of_text (view document.now) mark.now plan.now) }
 {
-    let revived = counts_revived(document);
+    let columns = columns_of(document);
     let own = text_seed(document);
-    line_key(alloc, plan, mark, revived, Some(own))
+    line_key(alloc, plan, mark, columns, Some(own))
 }
 
 /// The seed that a text itself gives its runs.

@@ -12,10 +12,10 @@ ghost use Rattle.sweep.specs.Summaries.{MakesAll, MakesRest};
 
 use crate::begun::Begun;
 use crate::chunks::make_runs;
+use crate::columns::columns_of;
 use crate::gathering::{Gather, Gathering};
 use crate::header::write_front_behind;
 use crate::progress::Progress;
-use crate::revived::counts_revived;
 use crate::summing::sweep_key;
 use base::Fault;
 use figures::SettingSummary;
@@ -115,8 +115,8 @@ pub fn write_table<S: Sink, P: Progress, G: Gather>(
     let from = first + begun.count;
     a_run_exists();
     let key = sweep_key(alloc, plan, mark)?;
-    let revived = counts_revived(document);
-    write_front_behind(alloc, plan, shard, mark, begun.kept, revived, table)?;
+    let columns = columns_of(document);
+    write_front_behind(alloc, plan, shard, mark, begun.kept, columns, table)?;
     make_runs(
         rt,
         alloc,

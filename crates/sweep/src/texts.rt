@@ -7,28 +7,28 @@ ghost use Rattle.sweep.specs.Texts.{column_width, widths_of, settings_text, mark
 
 use crate::values::{lent, names, texts};
 use base::Memory;
-use figures::{SettingSummary, push_setting_header, push_setting_line};
+use figures::{ColumnSet, SettingSummary, push_setting_header, push_setting_line};
 use goals::{is_on_front, push_header, push_marked};
 use std::alloc::Global;
 use sweep_plan::{Plan, Swept};
 
 /// The text of the settings of a sweep: a header, and for each setting a line with the values of the keys that are set, its
 /// figures and a mark, `*` where no other setting beats it, in aligned columns. There must be a summary for each setting, in
-/// their order. Whether it counts members that were taken for alive again is given.
+/// their order. The columns are given.
 pub fn lines_of_settings(
     alloc: Global,
     plan: &Plan,
-    revived: bool,
+    columns: ColumnSet,
     settings: &[SettingSummary],
 ) -> Result<String, Memory>
     requires { length settings.now ≡ setting_count plan.now.swept_keys }
-    ensures { IfOk result (λ text. string_bytes text ≡ settings_text revived plan.now settings.now) }
+    ensures { IfOk result (λ text. string_bytes text ≡ settings_text columns plan.now settings.now) }
 {
     let widths = widths(alloc, plan.swept_keys())?;
-    let mut text = header(alloc, plan.swept_keys(), &widths, revived)?;
+    let mut text = header(alloc, plan.swept_keys(), &widths, columns)?;
     for (number, summary) in settings.iter().enumerate() {
         push_setting(
-            alloc, &mut text, plan, &widths, number, summary, settings, revived,
+            alloc, &mut text, plan, &widths, number, summary, settings, columns,
         )?;
     }
     Ok(text)
@@ -39,15 +39,15 @@ fn header(
     alloc: Global,
     swept_keys: &[Swept],
     widths: &[usize],
-    revived: bool,
+    columns: ColumnSet,
 ) -> Result<String, Memory>
     requires { widths.now ≡ widths_of swept_keys.now }
-    ensures { IfOk result (λ text. string_bytes text ≡ marked_header revived swept_keys.now) }
+    ensures { IfOk result (λ text. string_bytes text ≡ marked_header columns swept_keys.now) }
 {
     let names = names(alloc, swept_keys)?;
     let keys = lent(alloc, &names)?;
     let mut line = String::new(alloc);
-    push_setting_header(alloc, &mut line, widths, &keys, revived)?;
+    push_setting_header(alloc, &mut line, widths, &keys, columns)?;
     let mut text = String::new(alloc);
     push_header(&mut text, line.as_str())?;
     Ok(text)
@@ -62,18 +62,18 @@ fn push_setting(
     number: usize,
     summary: &SettingSummary,
     all: &[SettingSummary],
-    revived: bool,
+    columns: ColumnSet,
 ) -> Result<(), Memory>
     requires within { number < setting_count plan.now.swept_keys }
     requires wide { widths.now ≡ widths_of plan.now.swept_keys }
     ensures { OnOk result ((chosen : List AnyChoice) → slice_get (settings_of plan.now.swept_keys) number ≡ Some chosen
-        → string_bytes text.new ≡ string_bytes text.old ++ marked_line revived widths.now all.now chosen summary.now) }
+        → string_bytes text.new ≡ string_bytes text.old ++ marked_line columns widths.now all.now chosen summary.now) }
 {
     let setting = plan.setting_at(alloc, number)?;
     let texts = texts(alloc, &setting)?;
     let values = lent(alloc, &texts)?;
     let mut line = String::new(alloc);
-    push_setting_line(alloc, &mut line, widths, &values, summary, revived)?;
+    push_setting_line(alloc, &mut line, widths, &values, summary, columns)?;
     push_marked(text, line.as_str(), is_on_front(summary, all))?;
     Ok(())
 }

@@ -7,43 +7,41 @@ ghost use Rattle.figures.specs.Notes.{note_cell};
 ghost use Rattle.sweep.specs.Table.{names_of, texts_of};
 
 use base::Memory;
-use figures::{RunFigures, RunMetadata, write_header, write_metadata, write_run};
+use figures::{ColumnSet, RunFigures, RunMetadata, write_header, write_metadata, write_run};
 use std::alloc::Global;
 use sweep_plan::{Choice, Swept};
 use trace::{Put, Sink, WriteError};
 
-/// Puts the first line of the table, with the names of the keys that are set. Whether it counts members
-/// that were taken for alive again is given.
+/// Puts the first line of a table with these columns, with the names of the keys that are set.
 pub(crate) fn write_names<S: Sink>(
     alloc: Global,
     swept_keys: &[Swept],
-    revived: bool,
+    columns: ColumnSet,
     table: &mut S,
 ) -> Result<(), WriteError>
     requires { S.failed table.old < 2 ^ 63 }
-    ensures whole { OnOk result (Appends (S.held table.old) (S.held table.new) (header_line revived (names_of swept_keys.now))) }
-    ensures part { OnErr result (AppendsBeginning (S.held table.old) (S.held table.new) (header_line revived (names_of swept_keys.now))) }
+    ensures whole { OnOk result (Appends (S.held table.old) (S.held table.new) (header_line columns (names_of swept_keys.now))) }
+    ensures part { OnErr result (AppendsBeginning (S.held table.old) (S.held table.new) (header_line columns (names_of swept_keys.now))) }
     ensures failures { S.failed table.new ≡ S.failed table.old + failures_of_write result }
 {
     let names = names(alloc, swept_keys)?;
     let keys = lent(alloc, &names)?;
-    write_header(alloc, &keys, revived, table)
+    write_header(alloc, &keys, columns, table)
 }
 
-/// The line of a run, with the values of its setting, and with its note before it; whether it
-/// counts members that were taken for alive again is given.
+/// The line of a run in these columns, with the values of its setting, and with its note before it.
 pub(crate) fn line_of(
     alloc: Global,
     setting: &[Choice],
     seed: u64,
     note: &RunMetadata,
     figures: &RunFigures,
-    revived: bool,
+    columns: ColumnSet,
 ) -> Result<Vec<u8>, Memory>
-    ensures { IfOk result (λ line. line.items ≡ note_cell note.now ++ run_line revived (texts_of setting.now) seed figures.now) }
+    ensures { IfOk result (λ line. line.items ≡ note_cell note.now ++ run_line columns (texts_of setting.now) seed figures.now) }
 {
     let mut line = Put::new(Vec::new(alloc));
-    match write_noted(alloc, setting, seed, note, figures, revived, &mut line) {
+    match write_noted(alloc, setting, seed, note, figures, columns, &mut line) {
         Ok(()) => Ok(line.into_inner()),
         // A text in memory fails by want of that.
         Err(_) => Err(Memory),
@@ -57,18 +55,18 @@ fn write_noted<S: Sink>(
     seed: u64,
     note: &RunMetadata,
     figures: &RunFigures,
-    revived: bool,
+    columns: ColumnSet,
     table: &mut S,
 ) -> Result<(), WriteError>
     requires { S.failed table.old < 2 ^ 63 }
-    ensures whole { OnOk result (Appends (S.held table.old) (S.held table.new) (note_cell note.now ++ run_line revived (texts_of setting.now) seed figures.now)) }
-    ensures part { OnErr result (AppendsBeginning (S.held table.old) (S.held table.new) (note_cell note.now ++ run_line revived (texts_of setting.now) seed figures.now)) }
+    ensures whole { OnOk result (Appends (S.held table.old) (S.held table.new) (note_cell note.now ++ run_line columns (texts_of setting.now) seed figures.now)) }
+    ensures part { OnErr result (AppendsBeginning (S.held table.old) (S.held table.new) (note_cell note.now ++ run_line columns (texts_of setting.now) seed figures.now)) }
     ensures failures { S.failed table.new ≡ S.failed table.old + failures_of_write result }
 {
     let texts = texts(alloc, setting)?;
     let values = lent(alloc, &texts)?;
     write_metadata(alloc, note, table)?;
-    write_run(alloc, &values, seed, figures, revived, table)
+    write_run(alloc, &values, seed, figures, columns, table)
 }
 
 /// The names of the keys that are set.

@@ -12,7 +12,7 @@ use Rattle.shards.specs.declared.shard.Shard.{Shard}
 use Rattle.shards.specs.Shards.{IsShard, first_run, whole}
 use Rattle.shards.proofs.Bounds.{share_grows}
 use Rattle.sweep.specs.Shards.{shard_header}
-use Rattle.sweep.specs.Table.{counts_revived}
+use Rattle.sweep.specs.Table.{columns_of}
 use Rattle.sweep.specs.Resumed.{IsLong, IsShort, runs_in}
 use Rattle.sweep.specs.Sums.{key_of_text}
 use Rattle.sweep_until.specs.Shards.{settings_in, first_setting}
@@ -50,7 +50,7 @@ module _ {T E : Type 0} (bytes : T → List ℕ) (tree : Data) (mark : List ℕ)
 
 -- what stands of a shard is no more than it has
 begun_few : (until : Option ℕ) (tree : Data) (mark : List ℕ) (plan : Sweep) (p : Shard) (text : List ℕ) (kept : ℕ) (stands : Standing) → IsAskedFor plan → plan.until ≡ until
-    → AreBegun until tree mark plan p text kept stands → FitShard until plan p (shard_header (counts_revived tree) mark plan p) kept stands
+    → AreBegun until tree mark plan p text kept stands → FitShard until plan p (shard_header (columns_of tree) mark plan p) kept stands
 begun_few None tree mark plan p text kept stands asked is begun = begun.few
 begun_few (Some width) tree mark plan p text kept stands asked is begun = can_go_on tree mark plan width p text kept stands.count stands.before asked is begun
 
@@ -60,7 +60,7 @@ begun_within : (until : Option ℕ) (tree : Data) (mark : List ℕ) (plan : Swee
 begun_within None tree mark plan p text kept stands begun = by begun.stands
   where
     header : List ℕ
-    header = shard_header (counts_revived tree) mark plan p
+    header = shard_header (columns_of tree) mark plan p
 
     by : IsShort header text kept stands.count ⊎ IsLong (key_of_text tree mark plan) plan (first_run p (run_count plan)) (runs_in plan p) header text kept stands.count → kept ≤ length text
     by (inl short) = omega (arith, short.all)
@@ -68,7 +68,7 @@ begun_within None tree mark plan p text kept stands begun = by begun.stands
 begun_within (Some width) tree mark plan p text kept stands begun = by begun.stands
   where
     header : List ℕ
-    header = shard_header (counts_revived tree) mark plan p
+    header = shard_header (columns_of tree) mark plan p
 
     by : (IsShort header text kept stands.count × (stands.before ≡ []))
         ⊎ AreSettingsBehind (key_of_text tree mark plan) plan width (first_setting plan p) (settings_in plan p) header text kept stands.count stands.before → kept ≤ length text
@@ -86,7 +86,7 @@ pub stood_few : (tree : Data) (mark : List ℕ) (sweep : SweepWords) (known : Kn
 stood_few tree mark sweep known kept stands asked sound goes p is = by sweep.resume (subst (λ (o : Option Shard). GoesOnWith (shard_resumed sweep.resume o) tree mark sweep known kept stands) is goes)
   where
     header : List ℕ
-    header = shard_header (counts_revived tree) mark sweep.plan p
+    header = shard_header (columns_of tree) mark sweep.plan p
 
     by : (resume : Bool) → GoesOnWith (shard_resumed resume (Some p)) tree mark sweep known kept stands → FitShard sweep.plan.until sweep.plan p header kept stands
     by false none =

@@ -20,7 +20,7 @@ use Rattle.shards.specs.declared.shard.Shard.{Shard}
 use Rattle.sweep.specs.Runs.{Planned}
 use Rattle.sweep.specs.Shards.{shard_header}
 use Rattle.sweep.specs.Judged.{AreAccepted, IsFirstRefused}
-use Rattle.sweep.specs.Table.{counts_revived, HasCause}
+use Rattle.sweep.specs.Table.{columns_of, HasCause}
 use Rattle.sweep.specs.declared.begun.BegunFault.TheVariants as begun_fault
 use Rattle.figures.specs.declared.summary.SettingSummary.{SettingSummary}
 use Rattle.command_line.specs.Words.{AsksForSweep}
@@ -60,13 +60,13 @@ pub record AreLinesOf (tree : Data) (sweep : SweepWords) (made : RunsBy sweep.pl
   pub settings : List SettingSummary
   pub all : length settings ≡ setting_count sweep.plan.swept_keys
   pub summed : AreSummedUp sweep.plan.until sweep.plan made settings
-  pub text : TellsSettings sweep.jsonl (counts_revived tree) sweep.plan sweep.wants.items settings lines
+  pub text : TellsSettings sweep.jsonl (columns_of tree) sweep.plan sweep.wants.items settings lines
 
 -- all runs were made and their table was appended to what was held, and this is the text of their settings
 pub record MakesLines (tree : Data) (mark : List ℕ) (sweep : SweepWords) (old new : Option (List ℕ)) (lines : List ℕ) : Type 0 where
   pub settings : List SettingSummary
   pub makes : MakesRuns sweep.plan.until tree mark sweep.plan old new settings
-  pub text : TellsSettings sweep.jsonl (counts_revived tree) sweep.plan sweep.wants.items settings lines
+  pub text : TellsSettings sweep.jsonl (columns_of tree) sweep.plan sweep.wants.items settings lines
 
 -- what the file held of a table that was cut off; where there is no file, nothing
 abbrev pub HeldSoFar : KnownFile → List ℕ → Type 0
@@ -108,7 +108,7 @@ pub record StoresPaged (tree : Data) (mark : List ℕ) (sweep : SweepWords) (rel
   pub settings : List SettingSummary
   pub all : length settings ≡ setting_count sweep.plan.swept_keys
   pub summed : AreSummedUp sweep.plan.until sweep.plan made settings
-  pub text : TellsSettings sweep.jsonl (counts_revived tree) sweep.plan sweep.wants.items settings lines
+  pub text : TellsSettings sweep.jsonl (columns_of tree) sweep.plan sweep.wants.items settings lines
   pub shown : List ℕ
   pub is : IsSweepPage sweep.tick sweep.file.now release sweep.plan sweep.wants.items settings shown
   pub paged : HoldsNow (before page) (after page) shown
@@ -125,7 +125,7 @@ BeginsPage sweep release settings old new = Keeps old new ⊎ ((text : List ℕ)
 pub record MakesPaged (tree : Data) (mark : List ℕ) (sweep : SweepWords) (release : List ℕ) (old new page_old page_new : Option (List ℕ)) (lines : List ℕ) : Type 0 where
   pub settings : List SettingSummary
   pub makes : MakesRuns sweep.plan.until tree mark sweep.plan old new settings
-  pub text : TellsSettings sweep.jsonl (counts_revived tree) sweep.plan sweep.wants.items settings lines
+  pub text : TellsSettings sweep.jsonl (columns_of tree) sweep.plan sweep.wants.items settings lines
   pub paged : WritesPage sweep release settings page_old page_new
 
 -- a text is a page of the settings of these runs
@@ -180,7 +180,7 @@ GoesOn tree mark sweep known kept stands = GoesOnWith (shard_resumed sweep.resum
 
 -- the shard that is asked for, if one is, can go on behind these runs
 abbrev pub FitAsked : Data → List ℕ → SweepWords → Option Shard → ℕ → Standing → Type 0
-FitAsked tree mark sweep asked kept stands = ForSome asked (λ p. FitShard sweep.plan.until sweep.plan p (shard_header (counts_revived tree) mark sweep.plan p) kept stands)
+FitAsked tree mark sweep asked kept stands = ForSome asked (λ p. FitShard sweep.plan.until sweep.plan p (shard_header (columns_of tree) mark sweep.plan p) kept stands)
 
 -- the sweep passed its checks and was done, and this is the text of its settings, where it is a whole one
 pub record SweepsAll (release : List ℕ) (before after : Shelf) (making : Making) (sweep : SweepWords) (lines : List ℕ) : Type 0 where

@@ -12,7 +12,7 @@ use Rattle.shards.specs.declared.shard.Shard.{Shard}
 use Rattle.shards.specs.Shards.{first_run, past_run, whole}
 use Rattle.sweep.specs.Runs.{Made, noted}
 use Rattle.sweep.specs.Summaries.{SumUp}
-use Rattle.sweep.specs.Table.{counts_revived}
+use Rattle.sweep.specs.Table.{columns_of}
 use Rattle.sweep.specs.Shards.{AreMadeBehind, rest_text}
 use Rattle.sweep.specs.Resumed.{IsBegun, RefusesBegun}
 use Rattle.sweep.specs.declared.begun.BegunFault.{BegunFault}
@@ -48,7 +48,7 @@ AreRunsBehind (Some width) tree plan p stands made = AreSettingsBehind tree plan
 
 -- what comes behind so many bytes of the table of the shard: what they lack of its first line, and the lines of these runs
 abbrev pub rest_table : (until : Option ℕ) → Data → List ℕ → Sweep → Shard → ℕ → RunsBy until → List ℕ
-rest_table until tree mark plan p kept made = rest_text (counts_revived tree) mark plan p kept (listed until made)
+rest_table until tree mark plan p kept made = rest_text (columns_of tree) mark plan p kept (listed until made)
 
 -- the runs of the shard that were left were made: that was appended
 pub record WritesRuns (until : Option ℕ) (tree : Data) (mark : List ℕ) (plan : Sweep) (p : Shard) (kept : ℕ) (stands : Standing) (old new : Option (List ℕ)) : Type 0 where

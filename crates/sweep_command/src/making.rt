@@ -6,7 +6,7 @@ ghost use Rattle.shards.specs.Shards.{IsShard};
 ghost use Rattle.sweep.specs.Runs.{IsAskedFor};
 ghost use Rattle.sweep.specs.Judged.{AreAccepted};
 ghost use Rattle.sweep.specs.Shards.{shard_header};
-ghost use Rattle.sweep.specs.Table.{HasCause, counts_revived};
+ghost use Rattle.sweep.specs.Table.{HasCause, columns_of};
 ghost use Rattle.sweep_command.specs.Runs.{BeginsAllRuns, BeginsRuns, FitShard, MakesRuns, WritesRuns, standing};
 
 use base::Fault;
@@ -72,7 +72,7 @@ pub(crate) fn make_shard<S: Sink, P: Progress>(
     requires asked { IsAskedFor plan.now }
     requires shard { IsShard shard }
     requires judged { AreAccepted (view document.now) plan.now }
-    requires few { FitShard plan.now.until plan.now shard (shard_header (counts_revived (view document.now)) mark.now plan.now shard) begun.now.kept
+    requires few { FitShard plan.now.until plan.now shard (shard_header (columns_of (view document.now)) mark.now plan.now shard) begun.now.kept
         (standing begun.now.count begun.now.started.items) }
     requires countable { S.failed table.old < 2 ^ 63 }
     ensures whole { OnOk result (WritesRuns plan.now.until (view document.now) mark.now plan.now shard begun.now.kept (standing begun.now.count begun.now.started.items)

@@ -23,7 +23,7 @@ use scenario_files::run_result;
 use std::alloc::Global;
 use std::io::Write;
 use std::thread::Threads;
-use sweep::{NoProgress, Progress, counts_revived};
+use sweep::{NoProgress, Progress, columns_of};
 use sweep_output::{SweepShown, put_text, settings_page, settings_printed};
 use trace::{Put, Sink, Stopped};
 
@@ -144,13 +144,13 @@ fn write_both<S: Sink, U: Sink, P: Progress>(
         progress,
         table,
     )?;
-    let revived = counts_revived(document);
+    let columns = columns_of(document);
     let lines = settings_printed(
         alloc,
         &words.plan,
         &words.wants,
         words.jsonl,
-        revived,
+        columns,
         &settings,
     )?;
     write_page(alloc, release, words, &settings, page)?;

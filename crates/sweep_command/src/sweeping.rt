@@ -9,7 +9,7 @@ ghost use Rattle.run_output.specs.Written.{sink_failures};
 ghost use Rattle.sweep.specs.Runs.{IsAskedFor};
 ghost use Rattle.sweep.specs.Judged.{AreAccepted};
 ghost use Rattle.sweep.specs.Shards.{shard_header};
-ghost use Rattle.sweep.specs.Table.{HasCause, counts_revived};
+ghost use Rattle.sweep.specs.Table.{HasCause, columns_of};
 ghost use Rattle.sweep_command.specs.Outcomes.{AreApart, BeginsAsked, FitAsked, GoesOn, MakesAsked, MakesLines, StoreFails, StoresAsked, StoresPlain, SweepFails, SweepsAll, TableFails};
 ghost use Rattle.sweep_command.specs.Runs.{BeginsAllRuns, BeginsRuns, FitShard, WritesRuns, standing};
 
@@ -26,7 +26,7 @@ use shards::Shard;
 use std::alloc::Global;
 use std::io::Write;
 use std::thread::Threads;
-use sweep::{Begun, NoProgress, Progress, counts_revived};
+use sweep::{Begun, NoProgress, Progress, columns_of};
 use sweep_output::settings_printed;
 use trace::{Put, Sink};
 
@@ -197,7 +197,7 @@ fn write_shard<S: Sink, P: Progress>(
     requires asked { IsAskedFor words.now.plan }
     requires shard { IsShard shard }
     requires judged { AreAccepted (view prepared.now.marked.document) words.now.plan }
-    requires few { FitShard words.now.plan.until words.now.plan shard (shard_header (counts_revived (view prepared.now.marked.document)) (string_bytes prepared.now.marked.mark) words.now.plan shard) begun.now.kept
+    requires few { FitShard words.now.plan.until words.now.plan shard (shard_header (columns_of (view prepared.now.marked.document)) (string_bytes prepared.now.marked.mark) words.now.plan shard) begun.now.kept
         (standing begun.now.count begun.now.started.items) }
     requires countable { S.failed table.old < 2 ^ 63 }
     ensures whole { OnOk result (WritesRuns words.now.plan.until (view prepared.now.marked.document) (string_bytes prepared.now.marked.mark) words.now.plan shard begun.now.kept (standing begun.now.count begun.now.started.items)
@@ -248,13 +248,13 @@ fn write_whole<S: Sink, P: Progress>(
         progress,
         table,
     )?;
-    let revived = counts_revived(document);
+    let columns = columns_of(document);
     let lines = settings_printed(
         alloc,
         &words.plan,
         &words.wants,
         words.jsonl,
-        revived,
+        columns,
         &settings,
     )?;
     Ok(lines)

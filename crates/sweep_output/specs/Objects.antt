@@ -7,9 +7,13 @@ use Rattle.sweep_plan.specs.Values.{value_text}
 use Rattle.sweep_plan.specs.Sweep.{KeyValues}
 use Rattle.sweep_plan.specs.Settings.{settings_of}
 use Rattle.sweep_plan.specs.declared.choice.Choice.{Choice}
+use Rattle.figures.specs.declared.column_set.ColumnSet.{ColumnSet}
+use Rattle.figures.specs.ColumnSets.{has_revived, has_incidents}
 use Rattle.figures.specs.Lines.{where_told}
 use Rattle.figures.specs.SettingLines.{first_words, hundredths, last_words, tenths}
 use Rattle.figures.specs.declared.summary.SettingSummary.{SettingSummary}
+use Rattle.incident_figures.specs.declared.setting.DayRates.{DayRates}
+use Rattle.incident_figures.specs.declared.setting.IncidentSummary.{IncidentSummary}
 use Rattle.goals.specs.Front.{is_on_front}
 use Rattle.goals.specs.Wants.{IsBestOf, may_meet, meets}
 use Rattle.goals.specs.declared.want.Want.{Want}
@@ -49,8 +53,24 @@ first_members setting = named first_words (first_figures setting)
 unfoldable pub last_members : SettingSummary → List (List ℕ)
 last_members setting = named last_words (last_figures setting)
 
-unfoldable pub figure_members : Bool → SettingSummary → List (List ℕ)
-figure_members revived setting = first_members setting ++ (where_told revived (member (codes "revived") (decimal setting.revived) ∷ []) ++ last_members setting)
+-- what isn't there is null
+unfoldable pub day_members : Option DayRates → List (List ℕ)
+day_members (Some day) = member (codes "deaths_day") (hundredths day.rate) ∷ member (codes "day_low") (hundredths day.low) ∷ member (codes "day_high") (hundredths day.high) ∷ []
+day_members None = member (codes "deaths_day") (codes "null") ∷ member (codes "day_low") (codes "null") ∷ member (codes "day_high") (codes "null") ∷ []
+
+unfoldable pub incident_members : Option IncidentSummary → List (List ℕ)
+incident_members (Some incidents) =
+    member (codes "alarms") (hundredths incidents.alarms) ∷ member (codes "deaths") (decimal incidents.deaths)
+    ∷ member (codes "deaths_well") (decimal incidents.deaths_well) ∷ day_members incidents.day
+incident_members None = member (codes "alarms") (codes "null") ∷ member (codes "deaths") (codes "null") ∷ member (codes "deaths_well") (codes "null") ∷ day_members None
+
+-- those that only some tables have
+unfoldable pub some_members : ColumnSet → SettingSummary → List (List ℕ)
+some_members columns setting =
+    where_told (has_revived columns) (member (codes "revived") (decimal setting.revived) ∷ []) ++ where_told (has_incidents columns) (incident_members setting.incidents)
+
+unfoldable pub figure_members : ColumnSet → SettingSummary → List (List ℕ)
+figure_members columns setting = first_members setting ++ (some_members columns setting ++ last_members setting)
 
 -- what a setting answers to what is wanted
 abbrev pub answer_word : List Want → SettingSummary → List ℕ
@@ -61,9 +81,9 @@ abbrev pub wanted_members : List Want → Bool → SettingSummary → List (List
 wanted_members wants best setting = if length wants == 0 then [] else member (codes "meets") (answer_word wants setting) ∷ member (codes "best") (truth best) ∷ []
 
 -- the members of a setting among all: its choices, its figures, whether no other beats it, and what it answers
-abbrev pub members_of : Bool → List Want → List SettingSummary → Bool → List Choice → SettingSummary → List (List ℕ)
-members_of revived wants all best chosen setting =
-    map choice_member chosen ++ (figure_members revived setting ++ (member (codes "front") (truth (is_on_front setting all)) ∷ wanted_members wants best setting))
+abbrev pub members_of : ColumnSet → List Want → List SettingSummary → Bool → List Choice → SettingSummary → List (List ℕ)
+members_of columns wants all best chosen setting =
+    map choice_member chosen ++ (figure_members columns setting ++ (member (codes "front") (truth (is_on_front setting all)) ∷ wanted_members wants best setting))
 
 -- the members with commas between them, in braces, on a line
 unfoldable pub object_line : List (List ℕ) → List ℕ
@@ -80,15 +100,15 @@ lines_from line place (chosen ∷ more) (setting ∷ settings) = line place chos
 lines_from line place _ _ = []
 
 -- the line of a setting
-abbrev pub setting_object : Bool → List Want → List SettingSummary → Option ℕ → ℕ → List Choice → SettingSummary → List ℕ
-setting_object revived wants all best place chosen setting = object_line (members_of revived wants all (is_at best place) chosen setting)
+abbrev pub setting_object : ColumnSet → List Want → List SettingSummary → Option ℕ → ℕ → List Choice → SettingSummary → List ℕ
+setting_object columns wants all best place chosen setting = object_line (members_of columns wants all (is_at best place) chosen setting)
 
 -- those of all settings
-abbrev pub objects_text : Bool → List KeyValues → List Want → List SettingSummary → Option ℕ → List ℕ
-objects_text revived swept_keys wants settings best = lines_from (setting_object revived wants settings best) 0 (settings_of swept_keys) settings
+abbrev pub objects_text : ColumnSet → List KeyValues → List Want → List SettingSummary → Option ℕ → List ℕ
+objects_text columns swept_keys wants settings best = lines_from (setting_object columns wants settings best) 0 (settings_of swept_keys) settings
 
 -- the text has a line for each setting, and says which of them is best
-pub record TellsObjects (revived : Bool) (swept_keys : List KeyValues) (wants : List Want) (settings : List SettingSummary) (text : List ℕ) : Type 0 where
+pub record TellsObjects (columns : ColumnSet) (swept_keys : List KeyValues) (wants : List Want) (settings : List SettingSummary) (text : List ℕ) : Type 0 where
   pub best : Option ℕ
   pub chosen : IsBestOf wants settings best
-  pub told : text ≡ objects_text revived swept_keys wants settings best
+  pub told : text ≡ objects_text columns swept_keys wants settings best

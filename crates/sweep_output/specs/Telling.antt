@@ -6,15 +6,16 @@ use Rattle.goals.specs.Front.{is_on_front}
 use Rattle.goals.specs.Wants.{IsBestOf}
 use Rattle.goals.specs.declared.want.Want.{Want}
 use Rattle.sweep_output.specs.Objects.{TellsObjects}
+use Rattle.figures.specs.declared.column_set.ColumnSet.{ColumnSet}
 use Rattle.figures.specs.declared.summary.SettingSummary.{SettingSummary}
 use Rattle.sweep.specs.Texts.{settings_text}
 use Rattle.sweep_page.specs.Page.{page_text}
 use Rattle.ticks.specs.declared.tick.Tick.{Tick}
 
--- how settings are printed: as JSON, an object a line, or in aligned columns, with what they answer; and whether recoveries are printed
-abbrev pub TellsSettings : Bool → Bool → Sweep → List Want → List SettingSummary → List ℕ → Type 0
-TellsSettings true revived plan wants settings text = TellsObjects revived plan.swept_keys wants settings text
-TellsSettings false revived plan wants settings text = AddsAnswer plan.swept_keys wants settings (settings_text revived plan settings) text
+-- how settings are printed: as JSON, an object a line, or in aligned columns, with what they answer; these are the columns
+abbrev pub TellsSettings : Bool → ColumnSet → Sweep → List Want → List SettingSummary → List ℕ → Type 0
+TellsSettings true columns plan wants settings text = TellsObjects columns plan.swept_keys wants settings text
+TellsSettings false columns plan wants settings text = AddsAnswer plan.swept_keys wants settings (settings_text columns plan settings) text
 
 -- which settings no other beats
 abbrev pub front_of : List SettingSummary → List Bool

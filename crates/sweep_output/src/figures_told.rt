@@ -1,24 +1,26 @@
 //! The figures of a setting, as members.
-ghost use Rattle.std.specs.Prelude.{◌≡◌, ◌++◌, ◌∷◌, [], OnOk, codes, decimal, map, string_bytes};
-ghost use Rattle.figures.specs.Lines.{where_told};
-ghost use Rattle.sweep_output.specs.Objects.{figure_members, first_members, last_members, member};
+ghost use Rattle.std.specs.Prelude.{◌≡◌, ◌++◌, OnOk, map, string_bytes};
+ghost use Rattle.sweep_output.specs.Objects.{day_members, figure_members, first_members, incident_members, last_members, some_members};
 
-use crate::members::{push_hundredths, push_number, push_rate, push_tenths, push_time};
+use crate::members::{
+    push_hundredths, push_member, push_number, push_rate, push_tenths, push_time,
+};
 use base::Memory;
-use figures::SettingSummary;
+use figures::{ColumnSet, SettingSummary};
+use incident_figures::{DayRates, IncidentSummary};
 use std::alloc::Global;
 
-/// Adds the figures of a setting, each with the name of its column; how often members were taken for alive again where that is printed.
+/// Adds the figures of a setting, each with the name of its column, of these columns.
 pub(crate) fn push_figures(
     alloc: Global,
     members: &mut Vec<String>,
-    revived: bool,
+    columns: ColumnSet,
     setting: &SettingSummary,
 ) -> Result<(), Memory>
-    ensures { OnOk result (map string_bytes members.new.items ≡ map string_bytes members.old.items ++ figure_members revived setting.now) }
+    ensures { OnOk result (map string_bytes members.new.items ≡ map string_bytes members.old.items ++ figure_members columns setting.now) }
 {
     push_first(alloc, members, setting)?;
-    push_revived(alloc, members, revived, setting.revived)?;
+    push_some(alloc, members, columns, setting)?;
     push_last(alloc, members, setting)
 }
 
@@ -42,20 +44,68 @@ fn push_first(
     push_number(alloc, members, "thrown_out", setting.thrown_out)
 }
 
-/// Adds how often members were taken for alive again, where that is printed.
-fn push_revived(
+/// Adds those that only some tables have.
+#[tactic(auto, unfolding(crate::specs::Objects::some_members))]
+fn push_some(
     alloc: Global,
     members: &mut Vec<String>,
-    revived: bool,
-    number: u128,
+    columns: ColumnSet,
+    setting: &SettingSummary,
 ) -> Result<(), Memory>
-    ensures { OnOk result (map string_bytes members.new.items
-        ≡ map string_bytes members.old.items ++ where_told revived (member (codes "revived") (decimal number) ∷ [])) }
+    ensures { OnOk result (map string_bytes members.new.items ≡ map string_bytes members.old.items ++ some_members columns setting.now) }
 {
-    if revived {
-        return push_number(alloc, members, "revived", number);
+    match columns {
+        ColumnSet::First => Ok(()),
+        ColumnSet::WithRevived => push_number(alloc, members, "revived", setting.revived),
+        ColumnSet::WithIncidents => {
+            push_number(alloc, members, "revived", setting.revived)?;
+            push_incidents(alloc, members, setting.incidents)
+        }
     }
-    Ok(())
+}
+
+/// Adds those of incidents, or null where there are none.
+#[tactic(auto, unfolding(crate::specs::Objects::incident_members))]
+fn push_incidents(
+    alloc: Global,
+    members: &mut Vec<String>,
+    incidents: Option<IncidentSummary>,
+) -> Result<(), Memory>
+    ensures { OnOk result (map string_bytes members.new.items ≡ map string_bytes members.old.items ++ incident_members incidents) }
+{
+    match incidents {
+        Some(told) => {
+            push_hundredths(alloc, members, "alarms", told.alarms)?;
+            push_number(alloc, members, "deaths", told.deaths)?;
+            push_number(alloc, members, "deaths_well", told.deaths_well)?;
+            push_day(alloc, members, told.day)
+        }
+        None => {
+            push_member(alloc, members, "alarms", "null")?;
+            push_member(alloc, members, "deaths", "null")?;
+            push_member(alloc, members, "deaths_well", "null")?;
+            push_day(alloc, members, None)
+        }
+    }
+}
+
+/// Adds the false deaths of a day and the ends of their interval, or null where no run lasts.
+#[tactic(auto, unfolding(crate::specs::Objects::day_members))]
+fn push_day(alloc: Global, members: &mut Vec<String>, day: Option<DayRates>) -> Result<(), Memory>
+    ensures { OnOk result (map string_bytes members.new.items ≡ map string_bytes members.old.items ++ day_members day) }
+{
+    match day {
+        Some(rates) => {
+            push_hundredths(alloc, members, "deaths_day", rates.rate)?;
+            push_hundredths(alloc, members, "day_low", rates.low)?;
+            push_hundredths(alloc, members, "day_high", rates.high)
+        }
+        None => {
+            push_member(alloc, members, "deaths_day", "null")?;
+            push_member(alloc, members, "day_low", "null")?;
+            push_member(alloc, members, "day_high", "null")
+        }
+    }
 }
 
 /// Adds the last of them.

@@ -11,20 +11,20 @@ ghost use Rattle.sweep_output.specs.Objects.{TellsObjects, answer_word, setting_
 use crate::figures_told::push_figures;
 use crate::members::{push_member, push_truth};
 use base::Memory;
-use figures::SettingSummary;
+use figures::{ColumnSet, SettingSummary};
 use goals::{Want, best_of, is_on_front, may_meet, meets};
 use std::alloc::Global;
 use sweep_plan::{Choice, Plan};
 
 /// The settings of a sweep as JSON objects, each on a line of its own that ends in a line feed. An object has first the keys that
 /// are set, by their names, with numbers or `true` and `false`; then the figures of its setting, by the names of the columns of its
-/// line: times in ticks, shares in percent, rates with two digits behind the point, `null` where the line has a dash, and
-/// `revived` where recoveries are printed. Then come `front`, whether no other setting beats it, and, where something is wanted,
+/// line, which are given: times in ticks, shares in percent, rates with two digits behind the point, `null` where the line has a
+/// dash. Then come `front`, whether no other setting beats it, and, where something is wanted,
 /// `meets`, which is `"yes"` where the setting shows that it meets all, `"may"` where it may and `"no"` else, and `best`, whether
 /// it is the first that is best. There must be a summary for each setting, in their order.
 pub fn setting_objects(
     alloc: Global,
-    revived: bool,
+    columns: ColumnSet,
     plan: &Plan,
     wants: &[Want],
     settings: &[SettingSummary],
@@ -32,14 +32,14 @@ pub fn setting_objects(
     requires bounded { All IsBounded wants.now }
     requires few { All HasFewRuns settings.now }
     requires all { length settings.now ≡ setting_count plan.now.swept_keys }
-    ensures { IfOk result (λ text. TellsObjects revived plan.now.swept_keys wants.now settings.now (string_bytes text)) }
+    ensures { IfOk result (λ text. TellsObjects columns plan.now.swept_keys wants.now settings.now (string_bytes text)) }
 {
     let best = best_of(wants, settings);
     let mut text = String::new(alloc);
     for (place, setting) in settings.iter().enumerate() {
         let is_best = is_at(best, place);
         push_setting(
-            alloc, &mut text, revived, plan, wants, settings, is_best, place, setting,
+            alloc, &mut text, columns, plan, wants, settings, is_best, place, setting,
         )?;
     }
     Ok(text)
@@ -59,7 +59,7 @@ fn is_at(best: Option<usize>, place: usize) -> bool
 fn push_setting(
     alloc: Global,
     text: &mut String,
-    revived: bool,
+    columns: ColumnSet,
     plan: &Plan,
     wants: &[Want],
     all: &[SettingSummary],
@@ -71,17 +71,17 @@ fn push_setting(
     requires few { HasFewRuns setting.now }
     requires within { place < setting_count plan.now.swept_keys }
     ensures { OnOk result ((chosen : List AnyChoice) → slice_get (settings_of plan.now.swept_keys) place ≡ Some chosen
-        → string_bytes text.new ≡ string_bytes text.old ++ object_line (members_of revived wants.now all.now is_best chosen setting.now)) }
+        → string_bytes text.new ≡ string_bytes text.old ++ object_line (members_of columns wants.now all.now is_best chosen setting.now)) }
 {
     let chosen = plan.setting_at(alloc, place)?;
-    let members = members_of(alloc, revived, wants, all, is_best, &chosen, setting)?;
+    let members = members_of(alloc, columns, wants, all, is_best, &chosen, setting)?;
     push_line(text, &members)
 }
 
 /// The members of a setting.
 fn members_of(
     alloc: Global,
-    revived: bool,
+    columns: ColumnSet,
     wants: &[Want],
     all: &[SettingSummary],
     is_best: bool,
@@ -90,11 +90,11 @@ fn members_of(
 ) -> Result<Vec<String>, Memory>
     requires bounded { All IsBounded wants.now }
     requires few { HasFewRuns setting.now }
-    ensures { IfOk result (λ members. map string_bytes members.items ≡ members_of revived wants.now all.now is_best chosen.now setting.now) }
+    ensures { IfOk result (λ members. map string_bytes members.items ≡ members_of columns wants.now all.now is_best chosen.now setting.now) }
 {
     let mut members = Vec::new(alloc);
     push_choices(alloc, &mut members, chosen)?;
-    push_figures(alloc, &mut members, revived, setting)?;
+    push_figures(alloc, &mut members, columns, setting)?;
     push_truth(alloc, &mut members, "front", is_on_front(setting, all))?;
     push_wanted(alloc, &mut members, wants, is_best, setting)?;
     Ok(members)

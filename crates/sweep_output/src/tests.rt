@@ -1,7 +1,8 @@
 //! The objects of two settings.
 use crate::objects::setting_objects;
-use figures::{Histogram, SettingSummary};
+use figures::{ColumnSet, Histogram, SettingSummary};
 use goals::Want;
+use incident_figures::{DayRates, IncidentSummary};
 use std::test::Fail;
 use sweep_plan::Plan;
 
@@ -28,6 +29,16 @@ const THREE_RUNS: SettingSummary = SettingSummary {
     false_suspect: 133,
     thrown_out: 2,
     revived: 2,
+    incidents: Some(IncidentSummary {
+        alarms: 166,
+        deaths: 4,
+        deaths_well: 1,
+        day: Some(DayRates {
+            rate: 11520000,
+            low: 4480123,
+            high: 29620005,
+        }),
+    }),
     runs_with: 2,
     share_low: 208,
     share_high: 938,
@@ -60,6 +71,7 @@ const ONE_RUN: SettingSummary = SettingSummary {
     false_suspect: 0,
     thrown_out: 0,
     revived: 0,
+    incidents: None,
     runs_with: 0,
     share_low: 0,
     share_high: 793,
@@ -73,11 +85,13 @@ const ONE_RUN: SettingSummary = SettingSummary {
 const LINES: &str =
     "{\"swim.period\":200,\"lifeguard.probe\":true,\"runs\":3,\"suspect_p50\":150,\"confirm_p50\":500,\
 \"confirm_p99\":null,\"confirm_greatest\":null,\"last_p50\":950,\"last_greatest\":null,\"false_suspect\":1.33,\
-\"thrown_out\":2,\"revived\":2,\"runs_with\":2,\"share_low\":20.8,\"share_high\":93.8,\"messages\":0.05,\"front\":true,\
+\"thrown_out\":2,\"revived\":2,\"alarms\":1.66,\"deaths\":4,\"deaths_well\":1,\"deaths_day\":115200.00,\"day_low\":44801.23,\
+\"day_high\":296200.05,\"runs_with\":2,\"share_low\":20.8,\"share_high\":93.8,\"messages\":0.05,\"front\":true,\
 \"meets\":\"yes\",\"best\":true}
 {\"swim.period\":250,\"lifeguard.probe\":true,\"runs\":1,\"suspect_p50\":null,\"confirm_p50\":null,\
 \"confirm_p99\":null,\"confirm_greatest\":null,\"last_p50\":null,\"last_greatest\":null,\"false_suspect\":0.00,\
-\"thrown_out\":0,\"revived\":0,\"runs_with\":0,\"share_low\":0.0,\"share_high\":79.3,\"messages\":null,\"front\":true,\
+\"thrown_out\":0,\"revived\":0,\"alarms\":null,\"deaths\":null,\"deaths_well\":null,\"deaths_day\":null,\"day_low\":null,\
+\"day_high\":null,\"runs_with\":0,\"share_low\":0.0,\"share_high\":79.3,\"messages\":null,\"front\":true,\
 \"meets\":\"no\",\"best\":false}
 ";
 
@@ -89,7 +103,13 @@ fn settings_are_objects(rt: HostRuntime) -> Result<(), Fail> {
     if plan.settings() != 2 {
         panic!(&rt; "two cases");
     }
-    let text = setting_objects(rt.alloc(), true, &plan, &[want], &[THREE_RUNS, ONE_RUN])?;
+    let text = setting_objects(
+        rt.alloc(),
+        ColumnSet::WithIncidents,
+        &plan,
+        &[want],
+        &[THREE_RUNS, ONE_RUN],
+    )?;
     assert!(rt; text.as_str() == LINES, "{text}");
     Ok(())
 }

@@ -1,7 +1,7 @@
 -- A goal in words: which figure, of which runs, and how it is compared.
 use Rattle.std.specs.Prelude.{ℕ, ◌-◌, ◌*◌, ◌/◌, ◌%◌, ◌^◌, ◌==◌, if◌then◌else◌, min, List, [], ◌++◌, codes, decimal}
 use Rattle.goals.specs.declared.statistic.Statistic.{Statistic}
-use Rattle.goals.specs.declared.statistic.Statistic.TheVariants.{Out, SuspectP50, ConfirmP50, ConfirmP99, ConfirmGreatest, LastP50, LastGreatest, FalseSuspect, ThrownOut, Messages}
+use Rattle.goals.specs.declared.statistic.Statistic.TheVariants.{Out, SuspectP50, ConfirmP50, ConfirmP99, ConfirmGreatest, LastP50, LastGreatest, FalseSuspect, ThrownOut, Messages, Alarms, Deaths, DeathsWell, DeathsDay}
 use Rattle.goals.specs.declared.want.Want.{Want}
 use Rattle.drawing.specs.Escaped.{escaped, markup}
 use Rattle.drawing.specs.Numbers.{grouped}
@@ -18,6 +18,10 @@ figure_words LastGreatest = codes "Ticks until a crash is last confirmed: the gr
 figure_words FalseSuspect = codes "False suspicions per run: the average over all its runs is at most <b>"
 figure_words ThrownOut = codes "Members with a false death: the sum over all its runs is at most <b>"
 figure_words Messages = codes "Messages per member per 1,000 ticks: the average over all its runs is at most <b>"
+figure_words Alarms = codes "Incidents per run: the average over all its runs is at most <b>"
+figure_words Deaths = codes "Fatal incidents: the sum over all its runs is at most <b>"
+figure_words DeathsWell = codes "Fatal incidents of members that were well: the sum over all its runs is at most <b>"
+figure_words DeathsDay = codes "Fatal incidents of the whole cluster in a day: the whole 95&nbsp;% interval is at most <b>"
 
 -- the bound in millionths of what is shown: a share is shown in percent
 unfoldable pub shown_bound : Statistic → ℕ → ℕ

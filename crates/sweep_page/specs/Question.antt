@@ -1,8 +1,10 @@
 -- What is wanted of a setting, and the answer.
-use Rattle.std.specs.Prelude.{ℕ, Bool, ◌==◌, if◌then◌else◌, List, [], ◌++◌, Option, Some, None, codes, decimal, length, slice_get}
+use Rattle.std.specs.Prelude.{ℕ, Bool, true, false, not, ◌==◌, if◌then◌else◌, List, [], ◌∷◌, ◌++◌, Option, Some, None, codes, decimal, find, length, slice_get}
 use Rattle.std.specs.List.{flat_map, list_any, range_with_len}
 use Rattle.std.specs.Option.{option_map_or}
-use Rattle.goals.specs.Wants.{may_meet, more_runs}
+use Rattle.goals.specs.Wants.{may_meet, meets, more_runs}
+use Rattle.goals.specs.declared.statistic.Statistic.{Statistic}
+use Rattle.goals.specs.declared.statistic.Statistic.TheVariants.{DeathsDay}
 use Rattle.goals.specs.declared.want.Want.{Want}
 use Rattle.sweep_plan.specs.Sweep.{KeyValues}
 use Rattle.drawing.specs.Escaped.{markup}
@@ -26,18 +28,34 @@ needed_words more = if more == 1 then codes "</b> more run would decide" else co
 unfoldable pub runs_needed : ℕ → List ℕ
 runs_needed more = markup (codes "<b>") ++ decimal more ++ markup (needed_words more)
 
-unfoldable pub more_needed : Option ℕ → List ℕ
-more_needed more = option_map_or runs_needed more (codes "no number of runs would decide: its share of runs with a false death is the goal itself")
+-- of a share that stays as it is
+unfoldable pub share_needed : Option ℕ → List ℕ
+share_needed more = option_map_or runs_needed more (codes "no number of runs would decide: its share of runs with a false death is the goal itself")
+
+-- of fatal incidents in a day it isn't known
+unfoldable pub day_needed : List ℕ
+day_needed = codes "the interval of its fatal incidents in a day isn't narrow enough yet; how many more runs would decide isn't known"
+
+unfoldable pub more_needed : Bool → Option ℕ → List ℕ
+more_needed of_day more = if of_day then day_needed else share_needed more
+
+-- the first goal that a setting doesn't show is of its fatal incidents in a day
+abbrev pub is_day : Statistic → Bool
+is_day DeathsDay = true
+is_day _ = false
+
+abbrev pub is_of_day : List Want → SettingSummary → Bool
+is_of_day wants setting = option_map_or (λ want. is_day want.statistic) (find (λ want. not (meets (want ∷ []) setting)) wants) false
 
 -- a setting that may meet them
-unfoldable pub open_item : List KeyValues → ℕ → Option ℕ → List ℕ
-open_item swept_keys place more =
+unfoldable pub open_item : List KeyValues → ℕ → Bool → Option ℕ → List ℕ
+open_item swept_keys place of_day more =
     markup (codes "<li class=\"unknown\"><span class=\"number\">") ++ number_words place ++ markup (codes "</span><code>") ++ swept_keys_at swept_keys place ++ markup (codes "</code><span>")
-    ++ more_needed more ++ markup (codes "</span></li>")
+    ++ more_needed of_day more ++ markup (codes "</span></li>")
 
 -- nothing where a setting doesn't
 unfoldable pub open_item_of : List KeyValues → List Want → ℕ → SettingSummary → List ℕ
-open_item_of swept_keys wants place setting = if may_meet wants setting then open_item swept_keys place (more_runs wants setting) else []
+open_item_of swept_keys wants place setting = if may_meet wants setting then open_item swept_keys place (is_of_day wants setting) (more_runs wants setting) else []
 
 -- that of the setting at a place
 unfoldable pub open_item_at : List KeyValues → List Want → List SettingSummary → ℕ → List ℕ

@@ -1,7 +1,7 @@
 -- The table of all settings.
 use Rattle.std.specs.Prelude.{ℕ, Bool, ◌==◌, if◌then◌else◌, List, [], ◌++◌, codes, encode_utf8, length, slice_get, Option, None, Some}
-use Rattle.std.specs.List.{flat_map, range_with_len}
-use Rattle.std.specs.Option.{option_map_or}
+use Rattle.std.specs.List.{flat_map, list_any, range_with_len}
+use Rattle.std.specs.Option.{is_some, option_map_or}
 use Rattle.std.specs.Str.{chars}
 use Rattle.sweep_plan.specs.Settings.{settings_of}
 use Rattle.sweep_plan.specs.Keys.{key_name}
@@ -11,6 +11,8 @@ use Rattle.sweep_plan.specs.declared.choice.Choice.{Choice}
 use Rattle.drawing.specs.Escaped.{markup}
 use Rattle.drawing.specs.Shapes.{figure_opening, figure_end}
 use Rattle.figures.specs.declared.summary.SettingSummary.{SettingSummary}
+use Rattle.incident_figures.specs.declared.setting.DayRates.{DayRates}
+use Rattle.incident_figures.specs.declared.setting.IncidentSummary.{IncidentSummary}
 use Rattle.sweep_cells.specs.Cells.{cell, time_cell}
 use Rattle.sweep_cells.specs.Words.{percent_words, hundredths_words, hundredths_interval_words, rate_words, runs_words, interval_words, thousandths, share_of, number_words}
 use Rattle.sweep_page.specs.Points.{is_marked}
@@ -20,6 +22,20 @@ use Rattle.ticks.specs.declared.tick.Tick.{Tick}
 unfoldable pub death_cells : SettingSummary → List ℕ
 death_cells setting =
     markup (codes "<td>") ++ hundredths_words setting.deaths ++ markup (codes "</td><td>") ++ hundredths_interval_words setting.deaths_low setting.deaths_high ++ markup (codes "</td>")
+
+-- the cells of fatal incidents in a day, with their interval; dashes where runs have no time
+unfoldable pub rate_cells : DayRates → List ℕ
+rate_cells day = markup (codes "<td>") ++ hundredths_words day.rate ++ markup (codes "</td><td>") ++ hundredths_interval_words day.low day.high ++ markup (codes "</td>")
+
+unfoldable pub no_rate_cells : List ℕ
+no_rate_cells = codes "<td>-</td><td>-</td>"
+
+abbrev pub rate_cells_of : IncidentSummary → List ℕ
+rate_cells_of incidents = option_map_or rate_cells incidents.day no_rate_cells
+
+-- those of a setting, dashes too where its version counts no incidents; nothing where no setting's does
+abbrev pub day_cells : Bool → SettingSummary → List ℕ
+day_cells counted setting = if counted then option_map_or rate_cells_of setting.incidents no_rate_cells else []
 
 -- the cells that show how often it has false deaths
 unfoldable pub share_cells : SettingSummary → List ℕ
@@ -58,13 +74,13 @@ unfoldable pub row_opening : Bool → List ℕ
 row_opening marked = if marked then codes "<tr class=\"best\"><th scope=\"row\">&#9733;&nbsp;" else codes "<tr><th scope=\"row\">"
 
 -- the row of a setting
-unfoldable pub row : Option Tick → Bool → List KeyValues → ℕ → SettingSummary → Bool → List ℕ
-row time crashed swept_keys place setting marked =
-    row_opening marked ++ number_words place ++ markup (codes "</th>") ++ value_cells swept_keys place ++ figure_cells time crashed setting ++ markup (codes "</tr>\n")
+unfoldable pub row : Option Tick → Bool → Bool → List KeyValues → ℕ → SettingSummary → Bool → List ℕ
+row time crashed counted swept_keys place setting marked =
+    row_opening marked ++ number_words place ++ markup (codes "</th>") ++ value_cells swept_keys place ++ figure_cells time crashed setting ++ day_cells counted setting ++ markup (codes "</tr>\n")
 
 -- the row of the setting at a place
-unfoldable pub row_at : Option Tick → Bool → List KeyValues → List SettingSummary → List Bool → ℕ → List ℕ
-row_at time crashed swept_keys settings front place = option_map_or (λ setting. row time crashed swept_keys place setting (is_marked front place)) (slice_get settings place) []
+unfoldable pub row_at : Option Tick → Bool → Bool → List KeyValues → List SettingSummary → List Bool → ℕ → List ℕ
+row_at time crashed counted swept_keys settings front place = option_map_or (λ setting. row time crashed counted swept_keys place setting (is_marked front place)) (slice_get settings place) []
 
 -- A character of a key's name; behind a dot the line may break. There is nothing to escape: names have small letters, digits, `_`, `-` and dots alone.
 abbrev pub name_char : ℕ → List ℕ
@@ -103,8 +119,18 @@ timeless_heads = codes "<th scope=\"col\">runs with a false death</th><th scope=
 unfoldable pub figure_heads : Bool → List ℕ
 figure_heads crashed = if crashed then timed_heads else timeless_heads
 
+-- and those over what only some versions count
+unfoldable pub rate_heads : List ℕ
+rate_heads = codes "<th scope=\"col\">fatal incidents in a day</th><th scope=\"col\">their 95&nbsp;% interval</th>"
+
+abbrev pub counts_incidents : SettingSummary → Bool
+counts_incidents setting = is_some setting.incidents
+
+abbrev pub day_heads : Bool → List ℕ
+day_heads counted = if counted then rate_heads else []
+
 -- the table: a column for each key and each figure, a row for each setting
 unfoldable pub table : Option Tick → Bool → List KeyValues → List SettingSummary → List Bool → List ℕ
 table time crashed swept_keys settings front =
-    figure_opening (codes "cases") (codes "All settings") ++ table_words time crashed ++ table_opening ++ flat_map key_head swept_keys ++ figure_heads crashed ++ markup (codes "</tr></thead><tbody>\n")
-    ++ flat_map (row_at time crashed swept_keys settings front) (range_with_len 0 (length settings)) ++ markup (codes "</tbody></table></div>") ++ figure_end
+    figure_opening (codes "cases") (codes "All settings") ++ table_words time crashed ++ table_opening ++ flat_map key_head swept_keys ++ figure_heads crashed ++ day_heads (list_any counts_incidents settings) ++ markup (codes "</tr></thead><tbody>\n")
+    ++ flat_map (row_at time crashed (list_any counts_incidents settings) swept_keys settings front) (range_with_len 0 (length settings)) ++ markup (codes "</tbody></table></div>") ++ figure_end

@@ -70,6 +70,14 @@ fn figure_words(statistic: Statistic) -> &'static str
         Statistic::Messages => {
             "Messages per member per 1,000 ticks: the average over all its runs is at most <b>"
         }
+        Statistic::Alarms => "Incidents per run: the average over all its runs is at most <b>",
+        Statistic::Deaths => "Fatal incidents: the sum over all its runs is at most <b>",
+        Statistic::DeathsWell => {
+            "Fatal incidents of members that were well: the sum over all its runs is at most <b>"
+        }
+        Statistic::DeathsDay => {
+            "Fatal incidents of the whole cluster in a day: the whole 95&nbsp;% interval is at most <b>"
+        }
     }
 }
 

@@ -4,7 +4,7 @@ ghost use Rattle.std.specs.List.{flat_map, range_with_len};
 ghost use Rattle.std.specs.String.{string_bytes};
 ghost use Rattle.goals.specs.Wants.{HasFewRuns, IsBounded};
 ghost use Rattle.sweep_page.specs.Goals.{goal_item};
-ghost use Rattle.sweep_page.specs.Question.{answer, best_answer, goals_words, is_open, more_needed, needed_words, no_answer, open_answer, open_item, open_item_at, open_item_of, question, question_figure, runs_needed, unmet_answer};
+ghost use Rattle.sweep_page.specs.Question.{answer, best_answer, day_needed, goals_words, is_day, is_of_day, is_open, more_needed, needed_words, no_answer, open_answer, open_item, open_item_at, open_item_of, question, question_figure, runs_needed, share_needed, unmet_answer};
 
 use crate::best::push_best_more_at;
 use crate::front_points::FrontPoint;
@@ -13,8 +13,9 @@ use crate::items::{push_caution_at, push_item_at};
 use base::Memory;
 use drawing::{close_figure, open_figure, push_markup};
 use figures::SettingSummary;
-use goals::{Want, may_meet, more_runs};
+use goals::{Statistic, Want, may_meet, meets, more_runs};
 use std::alloc::{AllocError, Global};
+use std::slice;
 use sweep_cells::{push_number, push_swept_keys_at};
 use sweep_plan::Plan;
 use ticks::Tick;
@@ -298,7 +299,33 @@ fn push_open_setting(
     if !may_meet(wants, setting) {
         return Ok(());
     }
-    push_open_item(alloc, text, plan, place, more_runs(wants, setting))
+    let of_day = is_of_day(wants, setting);
+    let more = more_runs(wants, setting);
+    push_open_item(alloc, text, plan, place, of_day, more)
+}
+
+/// Whether the first goal that a setting doesn't show is of its fatal incidents in a day.
+fn is_of_day(wants: &[Want<'_>], setting: &SettingSummary) -> bool
+    requires bounded { All IsBounded wants.now }
+    requires few { HasFewRuns setting.now }
+    ensures { result ≡ is_of_day wants.now setting.now }
+{
+    for want in wants {
+        if !meets(slice::from_ref(want), setting) {
+            return is_day(want.statistic);
+        }
+    }
+    false
+}
+
+/// Whether a statistic is the fatal incidents in a day.
+fn is_day(statistic: Statistic) -> bool
+    ensures { result ≡ is_day statistic }
+{
+    match statistic {
+        Statistic::DeathsDay => true,
+        _ => false,
+    }
 }
 
 /// Appends a setting that may meet all, with how many more runs would decide.
@@ -308,24 +335,50 @@ fn push_open_item(
     text: &mut String,
     plan: &Plan,
     place: usize,
+    of_day: bool,
     more: Option<u128>,
 ) -> Result<(), Memory>
-    ensures { OnOk result (string_bytes text.new ≡ string_bytes text.old ++ open_item plan.now.swept_keys place more) }
+    ensures { OnOk result (string_bytes text.new ≡ string_bytes text.old ++ open_item plan.now.swept_keys place of_day more) }
 {
     push_markup(text, "<li class=\"unknown\"><span class=\"number\">")?;
     push_number(text, place)?;
     push_markup(text, "</span><code>")?;
     push_swept_keys_at(alloc, text, plan, place)?;
     push_markup(text, "</code><span>")?;
-    push_more_needed(text, more)?;
+    push_more_needed(text, of_day, more)?;
     push_markup(text, "</span></li>")?;
     Ok(())
 }
 
-/// Appends how many more runs would decide, or that no number would.
+/// Appends how many more runs would decide. `of_day` is whether they decide about fatal incidents in
+/// a day.
 #[tactic(auto, unfolding(crate::specs::Question::more_needed))]
-fn push_more_needed(text: &mut String, more: Option<u128>) -> Result<(), AllocError>
-    ensures { OnOk result (string_bytes text.new ≡ string_bytes text.old ++ more_needed more) }
+fn push_more_needed(text: &mut String, of_day: bool, more: Option<u128>) -> Result<(), AllocError>
+    ensures { OnOk result (string_bytes text.new ≡ string_bytes text.old ++ more_needed of_day more) }
+{
+    if of_day {
+        push_day_needed(text)
+    } else {
+        push_share_needed(text, more)
+    }
+}
+
+/// Appends that it isn't known how many more runs would decide about fatal incidents in a day.
+#[tactic(auto, unfolding(crate::specs::Question::day_needed))]
+fn push_day_needed(text: &mut String) -> Result<(), AllocError>
+    ensures { OnOk result (string_bytes text.new ≡ string_bytes text.old ++ day_needed) }
+{
+    text.push_str(
+        "the interval of its fatal incidents in a day isn't narrow enough yet; how many more runs would \
+         decide isn't known",
+    )
+}
+
+/// Appends how many more runs would decide about the share of runs with a false death, or that no
+/// number would.
+#[tactic(auto, unfolding(crate::specs::Question::share_needed))]
+fn push_share_needed(text: &mut String, more: Option<u128>) -> Result<(), AllocError>
+    ensures { OnOk result (string_bytes text.new ≡ string_bytes text.old ++ share_needed more) }
 {
     match more {
         Some(runs) => push_runs_needed(text, runs),

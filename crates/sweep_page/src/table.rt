@@ -1,15 +1,17 @@
 //! The table of all settings.
-ghost use Rattle.std.specs.Prelude.{◌≡◌, ◌<◌, ◌++◌, OnOk, length};
-ghost use Rattle.std.specs.List.{flat_map, range_with_len};
+ghost use Rattle.std.specs.Prelude.{◌≡◌, ◌<◌, ◌++◌, [], OnOk, if◌then◌else◌, length};
+ghost use Rattle.std.specs.List.{flat_map, list_any, range_with_len};
+ghost use Rattle.std.specs.Option.{option_map_or};
 ghost use Rattle.std.specs.Str.{chars};
 ghost use Rattle.std.specs.String.{string_bytes};
 ghost use Rattle.sweep_plan.specs.Sweep.{setting_count};
-ghost use Rattle.sweep_page.specs.Table.{share_cells, death_cells, cost_cells, timed_cells, timeless_cells, figure_cells, value_cell, value_cells, row_opening, row, row_at, name_char, key_head, since_words, timed_words, timeless_words, table_words, table_opening, timed_heads, timeless_heads, figure_heads, table};
+ghost use Rattle.sweep_page.specs.Table.{share_cells, death_cells, cost_cells, timed_cells, timeless_cells, figure_cells, value_cell, value_cells, row_opening, row, row_at, name_char, key_head, since_words, timed_words, timeless_words, table_words, table_opening, timed_heads, timeless_heads, figure_heads, rate_cells, no_rate_cells, rate_cells_of, rate_heads, counts_incidents, day_heads, table};
 
 use crate::front_points::is_marked;
 use base::Memory;
 use drawing::{close_figure, open_figure, push_markup};
 use figures::SettingSummary;
+use incident_figures::{DayRates, IncidentSummary};
 use std::alloc::{AllocError, Global};
 use sweep_cells::{
     push_cell, push_hundredths, push_hundredths_interval, push_interval, push_number, push_percent,
@@ -39,8 +41,10 @@ pub(crate) fn push_table(
     let swept_keys = plan.swept_keys();
     push_names(alloc, text, swept_keys)?;
     push_figure_words(text, crashed)?;
+    let counted = count_incidents(settings);
+    push_day_heads(text, counted)?;
     push_markup(text, "</tr></thead><tbody>\n")?;
-    push_rows(alloc, text, time, plan, settings, front, crashed)?;
+    push_rows(alloc, text, time, plan, settings, front, crashed, counted)?;
     push_markup(text, "</tbody></table></div>")?;
     close_figure(text)?;
     Ok(())
@@ -198,6 +202,40 @@ fn push_timeless_heads(text: &mut String) -> Result<(), AllocError>
     )
 }
 
+/// Appends those over fatal incidents in a day, where a setting counts them.
+fn push_day_heads(text: &mut String, counted: bool) -> Result<(), AllocError>
+    ensures { OnOk result (string_bytes text.new ≡ string_bytes text.old ++ day_heads counted) }
+{
+    if counted {
+        push_rate_heads(text)
+    } else {
+        Ok(())
+    }
+}
+
+/// Whether a setting counts incidents.
+fn count_incidents(settings: &[SettingSummary]) -> bool
+    ensures { result ≡ list_any counts_incidents settings.now }
+{
+    for setting in settings {
+        if setting.incidents.is_some() {
+            return true;
+        }
+    }
+    false
+}
+
+/// Appends the words over fatal incidents in a day.
+#[tactic(auto, unfolding(crate::specs::Table::rate_heads))]
+fn push_rate_heads(text: &mut String) -> Result<(), AllocError>
+    ensures { OnOk result (string_bytes text.new ≡ string_bytes text.old ++ rate_heads) }
+{
+    text.push_str(
+        "<th scope=\"col\">fatal incidents in a day</th>\
+         <th scope=\"col\">their 95&nbsp;% interval</th>",
+    )
+}
+
 /// Appends the rows of all settings.
 fn push_rows(
     alloc: Global,
@@ -207,13 +245,16 @@ fn push_rows(
     settings: &[SettingSummary],
     front: &[bool],
     crashed: bool,
+    counted: bool,
 ) -> Result<(), Memory>
     requires { length settings.now ≡ setting_count plan.now.swept_keys }
     ensures { OnOk result (string_bytes text.new
-        ≡ string_bytes text.old ++ flat_map (row_at time crashed plan.now.swept_keys settings.now front.now) (range_with_len 0 (length settings.now))) }
+        ≡ string_bytes text.old ++ flat_map (row_at time crashed counted plan.now.swept_keys settings.now front.now) (range_with_len 0 (length settings.now))) }
 {
     for place in 0..settings.len() {
-        push_row_at(alloc, text, time, plan, settings, front, crashed, place)?;
+        push_row_at(
+            alloc, text, time, plan, settings, front, crashed, counted, place,
+        )?;
     }
     Ok(())
 }
@@ -228,10 +269,11 @@ fn push_row_at(
     settings: &[SettingSummary],
     front: &[bool],
     crashed: bool,
+    counted: bool,
     place: usize,
 ) -> Result<(), Memory>
     requires { length settings.now ≡ setting_count plan.now.swept_keys }
-    ensures { OnOk result (string_bytes text.new ≡ string_bytes text.old ++ row_at time crashed plan.now.swept_keys settings.now front.now place) }
+    ensures { OnOk result (string_bytes text.new ≡ string_bytes text.old ++ row_at time crashed counted plan.now.swept_keys settings.now front.now place) }
 {
     match setting_at(settings, place) {
         Some(setting) => push_row(
@@ -240,6 +282,7 @@ fn push_row_at(
             time,
             plan,
             crashed,
+            counted,
             place,
             &setting,
             is_marked(front, place),
@@ -256,18 +299,20 @@ fn push_row(
     time: Option<Tick>,
     plan: &Plan,
     crashed: bool,
+    counted: bool,
     place: usize,
     setting: &SettingSummary,
     marked: bool,
 ) -> Result<(), Memory>
     requires { place < setting_count plan.now.swept_keys }
-    ensures { OnOk result (string_bytes text.new ≡ string_bytes text.old ++ row time crashed plan.now.swept_keys place setting.now marked) }
+    ensures { OnOk result (string_bytes text.new ≡ string_bytes text.old ++ row time crashed counted plan.now.swept_keys place setting.now marked) }
 {
     push_row_opening(text, marked)?;
     push_number(text, place)?;
     push_markup(text, "</th>")?;
     push_values(alloc, text, plan, place)?;
     push_figures(text, time, crashed, setting)?;
+    push_day(text, counted, setting.incidents)?;
     push_markup(text, "</tr>\n")?;
     Ok(())
 }
@@ -370,6 +415,62 @@ fn push_costs(text: &mut String, setting: &SettingSummary) -> Result<(), AllocEr
     push_markup(text, "</td><td>")?;
     push_rate(text, setting.messages)?;
     push_markup(text, "</td>")
+}
+
+/// Appends the fatal incidents of a setting in a day, where a setting counts incidents.
+fn push_day(
+    text: &mut String,
+    counted: bool,
+    incidents: Option<IncidentSummary>,
+) -> Result<(), AllocError>
+    ensures { OnOk result (string_bytes text.new
+        ≡ string_bytes text.old ++ (if counted then option_map_or rate_cells_of incidents no_rate_cells else [])) }
+{
+    if counted {
+        push_incidents(text, incidents)
+    } else {
+        Ok(())
+    }
+}
+
+/// Appends them, or dashes where the setting counts none.
+fn push_incidents(text: &mut String, incidents: Option<IncidentSummary>) -> Result<(), AllocError>
+    ensures { OnOk result (string_bytes text.new ≡ string_bytes text.old ++ option_map_or rate_cells_of incidents no_rate_cells) }
+{
+    match incidents {
+        Some(incidents) => push_day_of(text, incidents.day),
+        None => push_no_rates(text),
+    }
+}
+
+/// Appends them, or dashes where its runs have no time.
+fn push_day_of(text: &mut String, day: Option<DayRates>) -> Result<(), AllocError>
+    ensures { OnOk result (string_bytes text.new ≡ string_bytes text.old ++ option_map_or rate_cells day no_rate_cells) }
+{
+    match day {
+        Some(day) => push_day_rates(text, day),
+        None => push_no_rates(text),
+    }
+}
+
+/// Appends how many they are in a day, and their interval.
+#[tactic(auto, unfolding(crate::specs::Table::rate_cells))]
+fn push_day_rates(text: &mut String, day: DayRates) -> Result<(), AllocError>
+    ensures { OnOk result (string_bytes text.new ≡ string_bytes text.old ++ rate_cells day) }
+{
+    push_markup(text, "<td>")?;
+    push_hundredths(text, day.rate)?;
+    push_markup(text, "</td><td>")?;
+    push_hundredths_interval(text, day.low, day.high)?;
+    push_markup(text, "</td>")
+}
+
+/// Appends dashes in their place.
+#[tactic(auto, unfolding(crate::specs::Table::no_rate_cells))]
+fn push_no_rates(text: &mut String) -> Result<(), AllocError>
+    ensures { OnOk result (string_bytes text.new ≡ string_bytes text.old ++ no_rate_cells) }
+{
+    text.push_str("<td>-</td><td>-</td>")
 }
 
 /// Appends how often a setting has false deaths.

@@ -19,7 +19,7 @@ use Rattle.sweep_plan.proofs.Words.{Lacks, cut_once}
 -- each key that may be set is the one of its name
 named_each : AllByRecursion (λ k. key_named (key_name k) ≡ Some k) settable
 unfolding settable key_named key_rules_of spelling_of
-named_each = (refl, (refl, (refl, (refl, (refl, (refl, (refl, (refl, (refl, (refl, (refl, (refl, (refl, (refl, (refl, (refl, (refl, (refl, (refl, (refl, (refl, (refl, (refl, (refl, (refl, (refl, tt))))))))))))))))))))))))))
+named_each = (refl, (refl, (refl, (refl, (refl, (refl, (refl, (refl, (refl, (refl, (refl, (refl, (refl, (refl, (refl, (refl, (refl, (refl, (refl, (refl, (refl, (refl, (refl, (refl, (refl, (refl, (refl, (refl, (refl, (refl, (refl, (refl, (refl, (refl, tt))))))))))))))))))))))))))))))))))
 
 pub named_itself : (k : SweptKey) → Contains settable k → key_named (key_name k) ≡ Some k
 named_itself k known = All-contains (λ j. key_named (key_name j) ≡ Some j) settable k (All-from_recursion (λ j. key_named (key_name j) ≡ Some j) settable named_each) known
@@ -44,30 +44,30 @@ no_zeros (suc n) = no_zeros n
 letters_of : (name : List ℕ) → is_item_name name ≡ true → list_all is_letter name ≡ true
 letters_of [] sound = absurd (false≢true sound)
 letters_of (first ∷ rest) sound =
-    let parts = and_parts ((first == 46) && nat_lt (length rest) 44) (list_all is_letter rest) sound in
-    let front = and_parts (first == 46) (nat_lt (length rest) 44) parts.0 in
+    let parts = and_parts ((first == 46) && nat_lt (length rest) 76) (list_all is_letter rest) sound in
+    let front = and_parts (first == 46) (nat_lt (length rest) 76) parts.0 in
     let dot : is_letter first ≡ true = ap is_letter (same_byte first 46 front.0) in
     ap (λ b. b && list_all is_letter rest) dot ∙ parts.1
 
 pub kept_is : (name : List ℕ) → is_item_name name ≡ true → item_text (kept_name name) ≡ name
 kept_is name sound =
-    filter-append is_letter name (replicate (44 - length name) 0)
-    ∙ ap (λ l. l ++ filter is_letter (replicate (44 - length name) 0)) (passing name (letters_of name sound))
-    ∙ ap (λ l. name ++ l) (no_zeros (44 - length name))
+    filter-append is_letter name (replicate (76 - length name) 0)
+    ∙ ap (λ l. l ++ filter is_letter (replicate (76 - length name) 0)) (passing name (letters_of name sound))
+    ∙ ap (λ l. name ++ l) (no_zeros (76 - length name))
     ∙ append-nil name
 
 dotted_name : (name : List ℕ) → is_item_name name ≡ true → (rest : List ℕ) × (name ≡ 46 ∷ rest)
 dotted_name [] sound = absurd (false≢true sound)
 dotted_name (first ∷ rest) sound =
-    let parts = and_parts ((first == 46) && nat_lt (length rest) 44) (list_all is_letter rest) sound in
-    let front = and_parts (first == 46) (nat_lt (length rest) 44) parts.0 in
+    let parts = and_parts ((first == 46) && nat_lt (length rest) 76) (list_all is_letter rest) sound in
+    let front = and_parts (first == 46) (nat_lt (length rest) 76) parts.0 in
     (rest, ap (λ x. x ∷ rest) (same_byte first 46 front.0))
 
 -- ---- keys of items
 
 in_each : AllByRecursion (λ j. (t : FormatKey) × (x : FormatKey) × (j ≡ in_table t x)) listed
 unfolding listed key_rules_of
-in_each = ((key.Group, key.Count, refl), ((key.Group, key.Start, refl), ((key.Path, key.Delay, refl), ((key.Path, key.Jitter, refl), ((key.Path, key.Loss, refl), ((key.Slow, key.From, refl), ((key.Slow, key.Until, refl), ((key.Slow, key.Extra, refl), ((key.Crash, key.At, refl), ((key.Cut, key.At, refl), ((key.Cut, key.Until, refl), ((key.Leave, key.At, refl), ((key.Pause, key.From, refl), ((key.Pause, key.Until, refl), tt))))))))))))))
+in_each = ((key.Group, key.Count, refl), ((key.Group, key.Start, refl), ((key.Path, key.Delay, refl), ((key.Path, key.Jitter, refl), ((key.Path, key.Loss, refl), ((key.Slow, key.From, refl), ((key.Slow, key.Until, refl), ((key.Slow, key.Extra, refl), ((key.Crash, key.At, refl), ((key.Cut, key.At, refl), ((key.Cut, key.Until, refl), ((key.Leave, key.At, refl), ((key.Pause, key.From, refl), ((key.Pause, key.Until, refl), ((key.Restart, key.At, refl), ((key.Block, key.From, refl), ((key.Block, key.Until, refl), tt)))))))))))))))))
 
 in_list : (j : SweptKey) → Contains listed j → (t : FormatKey) × (x : FormatKey) × (j ≡ in_table t x)
 in_list j known =
@@ -79,7 +79,7 @@ listed_named word = find (is_named word) listed
 
 listed_each : AllByRecursion (λ k. listed_named (key_name k) ≡ Some k) listed
 unfolding listed key_rules_of spelling_of
-listed_each = (refl, (refl, (refl, (refl, (refl, (refl, (refl, (refl, (refl, (refl, (refl, (refl, (refl, (refl, tt))))))))))))))
+listed_each = (refl, (refl, (refl, (refl, (refl, (refl, (refl, (refl, (refl, (refl, (refl, (refl, (refl, (refl, (refl, (refl, (refl, tt)))))))))))))))))
 
 listed_itself : (k : SweptKey) → Contains listed k → listed_named (key_name k) ≡ Some k
 listed_itself k known = All-contains (λ j. listed_named (key_name j) ≡ Some j) listed k (All-from_recursion (λ j. listed_named (key_name j) ≡ Some j) listed listed_each) known
@@ -120,7 +120,7 @@ dots_here xs = refl
 -- a name of a key outside lists has one dot at the most, that of an item's key two at the least
 few_each : AllByRecursion (λ k. nat_lt (dots (key_name k)) 2 ≡ true) settable
 unfolding settable key_rules_of spelling_of dots
-few_each = (refl, (refl, (refl, (refl, (refl, (refl, (refl, (refl, (refl, (refl, (refl, (refl, (refl, (refl, (refl, (refl, (refl, (refl, (refl, (refl, (refl, (refl, (refl, (refl, (refl, (refl, tt))))))))))))))))))))))))))
+few_each = (refl, (refl, (refl, (refl, (refl, (refl, (refl, (refl, (refl, (refl, (refl, (refl, (refl, (refl, (refl, (refl, (refl, (refl, (refl, (refl, (refl, (refl, (refl, (refl, (refl, (refl, (refl, (refl, (refl, (refl, (refl, (refl, (refl, (refl, tt))))))))))))))))))))))))))))))))))
 
 few : (k : SweptKey) → Contains settable k → nat_lt (dots (key_name k)) 2 ≡ true
 few k known = All-contains (λ j. nat_lt (dots (key_name j)) 2 ≡ true) settable k (All-from_recursion (λ j. nat_lt (dots (key_name j)) 2 ≡ true) settable few_each) known

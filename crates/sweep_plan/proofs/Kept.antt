@@ -11,13 +11,13 @@ drop_same zero (suc n) x = let same : zero ≡ zero - suc n = omega arith in ap 
 drop_same (suc m) (suc n) x = let same : m - n ≡ suc m - suc n = omega arith in drop_same m n x ∙ ap (λ k. replicate k x) same
 
 -- a name at the front of zeros
-pub filled : (name : List ℕ) → length name ≤ 44 → name ++ drop (length name) (replicate 44 0) ≡ name ++ replicate (44 - length name) 0
-filled name few = ap (λ l. name ++ l) (drop_same 44 (length name) 0)
+pub filled : (name : List ℕ) → length name ≤ 76 → name ++ drop (length name) (replicate 76 0) ≡ name ++ replicate (76 - length name) 0
+filled name few = ap (λ l. name ++ l) (drop_same 76 (length name) 0)
 
-pub few_bytes : (name : List ℕ) → is_item_name name ≡ true → length name ≤ 44
+pub few_bytes : (name : List ℕ) → is_item_name name ≡ true → length name ≤ 76
 few_bytes [] sound = absurd (false≢true sound)
 few_bytes (first ∷ rest) sound =
-    let parts = and_parts ((first == 46) && nat_lt (length rest) 44) (list_all is_letter rest) sound in
-    let front = and_parts (first == 46) (nat_lt (length rest) 44) parts.0 in
-    let short : nat_lt (length rest) 44 ≡ true = front.1 in
+    let parts = and_parts ((first == 46) && nat_lt (length rest) 76) (list_all is_letter rest) sound in
+    let front = and_parts (first == 46) (nat_lt (length rest) 76) parts.0 in
+    let short : nat_lt (length rest) 76 ≡ true = front.1 in
     grind (arith, nat_tests)

@@ -69,6 +69,17 @@ spelt key.Dead = refl
 spelt key.Push = refl
 spelt key.Connect = refl
 spelt key.Again = refl
+spelt key.Restart = refl
+spelt key.Block = refl
+spelt key.Serf = refl
+spelt key.Queue = refl
+spelt key.Packet = refl
+spelt key.Meta = refl
+spelt key.Limit = refl
+spelt key.Retry = refl
+spelt key.Reconnect = refl
+spelt key.Reap = refl
+spelt key.Linger = refl
 
 pub same_byte : (x c : ℕ) → (x == c) ≡ true → x ≡ c
 same_byte x c same = grind (arith, nat_tests)

@@ -10,7 +10,7 @@ use Rattle.schema.specs.declared.schema.Kind.{Kind}
 use Rattle.schema.specs.declared.schema.Kind.TheVariants.{Whole, Switch, Table}
 use Rattle.schema.specs.declared.schema.Kind.TheVariants as kind
 use Rattle.schema.specs.declared.schema.Section.TheVariants.{Top}
-use Rattle.schema.specs.declared.schema.Version.TheVariants.{Three}
+use Rattle.schema.specs.declared.schema.Version.TheVariants.{Four}
 use Rattle.sweep_plan.specs.Items.{is_item_name, kept_name, item_text}
 use Rattle.sweep_plan.specs.declared.items.ItemName.{ItemName}
 use Rattle.sweep_plan.specs.declared.keys.SweptKey.{SweptKey}
@@ -53,7 +53,7 @@ keys_of_table t rows = map (λ row. in_table t row.key) (filter (λ row. is_plai
 abbrev pub keys_of_kind : FormatKey → Kind → List SweptKey
 keys_of_kind k (Whole least most) = at_top k ∷ []
 keys_of_kind k Switch = at_top k ∷ []
-keys_of_kind k (Table s) = keys_of_table k (key_rules_of Three s)
+keys_of_kind k (Table s) = keys_of_table k (key_rules_of Four s)
 keys_of_kind k _ = []
 
 -- the same of its row, where it isn't `seed`: seeds are asked for by themselves
@@ -62,11 +62,11 @@ keys_of_row row = if bytes_eq (spelling_of row.key) (spelling_of key.Seed) then 
 
 -- the keys that may be set outside lists: those for whole numbers and switches, in the order of the newest version, which has those of all before it
 unfoldable pub settable : List SweptKey
-settable = flat_map keys_of_row (key_rules_of Three Top)
+settable = flat_map keys_of_row (key_rules_of Four Top)
 
 -- what a list's key gives: the keys of its items that have such values
 abbrev pub keys_of_list : FormatKey → Kind → List SweptKey
-keys_of_list k (kind.List s) = keys_of_table k (key_rules_of Three s)
+keys_of_list k (kind.List s) = keys_of_table k (key_rules_of Four s)
 keys_of_list k _ = []
 
 abbrev pub keys_of_items : KeyRule → List SweptKey
@@ -74,7 +74,7 @@ keys_of_items row = keys_of_list row.key row.kind
 
 -- such keys of all lists
 unfoldable pub listed : List SweptKey
-listed = flat_map keys_of_items (key_rules_of Three Top)
+listed = flat_map keys_of_items (key_rules_of Four Top)
 
 -- one of these, of an item of any name that items may have
 pub record IsItemKey (k : SweptKey) : Type 0 where

@@ -1,8 +1,7 @@
-//! The scenario of a setting: the document of a text, with the setting's values in it.
-ghost use Rattle.std.specs.Prelude.{◌≡◌, ◌≢◌, ◌≤◌, ◌<◌, ◌^◌, All, fold, Ok, Err, Some, IfOk, IfErr};
+//! The document of a setting: that of a text, with the setting's values in it.
+ghost use Rattle.std.specs.Prelude.{◌≡◌, ◌<◌, ◌^◌, All, fold, Some, IfOk};
 ghost use Rattle.std.specs.Option.{ForSome};
 ghost use Rattle.toml.specs.View.{view};
-ghost use Rattle.scenario_reader.specs.Rules.{document_verdict};
 ghost use Rattle.sweep_plan.specs.Values.{FitsToml};
 ghost use Rattle.sweep_plan.specs.Document.{data_of, table_at, with_entry, with_choice, with_value_in, with_values};
 
@@ -11,8 +10,6 @@ use crate::items::ItemName;
 use crate::listed_values::with_listed;
 use crate::values::SweptValue;
 use base::Memory;
-use scenario::Scenario;
-use scenario_reader::Refusal;
 use schema::FormatKey;
 use std::alloc::Global;
 use toml::{Table, Value};
@@ -35,26 +32,6 @@ pub fn with_values(
     match seed {
         Some(seed) => with_entry(alloc, tree, FormatKey::Seed, Value::Integer(seed as i64)),
         None => Ok(tree),
-    }
-}
-
-/// The scenario of a document with the values of a setting, and with a seed where one is given. It is
-/// refused by the least rule that the document then breaks, and by rule 11 where memory was refused.
-pub fn read_with(
-    alloc: Global,
-    document: &Value,
-    setting: &[Choice],
-    seed: Option<u64>,
-) -> Result<Scenario, Refusal>
-    requires fits { All (λ c. FitsToml c.value) setting.now }
-    requires low { ForSome seed (λ n. n < 2 ^ 63) }
-    ensures accepted { IfOk result (λ s. document_verdict (with_values (view document.now) setting.now seed) ≡ Ok s) }
-    ensures refused { IfErr result (λ r. r.rule ≢ 11 → document_verdict (with_values (view document.now) setting.now seed) ≡ Err r.rule) }
-    ensures numbered { IfErr result (λ r. (1 ≤ r.rule) × (r.rule ≤ 11)) }
-{
-    match with_values(alloc, document, setting, seed) {
-        Ok(tree) => scenario_reader::read_document(alloc, &tree),
-        Err(Memory) => Err(Refusal { rule: 11, place: 0 }),
     }
 }
 

@@ -65,7 +65,7 @@ fn push_item(text: &mut String, item: Option<ItemName>) -> Result<(), Memory>
 fn outside_lists(word: &str) -> Option<SweptKey>
     ensures { result ≡ key_named word.now }
 {
-    named_by_rows(Section::Top.rows(Version::Three), word)
+    named_by_rows(Section::Top.rows(Version::Four), word)
 }
 
 /// The key of this name among those that rows of the whole text give.
@@ -89,7 +89,7 @@ fn named_by_row(row: &KeyRule, word: &str) -> Option<SweptKey>
     }
     match row.kind {
         Kind::Whole { .. } | Kind::Switch => top_key(row.key, word),
-        Kind::Table(section) => named_in_table(row.key, section.rows(Version::Three), word),
+        Kind::Table(section) => named_in_table(row.key, section.rows(Version::Four), word),
         Kind::Text | Kind::List(_) => None,
     }
 }

@@ -1,4 +1,4 @@
-//! The plan of a sweep: its keys, values, settings and seeds, and the scenario of each setting.
+//! The plan of a sweep: its keys, values, settings and seeds, and the document of each setting.
 #![tactic(auto)]
 
 mod axes;
@@ -20,7 +20,7 @@ mod values;
 
 pub use axes::axis_end;
 pub use choice::{Choice, choices_text};
-pub use document::{read_with, with_values};
+pub use document::with_values;
 pub use fault::PlanFault;
 pub use items::ItemName;
 pub use keys::SweptKey;

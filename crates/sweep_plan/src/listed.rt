@@ -17,7 +17,7 @@ pub(crate) fn listed_key(word: &[u8]) -> Option<SweptKey>
     ensures some { IfSome result (IsNamedIn listed word.now) }
     ensures none { IsNone result → NamesNone listed word.now }
 {
-    key_of_lists(Section::Top.rows(Version::Three), word)
+    key_of_lists(Section::Top.rows(Version::Four), word)
 }
 
 /// The key of this name among those that rows of the whole text give to items.
@@ -39,7 +39,7 @@ fn key_of_list(row: &KeyRule, word: &[u8]) -> Option<SweptKey>
     ensures none { IsNone result → NamesNone (keys_of_items row.now) word.now }
 {
     match row.kind {
-        Kind::List(section) => key_in_list(row.key, section.rows(Version::Three), word),
+        Kind::List(section) => key_in_list(row.key, section.rows(Version::Four), word),
         Kind::Whole { .. } | Kind::Switch | Kind::Text | Kind::Table(_) => None,
     }
 }

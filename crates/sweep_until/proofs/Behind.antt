@@ -16,7 +16,7 @@ use Rattle.shards.specs.declared.shard.Shard.{Shard}
 use Rattle.sweep.specs.Runs.{AreMadeBetween, Made}
 use Rattle.sweep.specs.Judged.{AreAccepted}
 use Rattle.sweep.specs.Sums.{sweep_key}
-use Rattle.sweep.specs.Table.{noted_line, counts_revived}
+use Rattle.sweep.specs.Table.{noted_line, columns_of}
 use Rattle.sweep.specs.Shards.{rest_text, shard_header}
 use Rattle.sweep_until.specs.Until.{AreMadeBehind, AreMadeFrom, AreMadeWithFirst, BeginsSettings, BeginsWide, FinishesSetting, HasSettings, IsMadeBehind, all_of, setting_course}
 use Rattle.sweep_until.specs.Shards.{AreSettingsBehind, BeginsRestUntil, CanGoOn, WritesRestUntil, first_setting, rest_settings, settings_in}
@@ -43,15 +43,15 @@ with_first tree sweep width first settings [] made some are = absurd (some refl)
 with_first tree sweep width first settings (note ∷ notes) made some are = are
 
 module _ (tree : Data) (sweep : Sweep) (mark : List ℕ) (p : Shard) (kept begun : ℕ) (before : List Note) (width : ℕ) (wanted : sweep.until ≡ Some width) (some : ¬ (before ≡ []))
-    (there : begun < settings_in sweep p) (headed : length (shard_header (counts_revived tree) mark sweep p) ≤ kept) where
+    (there : begun < settings_in sweep p) (headed : length (shard_header (columns_of tree) mark sweep p) ≤ kept) where
   abbrev first : ℕ
   first = first_setting sweep p + begun
 
   abbrev line : Made → List ℕ
-  line m = noted_line (counts_revived tree) (sweep_key mark sweep) m
+  line m = noted_line (columns_of tree) (sweep_key mark sweep) m
 
   abbrev front : List ℕ
-  front = drop kept (shard_header (counts_revived tree) mark sweep p)
+  front = drop kept (shard_header (columns_of tree) mark sweep p)
 
   -- the settings behind it
   abbrev AreOthers : List (List Made) → Type 0
@@ -73,9 +73,9 @@ module _ (tree : Data) (sweep : Sweep) (mark : List ℕ) (p : Shard) (kept begun
       })
 
   -- their lines come behind its own, since the first line stands there whole
-  text_is : (one : List Made) (others : List (List Made)) → flat_map line one ++ (front ++ flat_map line (all_of others)) ≡ rest_text (counts_revived tree) mark sweep p kept (all_of (one ∷ others))
+  text_is : (one : List Made) (others : List (List Made)) → flat_map line one ++ (front ++ flat_map line (all_of others)) ≡ rest_text (columns_of tree) mark sweep p kept (all_of (one ∷ others))
   text_is one others =
-      let none : front ≡ [] = nothing_left front (omega (arith, length-drop kept (shard_header (counts_revived tree) mark sweep p), headed)) in
+      let none : front ≡ [] = nothing_left front (omega (arith, length-drop kept (shard_header (columns_of tree) mark sweep p), headed)) in
       ap (λ l. flat_map line one ++ (l ++ flat_map line (all_of others))) none ∙ sym (flat_map-append line one (all_of others)) ∙ ap (λ l. l ++ flat_map line (one ++ all_of others)) (sym none)
 
   module _ (old mid new : Option (List ℕ)) (finishes : FinishesSetting tree sweep (sweep_key mark sweep) width first before old mid) where
@@ -117,7 +117,7 @@ module _ (tree : Data) (sweep : Sweep) (mark : List ℕ) (p : Shard) (kept begun
         let count = settings_in sweep p - (begun + 1) in
         let others = settings_left tree sweep one exists ok width count (first_setting sweep p + (begun + 1)) 0 count [] (omega arith) (omega (arith, there, within)) tt in
         let made = lines.made ++ rest.0 in
-        let text : flat_map line lines.made ++ (flat_map line rest.0 ++ (front ++ flat_map line (all_of others.0))) ≡ rest_text (counts_revived tree) mark sweep p kept (all_of (made ∷ others.0)) =
+        let text : flat_map line lines.made ++ (flat_map line rest.0 ++ (front ++ flat_map line (all_of others.0))) ≡ rest_text (columns_of tree) mark sweep p kept (all_of (made ∷ others.0)) =
         sym (append_assoc (flat_map line lines.made) (flat_map line rest.0) (front ++ flat_map line (all_of others.0)))
         ∙ ap (λ l. l ++ (front ++ flat_map line (all_of others.0))) (sym (flat_map-append line lines.made rest.0)) ∙ text_is made others.0 in
         record {

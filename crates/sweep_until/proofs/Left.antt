@@ -48,7 +48,7 @@ module _ (tree : Data) (sweep : Sweep) (one : OneRun) (exists : (s : Setup) → 
       let p = get_or all number (planned_as [] None) in
       let here : IsAccepted tree p = All-get_or (IsAccepted tree) all number _ within ok in
       let run = exists here.0 here.2 in
-      (p, record { setting = p.setting; scenario = here.0; rows = run.0 }, slice_get-get_or all number _ within, record { same = refl; accepted = here.1; run = run.1 })
+      (p, record { setting = p.setting; scenario = here.0; rows = run.0; tick = here.3.0 }, slice_get-get_or all number _ within, record { same = refl; accepted = here.1; run = run.1; timed = here.3.1 })
 
   module _ (number : ℕ) (low : number < setting_count sweep.swept_keys) (before : List Note) where
     abbrev first : ℕ

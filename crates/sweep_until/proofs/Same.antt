@@ -9,9 +9,11 @@ use Rattle.scenario.specs.Setup.{Setup, IsSound}
 use Rattle.trace.specs.declared.row.Row.{Row}
 use Rattle.member_laws.specs.Runs.{IsRunOf}
 use Rattle.sweep_plan.specs.Sweep.{Sweep, run_count}
-use Rattle.sweep.specs.Runs.{Planned, Made, IsMadeAs, AreMadeBetween, runs_between, runs_of}
+use Rattle.text_reader.proofs.One.{one_answer}
+use Rattle.sweep.specs.Runs.{Planned, Made, IsMadeAs, AreMadeBetween, document_of, runs_between, runs_of}
 use Rattle.sweep.specs.Judged.{IsAccepted, AreAccepted}
 use Rattle.sweep.proofs.Steps.{zipped_long}
+use Rattle.sweep.proofs.Ticks.{one_tick}
 use Rattle.sweep.proofs.Flat.{runs_counted}
 
 pub zip_taken : {X Y : Type 0} (R : X → Y → Type 0) (n : ℕ) (xs : List X) (ys : List Y) → AllZip R xs ys → AllZip R (take n xs) (take n ys)
@@ -31,10 +33,12 @@ module _ (tree : Data) (one : OneRun) where
   same_run : (p : Planned) (a b : Made) → IsAccepted tree p → IsMadeAs tree p a → IsMadeAs tree p b → a ≡ b
   same_run p a b ok x y =
       let settings : a.setting ≡ b.setting = x.same ∙ sym y.same in
-      let scenarios : a.scenario ≡ b.scenario = same_ok a.scenario b.scenario (sym x.accepted ∙ y.accepted) in
-      let sound : IsSound a.scenario = subst IsSound (same_ok ok.0 a.scenario (sym ok.1 ∙ x.accepted)) ok.2 in
+      let document = document_of tree p in
+      let scenarios : a.scenario ≡ b.scenario = same_ok a.scenario b.scenario (one_answer document (Ok a.scenario) (Ok b.scenario) x.accepted y.accepted) in
+      let sound : IsSound a.scenario = subst IsSound (same_ok ok.0 a.scenario (one_answer document (Ok ok.0) (Ok a.scenario) ok.1 x.accepted)) ok.2 in
       let rows : a.rows ≡ b.rows = one a.scenario a.rows b.rows sound x.run (subst (λ s. IsRunOf s b.rows) (sym scenarios) y.run) in
-      (λ i. record { setting = settings i; scenario = scenarios i; rows = rows i })
+      let ticks : a.tick ≡ b.tick = one_tick tree a.tick b.tick x.timed y.timed in
+      (λ i. record { setting = settings i; scenario = scenarios i; rows = rows i; tick = ticks i })
 
   same_runs : (xs : List Planned) (a b : List Made) → All (IsAccepted tree) xs → AllZip (IsMadeAs tree) xs a → AllZip (IsMadeAs tree) xs b → a ≡ b
   same_runs [] [] [] ok x y = refl

@@ -18,7 +18,7 @@ use Rattle.figures.specs.Settings.{IsSummaryOf}
 use Rattle.figures.specs.Notes.{Note}
 use Rattle.sweep.specs.Runs.{AreMadeBetween, Made, noted}
 use Rattle.sweep.specs.Judged.{AreAccepted}
-use Rattle.sweep.specs.Table.{noted_line, counts_revived}
+use Rattle.sweep.specs.Table.{noted_line, columns_of}
 use Rattle.sweep.proofs.Steps.{none_between}
 use Rattle.sweep_until.specs.Kept.{AreKept, runs_in}
 use Rattle.sweep_until.specs.Until.{AreMadeFrom, BeginsSettings, BeginsWide, AreTooFew, GoesOn, HasSettings, HasEnded, MakesSetting, Stretch, SumsUp, all_of, setting_course, IsWide, is_narrow_of, stretch_text}
@@ -29,7 +29,7 @@ use Rattle.sweep_until.proofs.Left.{setting_within, settings_left, filled, one_s
 
 module _ (tree : Data) (sweep : Sweep) (stretch : Stretch) where
   abbrev line : Made → List ℕ
-  line m = noted_line (counts_revived tree) stretch.key m
+  line m = noted_line (columns_of tree) stretch.key m
 
   abbrev front : List ℕ
   front = stretch.front

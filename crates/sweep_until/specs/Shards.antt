@@ -11,7 +11,7 @@ use Rattle.shards.specs.declared.shard.Shard.{Shard}
 use Rattle.shards.specs.Shards.{first_run, past_run, whole}
 use Rattle.sweep.specs.Runs.{Made}
 use Rattle.sweep.specs.Sums.{sweep_key}
-use Rattle.sweep.specs.Table.{counts_revived}
+use Rattle.sweep.specs.Table.{columns_of}
 use Rattle.sweep.specs.Shards.{rest_text, shard_header}
 use Rattle.sweep_until.specs.Until.{AreMadeBehind, AreTooFew, BeginsSettings, HasSettings, Stretch, all_of}
 
@@ -33,7 +33,7 @@ pub record CanGoOn (sweep : Sweep) (p : Shard) (header : List ℕ) (kept setting
 abbrev pub rest_settings : Data → List ℕ → Sweep → Shard → ℕ → ℕ → Stretch
 rest_settings tree mark sweep p kept settings = record {
   key = sweep_key mark sweep;
-  front = drop kept (shard_header (counts_revived tree) mark sweep p);
+  front = drop kept (shard_header (columns_of tree) mark sweep p);
   first = first_setting sweep p + settings;
   settings = settings_in sweep p - settings;
 }
@@ -48,7 +48,7 @@ pub record WritesRestUntil (tree : Data) (mark : List ℕ) (sweep : Sweep) (p : 
   pub wanted : sweep.until ≡ Some width
   pub made : List (List Made)
   pub are : AreSettingsBehind tree sweep width p settings before made
-  pub written : Appends old new (rest_text (counts_revived tree) mark sweep p kept (all_of made))
+  pub written : Appends old new (rest_text (columns_of tree) mark sweep p kept (all_of made))
 
 -- a beginning of that was
 pub record BeginsRestUntil (tree : Data) (mark : List ℕ) (sweep : Sweep) (p : Shard) (kept settings : ℕ) (before : List Note) (old new : Option (List ℕ)) : Type 0 where
@@ -56,7 +56,7 @@ pub record BeginsRestUntil (tree : Data) (mark : List ℕ) (sweep : Sweep) (p : 
   pub wanted : sweep.until ≡ Some width
   pub made : List (List Made)
   pub are : AreSettingsBehind tree sweep width p settings before made
-  pub written : AppendsBeginning old new (rest_text (counts_revived tree) mark sweep p kept (all_of made))
+  pub written : AppendsBeginning old new (rest_text (columns_of tree) mark sweep p kept (all_of made))
 
 -- all settings were made: those of the only shard, whose table was appended, and each is summed up
 abbrev pub MakesUntil : Data → List ℕ → Sweep → ℕ → Option (List ℕ) → Option (List ℕ) → List SettingSummary → Type 0

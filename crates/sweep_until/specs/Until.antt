@@ -9,7 +9,7 @@ use Rattle.figures.specs.declared.summary.SettingSummary.{SettingSummary}
 use Rattle.figures.specs.Settings.{IsSummaryOf, runs_with}
 use Rattle.figures.specs.Notes.{Note}
 use Rattle.sweep.specs.Runs.{Made, AreMadeBetween, noted}
-use Rattle.sweep.specs.Table.{Course, BeginsLines, noted_line, counts_revived}
+use Rattle.sweep.specs.Table.{Course, BeginsLines, noted_line, columns_of}
 use Rattle.sweep.specs.Summaries.{HasCome}
 use Rattle.sweep_until.specs.Widths.{is_narrow}
 use Rattle.sweep_until.specs.Kept.{AreKept}
@@ -79,7 +79,7 @@ pub record Stretch : Type 0 where
 
 -- what is put, with the lines of the runs of these settings
 abbrev pub stretch_text : Data → Stretch → List (List Made) → List ℕ
-stretch_text tree stretch made = stretch.front ++ flat_map (noted_line (counts_revived tree) stretch.key) (all_of made)
+stretch_text tree stretch made = stretch.front ++ flat_map (noted_line (columns_of tree) stretch.key) (all_of made)
 
 -- so many settings were made, their lines were appended, and each is summed up
 pub record HasSettings (tree : Data) (sweep : Sweep) (width : ℕ) (stretch : Stretch) (old new : Option (List ℕ)) (number : ℕ) (settings : List SettingSummary) : Type 0 where
@@ -128,7 +128,7 @@ pub record BeginsWide (tree : Data) (sweep : Sweep) (width : ℕ) (before : List
 pub record MakesSetting (tree : Data) (sweep : Sweep) (key : List ℕ) (width number : ℕ) (before : List Note) (old new : Option (List ℕ)) (setting : SettingSummary) : Type 0 where
   pub made : List Made
   pub are : IsMadeBehind tree sweep width number before made
-  pub written : Appends old new (flat_map (noted_line (counts_revived tree) key) made)
+  pub written : Appends old new (flat_map (noted_line (columns_of tree) key) made)
   pub summed : IsSummaryOf setting (before ++ map noted made)
 
 -- they were, whatever their summary

@@ -5,7 +5,7 @@ ghost use Rattle.run_output.specs.Written.{sink_failures};
 ghost use Rattle.shards.specs.Shards.{IsShard, whole};
 ghost use Rattle.sweep.specs.Judged.{AreAccepted};
 ghost use Rattle.sweep.specs.Runs.{IsAskedFor};
-ghost use Rattle.sweep.specs.Table.{HasCause, counts_revived};
+ghost use Rattle.sweep.specs.Table.{HasCause, columns_of};
 ghost use Rattle.sweep.specs.Shards.{shard_header};
 ghost use Rattle.sweep.specs.Sums.{sweep_key};
 ghost use Rattle.sweep_plan.specs.Sweep.{seed_count};
@@ -23,7 +23,7 @@ use shards::Shard;
 use std::alloc::Global;
 use std::marker::Sync;
 use std::thread::Threads;
-use sweep::{Begun, Progress, counts_revived, sweep_key, write_front_behind};
+use sweep::{Begun, Progress, columns_of, sweep_key, write_front_behind};
 use sweep_plan::Plan;
 use toml::Value;
 use trace::Sink;
@@ -106,7 +106,7 @@ pub fn write_table_until<S: Sink, P: Progress>(
     requires judged { AreAccepted (view document.now) plan.now }
     requires shard { IsShard shard }
     requires wanted { is_some plan.now.until ≡ true }
-    requires begun { CanGoOn plan.now shard (shard_header (counts_revived (view document.now)) mark.now plan.now shard) begun.now.kept begun.now.count begun.now.started.items }
+    requires begun { CanGoOn plan.now shard (shard_header (columns_of (view document.now)) mark.now plan.now shard) begun.now.kept begun.now.count begun.now.started.items }
     requires countable { S.failed table.old < 2 ^ 63 }
 
     // How many workers there are doesn't count.
@@ -161,7 +161,7 @@ fn write_open<S: Sink, P: Progress>(
     requires judged { AreAccepted (view document.now) plan.now }
     requires shard { IsShard shard }
     requires wanted { plan.now.until ≡ Some width }
-    requires begun { CanGoOn plan.now shard (shard_header (counts_revived (view document.now)) mark.now plan.now shard) begun.now.kept begun.now.count begun.now.started.items }
+    requires begun { CanGoOn plan.now shard (shard_header (columns_of (view document.now)) mark.now plan.now shard) begun.now.kept begun.now.count begun.now.started.items }
     requires some { begun.now.started.items ≢ [] }
     requires countable { S.failed table.old < 2 ^ 63 }
     ensures whole { OnOk result (WritesRestUntil (view document.now) mark.now plan.now shard begun.now.kept begun.now.count begun.now.started.items
@@ -282,15 +282,7 @@ fn write_settings<S: Sink, P: Progress>(
     a_run_exists();
     the_run_is_one();
     let key = sweep_key(alloc, plan, mark)?;
-    write_front_behind(
-        alloc,
-        plan,
-        shard,
-        mark,
-        kept,
-        counts_revived(document),
-        table,
-    )?;
+    write_front_behind(alloc, plan, shard, mark, kept, columns_of(document), table)?;
     make_settings(
         rt, alloc, plan, &key, width, document, workers, from, till, &part, settings, table,
     )?;

@@ -1,8 +1,9 @@
 -- What the first line of a text says is one.
-use Rattle.std.proofs.Common.{◌≡◌, ◌∙◌, ◌<◌, ◌≤◌, ◌^◌, ℕ, Bool, List, ◌++◌, refl, sym, ap, subst, arith, append_assoc}
+use Rattle.std.proofs.Common.{◌≡◌, ◌∙◌, ◌<◌, ◌≤◌, ◌^◌, ℕ, List, ◌++◌, refl, sym, ap, subst, arith, append_assoc}
 use Rattle.std.specs.Prelude.{Option, Some, None, Vec}
 use Rattle.std.specs.declared.alloc.Global.{Global}
 use Rattle.std.proofs.lemmas.Option.{none-some, same_Some}
+use Rattle.figures.specs.declared.column_set.ColumnSet.{ColumnSet}
 use Rattle.figures.specs.Lines.{header_line}
 use Rattle.sweep_plan.specs.Sweep.{Sweep, run_count}
 use Rattle.sweep_plan.specs.Asked.{AsksForSeeds, seeds_text}
@@ -13,34 +14,34 @@ use Rattle.shards.specs.Names.{head_cell}
 use Rattle.sweep.specs.Runs.{IsAskedFor}
 use Rattle.sweep.specs.Table.{names_of}
 use Rattle.shard_merge.specs.Reasons.{BeginsAs}
-use Rattle.shard_merge.proofs.Columns.{behind_header, same_revived}
+use Rattle.shard_merge.proofs.Columns.{behind_header, same_columns}
 use Rattle.shard_merge.proofs.PlacesMore.{one_text}
 use Rattle.shard_merge.proofs.SameSweep.{same_heads}
 use Rattle.table_merge.specs.Seeds.{with_seeds}
 use Rattle.table_merge.specs.Found.{BeginsAsTable, IsTableAt}
 
 -- two first lines of one text are one, and so is what comes behind them
-pub record AreOne (mark other : List ℕ) (revived revived_too : Bool) (s t : Sweep) (p q : Shard) (x y : List ℕ) : Type 0 where
+pub record AreOne (mark other : List ℕ) (columns columns_too : ColumnSet) (s t : Sweep) (p q : Shard) (x y : List ℕ) : Type 0 where
   pub marks : mark ≡ other
-  pub column : revived ≡ revived_too
+  pub column : columns ≡ columns_too
   pub sweep : s ≡ t
   pub shard : p ≡ q
   pub rest : x ≡ y
 
-pub one_head : (text mark other : List ℕ) (revived revived_too : Bool) (s t : Sweep) (p q : Shard) (a : BeginsAs text mark revived s p) (b : BeginsAs text other revived_too t q)
-    → AreOne mark other revived revived_too s t p q a.rest b.rest
-one_head text mark other revived revived_too s t p q a b =
-    let same = same_heads mark other s t p q (header_line revived (names_of s.swept_keys) ++ a.rest) (header_line revived_too (names_of t.swept_keys) ++ b.rest) a.marked b.marked a.asked b.asked a.sound b.sound
-    (sym (append_assoc (head_cell mark s p) (header_line revived (names_of s.swept_keys)) a.rest) ∙ sym a.written ∙ b.written
-    ∙ append_assoc (head_cell other t q) (header_line revived_too (names_of t.swept_keys)) b.rest) in
-    let rest : header_line revived (names_of s.swept_keys) ++ a.rest ≡ header_line revived_too (names_of s.swept_keys) ++ b.rest =
-    same.rest ∙ ap (λ (z : Sweep). header_line revived_too (names_of z.swept_keys) ++ b.rest) (sym same.sweep) in
+pub one_head : (text mark other : List ℕ) (columns columns_too : ColumnSet) (s t : Sweep) (p q : Shard) (a : BeginsAs text mark columns s p) (b : BeginsAs text other columns_too t q)
+    → AreOne mark other columns columns_too s t p q a.rest b.rest
+one_head text mark other columns columns_too s t p q a b =
+    let same = same_heads mark other s t p q (header_line columns (names_of s.swept_keys) ++ a.rest) (header_line columns_too (names_of t.swept_keys) ++ b.rest) a.marked b.marked a.asked b.asked a.sound b.sound
+    (sym (append_assoc (head_cell mark s p) (header_line columns (names_of s.swept_keys)) a.rest) ∙ sym a.written ∙ b.written
+    ∙ append_assoc (head_cell other t q) (header_line columns_too (names_of t.swept_keys)) b.rest) in
+    let rest : header_line columns (names_of s.swept_keys) ++ a.rest ≡ header_line columns_too (names_of s.swept_keys) ++ b.rest =
+    same.rest ∙ ap (λ (z : Sweep). header_line columns_too (names_of z.swept_keys) ++ b.rest) (sym same.sweep) in
     record {
       marks = same.marks;
-      column = same_revived revived revived_too (names_of s.swept_keys) a.rest b.rest rest;
+      column = same_columns columns columns_too (names_of s.swept_keys) a.rest b.rest rest;
       sweep = same.sweep;
       shard = same.shard;
-      rest = behind_header revived revived_too (names_of s.swept_keys) a.rest b.rest rest;
+      rest = behind_header columns columns_too (names_of s.swept_keys) a.rest b.rest rest;
     }
 
 -- sweeps that are one have one range of seeds
@@ -51,14 +52,14 @@ one_range s t r q same = same_Some r q (ap (λ (z : Sweep). z.seeds) same)
 pub again_with : (s t : Sweep) (r : Seeds) → s ≡ with_seeds t r → s ≡ with_seeds s r
 again_with s t r is = is ∙ ap (λ (z : Sweep). with_seeds z r) (sym is)
 
-pub table_range : (text mark : List ℕ) (revived : Bool) (sweep : Sweep) (r q : Seeds) → BeginsAsTable text mark revived sweep r → BeginsAsTable text mark revived sweep q → r ≡ q
-table_range text mark revived sweep r q a b =
-    one_range sweep sweep r q (one_head text mark mark revived revived (with_seeds sweep r) (with_seeds sweep q) whole whole a b).sweep
+pub table_range : (text mark : List ℕ) (columns : ColumnSet) (sweep : Sweep) (r q : Seeds) → BeginsAsTable text mark columns sweep r → BeginsAsTable text mark columns sweep q → r ≡ q
+table_range text mark columns sweep r q a b =
+    one_range sweep sweep r q (one_head text mark mark columns columns (with_seeds sweep r) (with_seeds sweep q) whole whole a b).sweep
 
-pub range_at : (texts : List (Vec ℕ Global)) (mark : List ℕ) (revived : Bool) (sweep : Sweep) (place : ℕ) (r q : Seeds) → IsTableAt texts mark revived sweep place r
-    → IsTableAt texts mark revived sweep place q → r ≡ q
-range_at texts mark revived sweep place r q a b =
-    table_range a.text mark revived sweep r q a.begins (subst (λ t. BeginsAsTable t mark revived sweep q) (one_text texts place a.text b.text a.there b.there) b.begins)
+pub range_at : (texts : List (Vec ℕ Global)) (mark : List ℕ) (columns : ColumnSet) (sweep : Sweep) (place : ℕ) (r q : Seeds) → IsTableAt texts mark columns sweep place r
+    → IsTableAt texts mark columns sweep place q → r ≡ q
+range_at texts mark columns sweep place r q a b =
+    table_range a.text mark columns sweep r q a.begins (subst (λ t. BeginsAsTable t mark columns sweep q) (one_text texts place a.text b.text a.there b.there) b.begins)
 
 -- the only shard of a sweep
 pub only_shard : (p : Shard) → IsShard p → p.of ≡ 1 → p ≡ whole

@@ -1,5 +1,5 @@
 -- The lines of a table that was found.
-use Rattle.std.proofs.Common.{◌≡◌, ◌∙◌, ◌<◌, ◌≤◌, ◌+◌, ◌-◌, ◌*◌, ◌^◌, ℕ, Bool, List, [], ◌∷◌, ◌++◌, length, get_or, map, take, drop, refl, sym, ap, subst, arith}
+use Rattle.std.proofs.Common.{◌≡◌, ◌∙◌, ◌<◌, ◌≤◌, ◌+◌, ◌-◌, ◌*◌, ◌^◌, ℕ, List, [], ◌∷◌, ◌++◌, length, get_or, map, take, drop, refl, sym, ap, subst, arith}
 use Rattle.std.specs.Prelude.{All, Vec, Some, None}
 use Rattle.std.specs.Borrow.{Bor}
 use Rattle.std.specs.List.{AllZip, flat_map}
@@ -33,6 +33,7 @@ use Rattle.table_merge.specs.Tables.{AreRead, IsRead, starts_in}
 use Rattle.table_merge.specs.declared.finding.Found.{Found}
 use Rattle.table_merge.specs.declared.lines.Table.{Table}
 use Rattle.table_merge.proofs.Ones.{asked_range}
+use Rattle.figures.specs.declared.column_set.ColumnSet.{ColumnSet}
 
 -- ---- where lines begin
 
@@ -57,34 +58,34 @@ starts_read text left starts at count counted none so =
 
 -- ---- a first line in other words
 
-pub begins_along : (text text2 mark mark2 : List ℕ) (revived revived2 : Bool) (s s2 : Sweep) (p p2 : Shard) → text ≡ text2 → mark ≡ mark2 → revived ≡ revived2 → s ≡ s2 → p ≡ p2
-    → BeginsAs text mark revived s p → BeginsAs text2 mark2 revived2 s2 p2
-begins_along text text2 mark mark2 revived revived2 s s2 p p2 a b c d e begins =
-    subst (λ t. BeginsAs t mark2 revived2 s2 p2) a
-    (subst (λ m. BeginsAs text m revived2 s2 p2) b (subst (λ r. BeginsAs text mark r s2 p2) c (subst (λ z. BeginsAs text mark revived z p2) d (subst (λ q. BeginsAs text mark revived s q) e begins))))
+pub begins_along : (text text2 mark mark2 : List ℕ) (columns columns2 : ColumnSet) (s s2 : Sweep) (p p2 : Shard) → text ≡ text2 → mark ≡ mark2 → columns ≡ columns2 → s ≡ s2 → p ≡ p2
+    → BeginsAs text mark columns s p → BeginsAs text2 mark2 columns2 s2 p2
+begins_along text text2 mark mark2 columns columns2 s s2 p p2 a b c d e begins =
+    subst (λ t. BeginsAs t mark2 columns2 s2 p2) a
+    (subst (λ m. BeginsAs text m columns2 s2 p2) b (subst (λ r. BeginsAs text mark r s2 p2) c (subst (λ z. BeginsAs text mark columns z p2) d (subst (λ q. BeginsAs text mark columns s q) e begins))))
 
 -- ---- one table
 
 share_whole : (total : ℕ) → share total whole ≡ total
 share_whole total = omega (arith, first_of_whole total, past_of_whole total)
 
-module _ (texts : List (Vec ℕ Global)) (mark : List ℕ) (revived : Bool) (sweep : Sweep) (place : ℕ) (r : Seeds) (table : IsTableAt texts mark revived sweep place r) where
+module _ (texts : List (Vec ℕ Global)) (mark : List ℕ) (columns : ColumnSet) (sweep : Sweep) (place : ℕ) (r : Seeds) (table : IsTableAt texts mark columns sweep place r) where
   abbrev own : Sweep
   own = with_seeds sweep r
 
   abbrev key : LineKey
-  key = line_key revived None mark own
+  key = line_key columns None mark own
 
   abbrev header : List ℕ
-  header = shard_header revived mark own whole
+  header = shard_header columns mark own whole
 
-  abbrev begins_so : (rest : List ℕ) → table.text ≡ header ++ rest → BeginsAs table.text mark revived own whole
+  abbrev begins_so : (rest : List ℕ) → table.text ≡ header ++ rest → BeginsAs table.text mark columns own whole
   begins_so rest is = record { asked = table.begins.asked; marked = table.begins.marked; sound = table.begins.sound; rest = rest; written = is }
 
   pub torn_table : (rest : List ℕ) → table.text ≡ header ++ rest → ¬ (AreLines rest (run_count own) × AreLinesOf key own 0 rest (run_count own)) → IsTorn texts place
   torn_table rest is none = record {
     mark = mark;
-    revived = revived;
+    columns = columns;
     sweep = own;
     p = whole;
     text = table.text;
@@ -101,7 +102,7 @@ module _ (texts : List (Vec ℕ Global)) (mark : List ℕ) (revived : Bool) (swe
   pub lines_refused : (f : JoinFault) → RefusesLines table.text header place f → IsOfShards texts f
   lines_refused (shards.Older at) h = subst (IsOlderAt texts) (sym h.0) (record {
     mark = mark;
-    revived = revived;
+    columns = columns;
     sweep = own;
     p = whole;
     text = table.text;
@@ -111,7 +112,7 @@ module _ (texts : List (Vec ℕ Global)) (mark : List ℕ) (revived : Bool) (swe
   })
   lines_refused (shards.Torn at) h = subst (IsTorn texts) (sym h.0) (record {
     mark = mark;
-    revived = revived;
+    columns = columns;
     sweep = own;
     p = whole;
     text = table.text;
@@ -129,7 +130,7 @@ module _ (texts : List (Vec ℕ Global)) (mark : List ℕ) (revived : Bool) (swe
   lines_refused (shards.Missing number) h = absurd h
 
   pub table_read : (rest : List ℕ) (starts : List (List ℕ)) (f : Found) (t : Table) → table.text ≡ header ++ rest → AreGenuine key own rest (run_count own) starts → f.seeds ≡ r → t.seeds ≡ f.seeds
-      → starts ≡ (starts_in t).things → IsRead texts mark revived sweep f t
+      → starts ≡ (starts_in t).things → IsRead texts mark columns sweep f t
   table_read rest starts f t is genuine found same begins =
       let lines = genuine.read.are.items in
       let all : rest ≡ flat_map shard_line lines = genuine.read.are.written in
@@ -137,7 +138,7 @@ module _ (texts : List (Vec ℕ Global)) (mark : List ℕ) (revived : Bool) (swe
       record {
         lines = lines;
         same = same;
-        is = subst (λ (q : Seeds). IsRangeTable texts mark revived sweep (record { seeds = q; things = lines })) (sym found) (record {
+        is = subst (λ (q : Seeds). IsRangeTable texts mark columns sweep (record { seeds = q; things = lines })) (sym found) (record {
           asked = table.begins.asked;
           there = among texts place table.text _ table.there (is ∙ ap (λ l. header ++ l) all);
           many = many;
@@ -155,9 +156,9 @@ have_lines (s ∷ ss) [] all sound = absurd all
 have_lines (s ∷ ss) (l ∷ ls) all sound =
     All-cons HasLine s ss (all.0.0, record { one = l; sound = All-head IsLine l ls sound; written = all.0.1 }) (have_lines ss ls all.1 (All-tail IsLine l ls sound))
 
-pub full_read : (texts : List (Vec ℕ Global)) (mark : List ℕ) (revived : Bool) (sweep : Sweep) (f : Found) (t : Table) → IsRead texts mark revived sweep f t
+pub full_read : (texts : List (Vec ℕ Global)) (mark : List ℕ) (columns : ColumnSet) (sweep : Sweep) (f : Found) (t : Table) → IsRead texts mark columns sweep f t
     → IsFull (setting_count sweep.swept_keys) (starts_in t)
-full_read texts mark revived sweep f t read =
+full_read texts mark columns sweep f t read =
     let range = asked_range (with_seeds sweep f.seeds) sweep f.seeds read.is.asked refl in
     let long = AllZip-long BeginsWithIt (starts_in t).things read.lines read.begin in
     let many = read.is.many in
@@ -169,13 +170,13 @@ full_read texts mark revived sweep f t read =
       begin = have_lines (starts_in t).things read.lines read.begin read.is.sound;
     }
 
-pub all_full : (texts : List (Vec ℕ Global)) (mark : List ℕ) (revived : Bool) (sweep : Sweep) (found : List Found) (tables : List Table) → AllZip (IsRead texts mark revived sweep) found tables
+pub all_full : (texts : List (Vec ℕ Global)) (mark : List ℕ) (columns : ColumnSet) (sweep : Sweep) (found : List Found) (tables : List Table) → AllZip (IsRead texts mark columns sweep) found tables
     → All (IsFull (setting_count sweep.swept_keys)) (map starts_in tables)
-all_full texts mark revived sweep [] [] all = All-nil (IsFull (setting_count sweep.swept_keys))
-all_full texts mark revived sweep [] (t ∷ ts) all = absurd all
-all_full texts mark revived sweep (f ∷ fs) [] all = absurd all
-all_full texts mark revived sweep (f ∷ fs) (t ∷ ts) all =
-    All-cons (IsFull (setting_count sweep.swept_keys)) (starts_in t) (map starts_in ts) (full_read texts mark revived sweep f t all.0) (all_full texts mark revived sweep fs ts all.1)
+all_full texts mark columns sweep [] [] all = All-nil (IsFull (setting_count sweep.swept_keys))
+all_full texts mark columns sweep [] (t ∷ ts) all = absurd all
+all_full texts mark columns sweep (f ∷ fs) [] all = absurd all
+all_full texts mark columns sweep (f ∷ fs) (t ∷ ts) all =
+    All-cons (IsFull (setting_count sweep.swept_keys)) (starts_in t) (map starts_in ts) (full_read texts mark columns sweep f t all.0) (all_full texts mark columns sweep fs ts all.1)
 
 -- where the lines of a setting begin
 pub slice_starts : (number each n : ℕ) (items other : List (Bor (List ℕ))) → each ≡ n → other ≡ items
@@ -186,19 +187,19 @@ slice_starts number each n items other many same =
     (λ i. map now (take (width i) (drop (number * many i) (same i)))) ∙ sym (take-map now n (drop (number * n) items)) ∙ ap (take n) (sym (drop-map now (number * n) items))
 
 -- one table more is read
-pub read_more : (texts : List (Vec ℕ Global)) (mark : List ℕ) (revived : Bool) (sweep : Sweep) (found : List Found) (i : ℕ) (d : Found) (tables more : List Table) (t : Table) → i < length found
-    → AreRead texts mark revived sweep (take i found) tables → IsRead texts mark revived sweep (get_or found i d) t → more ≡ tables ++ t ∷ [] → AreRead texts mark revived sweep (take (i + 1) found) more
-read_more texts mark revived sweep found i d tables more t within so one is =
-    subst (λ fs. AreRead texts mark revived sweep fs more) (sym (take_more found i d within))
-    (subst (AreRead texts mark revived sweep (take i found ++ get_or found i d ∷ [])) (sym is)
-    (all_zipped_more (IsRead texts mark revived sweep) (take i found) tables (get_or found i d) t so one))
+pub read_more : (texts : List (Vec ℕ Global)) (mark : List ℕ) (columns : ColumnSet) (sweep : Sweep) (found : List Found) (i : ℕ) (d : Found) (tables more : List Table) (t : Table) → i < length found
+    → AreRead texts mark columns sweep (take i found) tables → IsRead texts mark columns sweep (get_or found i d) t → more ≡ tables ++ t ∷ [] → AreRead texts mark columns sweep (take (i + 1) found) more
+read_more texts mark columns sweep found i d tables more t within so one is =
+    subst (λ fs. AreRead texts mark columns sweep fs more) (sym (take_more found i d within))
+    (subst (AreRead texts mark columns sweep (take i found ++ get_or found i d ∷ [])) (sym is)
+    (all_zipped_more (IsRead texts mark columns sweep) (take i found) tables (get_or found i d) t so one))
 
 -- ---- what was read of a table, in the words of its first line
 
-module _ (texts : List (Vec ℕ Global)) (mark : List ℕ) (revived : Bool) (sweep : Sweep) (f : Found) (table : IsTableAt texts mark revived sweep f.place f.seeds) (m : List ℕ) (b : Bool) (s : Sweep) (p : Shard)
-    (marks : m ≡ mark) (plan : s ≡ with_seeds sweep f.seeds) (column : b ≡ revived) (shard : p ≡ whole) (text : List ℕ) (there : IsTextAt texts f.place text) where
+module _ (texts : List (Vec ℕ Global)) (mark : List ℕ) (columns : ColumnSet) (sweep : Sweep) (f : Found) (table : IsTableAt texts mark columns sweep f.place f.seeds) (m : List ℕ) (b : ColumnSet) (s : Sweep) (p : Shard)
+    (marks : m ≡ mark) (plan : s ≡ with_seeds sweep f.seeds) (column : b ≡ columns) (shard : p ≡ whole) (text : List ℕ) (there : IsTextAt texts f.place text) where
   abbrev its_header : List ℕ
-  its_header = shard_header revived mark (with_seeds sweep f.seeds) whole
+  its_header = shard_header columns mark (with_seeds sweep f.seeds) whole
 
   same_text : text ≡ table.text
   same_text = one_text texts f.place table.text text table.there there
@@ -207,26 +208,26 @@ module _ (texts : List (Vec ℕ Global)) (mark : List ℕ) (revived : Bool) (swe
   same_header = λ i. shard_header (column i) (marks i) (plan i) (shard i)
 
   pub head_begins : BeginsAs text m b s p
-  head_begins = begins_along table.text text mark m revived b (with_seeds sweep f.seeds) s whole p (sym same_text) (sym marks) (sym column) (sym plan) (sym shard) table.begins
+  head_begins = begins_along table.text text mark m columns b (with_seeds sweep f.seeds) s whole p (sym same_text) (sym marks) (sym column) (sym plan) (sym shard) table.begins
 
   pub head_refused : (fault : JoinFault) → RefusesLines text (shard_header b m s p) f.place fault → IsOfShards texts fault
   head_refused fault refused =
-      lines_refused texts mark revived sweep f.place f.seeds table fault
+      lines_refused texts mark columns sweep f.place f.seeds table fault
       (subst (λ h. RefusesLines table.text h f.place fault) same_header (subst (λ t. RefusesLines t (shard_header b m s p) f.place fault) same_text refused))
 
   module _ (rest : List ℕ) (key : LineKey) (is : text ≡ shard_header b m s p ++ rest) (same_key : key ≡ line_key b None m s) where
     written : table.text ≡ its_header ++ rest
     written = sym same_text ∙ is ∙ ap (λ h. h ++ rest) same_header
 
-    key_is : key ≡ line_key revived None mark (with_seeds sweep f.seeds)
+    key_is : key ≡ line_key columns None mark (with_seeds sweep f.seeds)
     key_is = same_key ∙ (λ i. line_key (column i) None (marks i) (plan i))
 
-    pub head_read : (starts : List (List ℕ)) (t : Table) → AreGenuine key s rest (run_count s) starts → t.seeds ≡ f.seeds → starts ≡ (starts_in t).things → IsRead texts mark revived sweep f t
+    pub head_read : (starts : List (List ℕ)) (t : Table) → AreGenuine key s rest (run_count s) starts → t.seeds ≡ f.seeds → starts ≡ (starts_in t).things → IsRead texts mark columns sweep f t
     head_read starts t genuine same begins =
-        table_read texts mark revived sweep f.place f.seeds table rest starts f t written
+        table_read texts mark columns sweep f.place f.seeds table rest starts f t written
         (subst (λ k. AreGenuine k (with_seeds sweep f.seeds) rest (run_count (with_seeds sweep f.seeds)) starts) key_is (subst (λ (z : Sweep). AreGenuine key z rest (run_count z) starts) plan genuine)) refl same begins
 
     pub head_torn : ¬ (AreLines rest (run_count s) × AreLinesOf key s 0 rest (run_count s)) → IsTorn texts f.place
     head_torn none =
-        torn_table texts mark revived sweep f.place f.seeds table rest written
+        torn_table texts mark columns sweep f.place f.seeds table rest written
         (λ its. none (subst (λ (z : Sweep). AreLines rest (run_count z) × AreLinesOf key z 0 rest (run_count z)) (sym plan) (its.0, subst (λ k. AreLinesOf k (with_seeds sweep f.seeds) 0 rest (run_count (with_seeds sweep f.seeds))) (sym key_is) its.1)))

@@ -7,7 +7,7 @@ use Rattle.sweep_plan.specs.declared.seeds.Seeds.{Seeds}
 use Rattle.shards.specs.Shards.{whole}
 use Rattle.sweep.specs.Runs.{IsAskedFor, Made}
 use Rattle.sweep.specs.Shards.{shard_table}
-use Rattle.sweep.specs.Table.{counts_revived}
+use Rattle.sweep.specs.Table.{columns_of}
 use Rattle.shard_merge.specs.Among.{IsAmongTexts}
 use Rattle.table_merge.specs.Seeds.{part, with_seeds}
 
@@ -21,7 +21,7 @@ pub record IsTableText (tree : Data) (mark : List ℕ) (sweep : Sweep) (all : Se
   pub asked : IsAskedFor (with_seeds sweep seeds)
   pub low : all.first ≤ seeds.first
   pub high : seeds.last ≤ all.last
-  pub written : text ≡ shard_table (counts_revived tree) mark (with_seeds sweep seeds) whole (runs_with sweep all made seeds)
+  pub written : text ≡ shard_table (columns_of tree) mark (with_seeds sweep seeds) whole (runs_with sweep all made seeds)
 
 -- each of the texts is
 abbrev pub AreTables : Data → List (Vec ℕ Global) → List ℕ → Sweep → Seeds → List Made → Type 0

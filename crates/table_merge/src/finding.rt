@@ -38,7 +38,7 @@ pub(crate) fn first_of_several<'a>(
     alloc: Global,
     texts: &'a [Vec<u8>],
 ) -> Result<Option<First<'a>>, JoinFault>
-    ensures some { IfOk result (λ found. IfSome found (λ first. AreSeveral texts.entry.now first.head.mark.now first.head.revived first.head.plan first.seeds)) }
+    ensures some { IfOk result (λ found. IfSome found (λ first. AreSeveral texts.entry.now first.head.mark.now first.head.columns first.head.plan first.seeds)) }
     ensures own { IfOk result (λ found. IfSome found (λ first. first.head.plan ≡ with_seeds first.head.plan first.seeds)) }
     ensures none { IfOk result (λ found. IsNone found → ¬ (HaveSeeds texts.entry.now)) }
     ensures refused { IfErr result (λ fault. IsReason texts.entry.now (MergeFault.Shards fault)) }
@@ -70,9 +70,9 @@ pub(crate) fn tables_of(
     texts: &[Vec<u8>],
     first: &First<'_>,
 ) -> Result<Vec<Found>, MergeFault>
-    requires several { AreSeveral texts.now first.now.head.mark.now first.now.head.revived first.now.head.plan first.now.seeds }
+    requires several { AreSeveral texts.now first.now.head.mark.now first.now.head.columns first.now.head.plan first.now.seeds }
     requires own { first.now.head.plan ≡ with_seeds first.now.head.plan first.now.seeds }
-    ensures found { IfOk result (λ tables. AreFound texts.now first.now.head.mark.now first.now.head.revived first.now.head.plan tables.items (length texts.now)) }
+    ensures found { IfOk result (λ tables. AreFound texts.now first.now.head.mark.now first.now.head.columns first.now.head.plan tables.items (length texts.now)) }
     ensures refused { IfErr result (IsReason texts.now) }
 {
     let mut tables = Vec::new(alloc);
@@ -88,8 +88,8 @@ fn seeds_at(alloc: Global, text: &[u8], first: &First<'_>, place: usize) -> Resu
     requires asked { IsAskedFor first.now.head.plan }
     requires marked { IsMark first.now.head.mark.now }
     requires own { first.now.head.plan ≡ with_seeds first.now.head.plan first.now.seeds }
-    ensures begins { IfOk result (λ seeds. BeginsAsTable text.now first.now.head.mark.now first.now.head.revived first.now.head.plan seeds) }
-    ensures refused { IfErr result (RefusesTable text.now first.now.head.mark.now first.now.head.revived first.now.head.plan place) }
+    ensures begins { IfOk result (λ seeds. BeginsAsTable text.now first.now.head.mark.now first.now.head.columns first.now.head.plan seeds) }
+    ensures refused { IfErr result (RefusesTable text.now first.now.head.mark.now first.now.head.columns first.now.head.plan place) }
 {
     let Ok(words) = from_utf8(text) else {
         return Err(JoinFault::NoShard(place));
@@ -97,7 +97,7 @@ fn seeds_at(alloc: Global, text: &[u8], first: &First<'_>, place: usize) -> Resu
     if number_of(words).is_none() {
         return Err(JoinFault::NoShard(place));
     }
-    let Some(found) = head_of(alloc, words, first.head.revived)? else {
+    let Some(found) = head_of(alloc, words, first.head.columns)? else {
         return Err(JoinFault::Other(place));
     };
     let Some(seeds) = seeds_of(&found) else {
@@ -121,8 +121,8 @@ fn begins_with(
     requires own { first.now.head.plan ≡ with_seeds first.now.head.plan first.now.seeds }
     requires ordered { seeds.first ≤ seeds.last }
     requires low { seeds.last < 2 ^ 63 }
-    ensures begins { IfOk result (λ it. it ≡ true → BeginsAsTable text.now first.now.head.mark.now first.now.head.revived first.now.head.plan seeds) }
-    ensures other { IfOk result (λ it. it ≡ false → ¬ (BeginsAsTable text.now first.now.head.mark.now first.now.head.revived first.now.head.plan seeds)) }
+    ensures begins { IfOk result (λ it. it ≡ true → BeginsAsTable text.now first.now.head.mark.now first.now.head.columns first.now.head.plan seeds) }
+    ensures other { IfOk result (λ it. it ≡ false → ¬ (BeginsAsTable text.now first.now.head.mark.now first.now.head.columns first.now.head.plan seeds)) }
     ensures memory { IfErr result (λ fault. fault ≡ join.Memory) }
 {
     let Some(head) = head_with(alloc, first, seeds)? else {
@@ -142,7 +142,7 @@ pub(crate) fn head_with<'a>(
     requires ordered { seeds.first ≤ seeds.last }
     requires low { seeds.last < 2 ^ 63 }
     ensures some { IfOk result (λ found. IfSome found (λ head. (head.mark.now ≡ first.now.head.mark.now) × (head.plan ≡ with_seeds first.now.head.plan seeds)
-        × (head.revived ≡ first.now.head.revived) × (head.shard ≡ whole))) }
+        × (head.columns ≡ first.now.head.columns) × (head.shard ≡ whole))) }
     ensures asked { IfOk result (λ found. IfSome found (λ head. IsAskedFor head.plan)) }
     ensures many { IfOk result (λ found. IsNone found → 1000000 < run_count (with_seeds first.now.head.plan seeds)) }
     ensures memory { IfErr result (λ fault. fault ≡ join.Memory) }
@@ -152,7 +152,7 @@ pub(crate) fn head_with<'a>(
             shard: Shard::whole(),
             mark: first.head.mark,
             plan,
-            revived: first.head.revived,
+            columns: first.head.columns,
         })),
         None => Ok(None),
     }

@@ -31,7 +31,7 @@ use trace::Sink;
 /// where the seeds of tables don't follow one another, or are those of too many runs.
 pub fn join<S: Sink>(alloc: Global, texts: &[Vec<u8>], table: &mut S) -> Result<Joined, MergeFault>
     requires { S.failed table.old < 2 ^ 63 }
-    ensures joined { IfOk result (λ joined. Joins texts.now (S.held table.old) (S.held table.new) joined.plan joined.revived joined.settings.items) }
+    ensures joined { IfOk result (λ joined. Joins texts.now (S.held table.old) (S.held table.new) joined.plan joined.columns joined.settings.items) }
     ensures few { IfOk result (λ joined. All HasFewRuns joined.settings.items) }
     ensures refused { IfErr result (IsReason texts.now) }
 {
@@ -48,10 +48,10 @@ fn join_seeds<S: Sink>(
     first: &First<'_>,
     table: &mut S,
 ) -> Result<Joined, MergeFault>
-    requires several { AreSeveral texts.now first.now.head.mark.now first.now.head.revived first.now.head.plan first.now.seeds }
+    requires several { AreSeveral texts.now first.now.head.mark.now first.now.head.columns first.now.head.plan first.now.seeds }
     requires own { first.now.head.plan ≡ with_seeds first.now.head.plan first.now.seeds }
     requires countable { S.failed table.old < 2 ^ 63 }
-    ensures joined { IfOk result (λ joined. JoinsSeeds texts.now (S.held table.old) (S.held table.new) joined.plan joined.revived joined.settings.items) }
+    ensures joined { IfOk result (λ joined. JoinsSeeds texts.now (S.held table.old) (S.held table.new) joined.plan joined.columns joined.settings.items) }
     ensures refused { IfErr result (IsReason texts.now) }
 {
     let found = tables_of(alloc, texts, first)?;
@@ -63,10 +63,10 @@ fn join_seeds<S: Sink>(
     put_header(alloc, &head, table)?;
     let settings = put_tables(alloc, &head, &tables, table)?;
     flush(table)?;
-    let revived = head.revived;
+    let columns = head.columns;
     Ok(Joined {
         plan: head.plan,
-        revived,
+        columns,
         settings,
     })
 }
@@ -80,8 +80,8 @@ fn read_tables<'a>(
 ) -> Result<Vec<Table<'a>>, JoinFault>
     requires asked { IsAskedFor first.now.head.plan }
     requires own { first.now.head.plan ≡ with_seeds first.now.head.plan first.now.seeds }
-    requires there { All (IsFound texts.now first.now.head.mark.now first.now.head.revived first.now.head.plan (length texts.now)) found.now }
-    ensures read { IfOk result (λ tables. AreRead texts.entry.now first.now.head.mark.now first.now.head.revived first.now.head.plan found.now tables.items) }
+    requires there { All (IsFound texts.now first.now.head.mark.now first.now.head.columns first.now.head.plan (length texts.now)) found.now }
+    ensures read { IfOk result (λ tables. AreRead texts.entry.now first.now.head.mark.now first.now.head.columns first.now.head.plan found.now tables.items) }
     ensures refused { IfErr result (λ fault. IsReason texts.entry.now (MergeFault.Shards fault)) }
 {
     let mut tables = Vec::new(alloc);
@@ -103,8 +103,8 @@ fn read_table<'a>(
 ) -> Result<Table<'a>, JoinFault>
     requires asked { IsAskedFor first.now.head.plan }
     requires own { first.now.head.plan ≡ with_seeds first.now.head.plan first.now.seeds }
-    requires there { IsTableAt texts.now first.now.head.mark.now first.now.head.revived first.now.head.plan found.place found.seeds }
-    ensures read { IfOk result (IsRead texts.entry.now first.now.head.mark.now first.now.head.revived first.now.head.plan found) }
+    requires there { IsTableAt texts.now first.now.head.mark.now first.now.head.columns first.now.head.plan found.place found.seeds }
+    ensures read { IfOk result (IsRead texts.entry.now first.now.head.mark.now first.now.head.columns first.now.head.plan found) }
     ensures refused { IfErr result (λ fault. IsReason texts.entry.now (MergeFault.Shards fault)) }
 {
     let place = found.place;
@@ -113,7 +113,7 @@ fn read_table<'a>(
         unreachable!()
     };
     let lines = lines_at(alloc, text_at(texts, place), &head, head.shard, place)?;
-    let key = line_key(alloc, &head.plan, head.mark, head.revived, None)?;
+    let key = line_key(alloc, &head.plan, head.mark, head.columns, None)?;
     match genuine_starts(alloc, &head.plan, &key, lines) {
         Ok(starts) => Ok(Table { seeds, starts }),
         Err(LineFault::Torn) => Err(JoinFault::Torn(place)),

@@ -3,7 +3,7 @@ ghost use Rattle.std.specs.Prelude.{IfOk, IfSome};
 ghost use Rattle.shard_merge.specs.Reasons.{BeginsAs};
 
 use base::Memory;
-use shard_merge::{Head, head_of};
+use shard_merge::{Head, head_of_any};
 use shards::{Shard, plan_text};
 use std::alloc::Global;
 use std::str::from_utf8;
@@ -38,19 +38,9 @@ pub(crate) fn told_of<'a>(
 
 /// What the first line of a text says, whichever table it is.
 pub(crate) fn head_in<'a>(alloc: Global, words: &'a str) -> Result<Option<Head<'a>>, Memory>
-    ensures { IfOk result (λ found. IfSome found (λ head. BeginsAs words.entry.now head.mark.now head.revived head.plan head.shard)) }
+    ensures { IfOk result (λ found. IfSome found (λ head. BeginsAs words.entry.now head.mark.now head.columns head.plan head.shard)) }
 {
-    if let Some(head) = head_by(alloc, words, false)? {
-        return Ok(Some(head));
-    }
-    head_by(alloc, words, true)
-}
-
-/// What the first line of a text says, where that is a table which counts, or doesn't, members that were taken for alive again.
-fn head_by<'a>(alloc: Global, words: &'a str, revived: bool) -> Result<Option<Head<'a>>, Memory>
-    ensures { IfOk result (λ found. IfSome found (λ head. BeginsAs words.entry.now head.mark.now head.revived head.plan head.shard)) }
-{
-    match head_of(alloc, words, revived) {
+    match head_of_any(alloc, words) {
         Ok(found) => Ok(found),
         Err(_) => Err(Memory),
     }

@@ -43,12 +43,12 @@ fn words_of(text: &[u8]) -> &str {
 
 /// The number of the line in a text that begins with this first line.
 fn line_behind(alloc: Global, text: &[u8], head: &Head<'_>) -> Result<Option<usize>, Memory>
-    requires { BeginsAs text.now head.now.mark.now head.now.revived head.now.plan head.now.shard }
+    requires { BeginsAs text.now head.now.mark.now head.now.columns head.now.plan head.now.shard }
 {
     let Ok(lines) = lines_at(alloc, text, head, head.shard, 0) else {
         return Ok(None);
     };
-    let key = line_key(alloc, &head.plan, head.mark, head.revived, None)?;
+    let key = line_key(alloc, &head.plan, head.mark, head.columns, None)?;
     match head.plan.until() {
         Some(_) => unsummed_line(alloc, &key, lines.as_bytes()),
         None => unplaced_line(alloc, &head.plan, head.shard, &key, lines.as_bytes()),

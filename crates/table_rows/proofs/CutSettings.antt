@@ -1,5 +1,5 @@
 -- A shard of whole settings that was cut off goes on as the shard that it is.
-use Rattle.std.proofs.Common.{◌≡◌, ◌∙◌, ◌≤◌, ◌+◌, ◌-◌, ◌⊎◌, ℕ, zero, suc, Bool, List, [], ◌∷◌, ◌++◌, Option, Some, inl, inr, length, length-append, map, take, take_at, drop, arith, refl, sym, ap, subst, append_assoc, append-nil}
+use Rattle.std.proofs.Common.{◌≡◌, ◌∙◌, ◌≤◌, ◌+◌, ◌-◌, ◌⊎◌, ℕ, zero, suc, List, [], ◌∷◌, ◌++◌, Option, Some, inl, inr, length, length-append, map, take, take_at, drop, arith, refl, sym, ap, subst, append_assoc, append-nil}
 use Rattle.std.specs.Prelude.{All}
 use Rattle.std.specs.List.{AllZip, flat_map, range_with_len}
 use Rattle.std.specs.Io.KnownBytes.{Appends}
@@ -17,9 +17,10 @@ use Rattle.sweep.specs.declared.summing.LineKey.{LineKey}
 use Rattle.sweep.proofs.Kept.{goes_behind, long_again, short_again}
 use Rattle.sweep.proofs.Numbers.{range_split}
 use Rattle.sweep.specs.declared.begun.BegunFault.TheVariants as begun_fault
+use Rattle.figures.specs.declared.column_set.ColumnSet.{ColumnSet}
 use Rattle.figures.specs.Notes.{Note}
 use Rattle.sweep.specs.Runs.{Made, noted}
-use Rattle.sweep.specs.Table.{noted_line, counts_revived}
+use Rattle.sweep.specs.Table.{noted_line, columns_of}
 use Rattle.sweep.proofs.Steps.{zipped_long}
 use Rattle.sweep_until.specs.Shards.{AreSettingsBehind as AreLeft, WritesRestUntil, settings_in, first_setting}
 use Rattle.sweep_until.specs.Until.{AreEnough, AreMadeBehind, AreMadeFrom, AreMadeWithFirst, IsMadeUntil, all_of}
@@ -74,8 +75,8 @@ module _ (tree : Data) (sweep : Sweep) (width : ℕ) where
       (zipped_both Made_so (range_with_len first n) (range_with_len (first + n) (count - n)) (take n made) later (first_made first count n made few are) behind)
 
 module _ (tree : Data) (mark : List ℕ) (sweep : Sweep) (width : ℕ) (p : Shard) (made : List (List Made)) (text : List ℕ) (cut : IsCutShardOfSettings tree mark sweep width p made text) where
-  abbrev revived : Bool
-  revived = counts_revived tree
+  abbrev columns : ColumnSet
+  columns = columns_of tree
 
   abbrev key : List ℕ
   key = sweep_key mark sweep
@@ -84,39 +85,39 @@ module _ (tree : Data) (mark : List ℕ) (sweep : Sweep) (width : ℕ) (p : Shar
   own_key = key_of_text tree mark sweep
 
   abbrev header : List ℕ
-  header = shard_header revived mark sweep p
+  header = shard_header columns mark sweep p
 
   abbrev each : ℕ
   each = seed_count sweep.seeds
 
   abbrev true_settings : List (List Line)
-  true_settings = settings_from revived key made
+  true_settings = settings_from columns key made
 
   abbrev table : List ℕ
-  table = flat_map (noted_line revived key) (all_of made)
+  table = flat_map (noted_line columns key) (all_of made)
 
   cut_are : AreMadeFrom tree sweep width (first_setting sweep p) (settings_in sweep p) made
   cut_are = all_of_shard tree sweep width p made cut.are
 
   true_sound : All (IsSetting width each) true_settings
-  true_sound = settings_sound revived key tree sweep width (range_with_len (first_setting sweep p) (settings_in sweep p)) made cut_are cut.fits
+  true_sound = settings_sound columns key tree sweep width (range_with_len (first_setting sweep p) (settings_in sweep p)) made cut_are cut.fits
 
   count_true : length true_settings ≡ settings_in sweep p
   count_true =
       let long = zipped_long (IsMadeUntil tree sweep width) (range_with_len (first_setting sweep p) (settings_in sweep p)) made cut_are in
       let count = length-range_with_len (first_setting sweep p) (settings_in sweep p) in
-      omega (arith, long, count, length-map made (setting_from revived key))
+      omega (arith, long, count, length-map made (setting_from columns key))
 
   -- the lines of some settings, and of others behind them
-  joined : (some more : List (List Made)) → flat_map (noted_line revived key) (all_of some) ++ flat_map (noted_line revived key) (all_of more) ≡ flat_map (noted_line revived key) (all_of (some ++ more))
+  joined : (some more : List (List Made)) → flat_map (noted_line columns key) (all_of some) ++ flat_map (noted_line columns key) (all_of more) ≡ flat_map (noted_line columns key) (all_of (some ++ more))
   joined some more =
-      sym (flat_map-append (noted_line revived key) (all_of some) (all_of more)) ∙ ap (flat_map (noted_line revived key)) (sym (flat_map-append (λ (setting : List Made). setting) some more))
+      sym (flat_map-append (noted_line columns key) (all_of some) (all_of more)) ∙ ap (flat_map (noted_line columns key)) (sym (flat_map-append (λ (setting : List Made). setting) some more))
 
   -- what stands behind the first line is a beginning of the settings' lines
   behind_first : (behind : List ℕ) → text ≡ header ++ behind → behind ++ cut.rest ≡ flat_map shard_setting true_settings
   behind_first behind is =
       append_cancel_left header (behind ++ cut.rest) table (sym (append_assoc header behind cut.rest) ∙ ap (λ l. l ++ cut.rest) (sym is) ∙ cut.written)
-      ∙ sym (settings_in_shard revived key made)
+      ∙ sym (settings_in_shard columns key made)
 
   -- ---- the text is taken for a beginning of the shard
 
@@ -148,20 +149,20 @@ module _ (tree : Data) (mark : List ℕ) (sweep : Sweep) (width : ℕ) (p : Shar
         start ∙ behind_first it.rest it.written ∙ sym (append-nil (flat_map shard_setting true_settings)) in
         cut_items (IsSetting width each) shard_setting (same_setting width each) own true_settings more [] sound true_sound whole (omega (arith, many, few, count_true))
 
-    its_lines : flat_map shard_setting own ≡ flat_map (noted_line revived key) (all_of (take settings made))
+    its_lines : flat_map shard_setting own ≡ flat_map (noted_line columns key) (all_of (take settings made))
     its_lines =
         let many = settings_counted own_key sweep width (first_setting sweep p) settings own it.begins.are in
         let first : own ≡ take settings true_settings = sym (ap (take settings) split.1 ∙ take_at own split.0 settings many) in
-        ap (flat_map shard_setting) (first ∙ take-map (setting_from revived key) settings made) ∙ settings_in_shard revived key (take settings made)
+        ap (flat_map shard_setting) (first ∙ take-map (setting_from columns key) settings made) ∙ settings_in_shard columns key (take settings made)
 
     -- the settings behind them
     abbrev rest_made : List (List Made)
     rest_made = drop settings made
 
-    rest_lines : split.0 ≡ settings_from revived key rest_made
+    rest_lines : split.0 ≡ settings_from columns key rest_made
     rest_lines =
         let many = settings_counted own_key sweep width (first_setting sweep p) settings own it.begins.are in
-        sym (drop_at own split.0 settings many) ∙ ap (drop settings) (sym split.1) ∙ drop-map (setting_from revived key) settings made
+        sym (drop_at own split.0 settings many) ∙ ap (drop settings) (sym split.1) ∙ drop-map (setting_from columns key) settings made
 
     rest_are : AreMadeFrom tree sweep width (first_setting sweep p + settings) (settings_in sweep p - settings) rest_made
     rest_are = later_made tree sweep width (first_setting sweep p) (settings_in sweep p) settings made few cut_are
@@ -181,33 +182,33 @@ module _ (tree : Data) (mark : List ℕ) (sweep : Sweep) (width : ℕ) (p : Shar
           ∙ ap (λ l. l ++ cut.rest) (sym (append_assoc (shard_setting b.lines) it.after it.unread) ∙ ap (λ l. l ++ it.unread) (sym b.written))
 
       its_first : (one : List Made) (others : List (List Made)) → rest_made ≡ one ∷ others → IsMadeUntil tree sweep width one_first one → All FitsLine one
-          → (length before ≤ length one) × (map noted (take (length before) one) ≡ before) × (shard_setting b.lines ≡ flat_map (noted_line revived key) (take (length before) one))
+          → (length before ≤ length one) × (map noted (take (length before) one) ≡ before) × (shard_setting b.lines ≡ flat_map (noted_line columns key) (take (length before) one))
       its_first one others is made_one fits =
-          let whole = setting_from revived key one in
-          let there : shard_setting b.lines ++ ((it.after ++ it.unread) ++ cut.rest) ≡ shard_setting whole ++ (flat_map shard_setting (settings_from revived key others) ++ []) =
-          tail_text ∙ split.2 ∙ ap (λ l. flat_map shard_setting l ++ []) (rest_lines ∙ ap (settings_from revived key) is)
-          ∙ append_assoc (shard_setting whole) (flat_map shard_setting (settings_from revived key others)) [] in
-          let enough : AreEnough width each (notes_of whole) = subst (AreEnough width each) (sym (setting_noted revived key one)) made_one.enough in
-          let tail = begin_setting width each b.lines whole b.are.few enough _ _ b.are.sound (lines_sound revived key one fits) there in
+          let whole = setting_from columns key one in
+          let there : shard_setting b.lines ++ ((it.after ++ it.unread) ++ cut.rest) ≡ shard_setting whole ++ (flat_map shard_setting (settings_from columns key others) ++ []) =
+          tail_text ∙ split.2 ∙ ap (λ l. flat_map shard_setting l ++ []) (rest_lines ∙ ap (settings_from columns key) is)
+          ∙ append_assoc (shard_setting whole) (flat_map shard_setting (settings_from columns key others)) [] in
+          let enough : AreEnough width each (notes_of whole) = subst (AreEnough width each) (sym (setting_noted columns key one)) made_one.enough in
+          let tail = begin_setting width each b.lines whole b.are.few enough _ _ b.are.sound (lines_sound columns key one fits) there in
           let size : length b.lines ≡ length before = sym (length-map b.lines (λ (l : Line). l.note)) ∙ ap length b.noted in
-          let lines : b.lines ≡ setting_from revived key (take (length before) one) =
-          sym (ap (take (length before)) tail.1 ∙ take_at b.lines tail.0 (length before) size) ∙ take-map (line_from revived key) (length before) one in
-          let long : length one ≡ length b.lines + length tail.0 = sym (length-map one (line_from revived key)) ∙ ap length tail.1 ∙ length-append b.lines tail.0 in (
+          let lines : b.lines ≡ setting_from columns key (take (length before) one) =
+          sym (ap (take (length before)) tail.1 ∙ take_at b.lines tail.0 (length before) size) ∙ take-map (line_from columns key) (length before) one in
+          let long : length one ≡ length b.lines + length tail.0 = sym (length-map one (line_from columns key)) ∙ ap length tail.1 ∙ length-append b.lines tail.0 in (
             omega (arith, long, size),
-            sym (setting_noted revived key (take (length before) one)) ∙ ap notes_of (sym lines) ∙ b.noted,
-            ap shard_setting lines ∙ setting_in_shard revived key (take (length before) one),
+            sym (setting_noted columns key (take (length before) one)) ∙ ap notes_of (sym lines) ∙ b.noted,
+            ap shard_setting lines ∙ setting_in_shard columns key (take (length before) one),
           )
 
   module _ (kept settings : ℕ) (before : List Note) (is : IsBegunSettings tree mark sweep width p text kept settings before) (new : Option (List ℕ))
       (writes : WritesRestUntil tree mark sweep p kept settings before (Some (take kept text)) new) where
     abbrev later : List ℕ
-    later = flat_map (noted_line revived key) (all_of writes.made)
+    later = flat_map (noted_line columns key) (all_of writes.made)
 
     behind_made : AreLeft tree sweep width p settings before writes.made
     behind_made = subst (λ w. AreLeft tree sweep w p settings before writes.made) (same_width writes.width width (sym writes.wanted ∙ cut.wanted)) writes.are
 
     -- behind the bytes that stay they come behind the first line and the lines that stand there
-    so : (all : List (List Made)) (lines : List ℕ) → AreMadeFrom tree sweep width (first_setting sweep p) (settings_in sweep p) all → lines ++ later ≡ flat_map (noted_line revived key) (all_of all)
+    so : (all : List (List Made)) (lines : List ℕ) → AreMadeFrom tree sweep width (first_setting sweep p) (settings_in sweep p) all → lines ++ later ≡ flat_map (noted_line columns key) (all_of all)
         → take kept text ++ drop kept header ≡ header ++ lines → WritesRestUntil tree mark sweep p 0 0 [] (Some []) new
     so all lines are text_is again = record {
       width = width;
@@ -218,7 +219,7 @@ module _ (tree : Data) (mark : List ℕ) (sweep : Sweep) (width : ℕ) (p : Shar
     }
 
     -- where only whole settings stand there, the others come behind them
-    settings_again : (lines : List ℕ) → lines ≡ flat_map (noted_line revived key) (all_of (take settings made)) → before ≡ [] → take kept text ++ drop kept header ≡ header ++ lines
+    settings_again : (lines : List ℕ) → lines ≡ flat_map (noted_line columns key) (all_of (take settings made)) → before ≡ [] → take kept text ++ drop kept header ≡ header ++ lines
         → WritesRestUntil tree mark sweep p 0 0 [] (Some []) new
     settings_again lines are none again =
         so (take settings made ++ writes.made) lines
@@ -253,7 +254,7 @@ module _ (tree : Data) (mark : List ℕ) (sweep : Sweep) (width : ℕ) (p : Shar
           let count : suc (settings_in sweep p - settings - 1) ≡ settings_in sweep p - settings = omega (arith, goes.some) in
           let are : AreMadeFrom tree sweep width (first_setting sweep p + settings) (settings_in sweep p - settings) rest =
           subst (λ n. AreMadeFrom tree sweep width (first_setting sweep p + settings) n rest) count (again, goes.are) in
-          let line = noted_line revived key in
+          let line = noted_line columns key in
           let text_is : (own ++ opened) ++ later ≡ flat_map line (all_of (take settings made ++ rest)) =
           append_assoc own opened later
           ∙ (λ i. its_lines kept settings before it is.few i ++ (its.2 i ++ flat_map line (all_of (goes.all i))))
@@ -299,7 +300,7 @@ module _ (tree : Data) (mark : List ℕ) (sweep : Sweep) (width : ℕ) (p : Shar
             → WritesRestUntil tree mark sweep p 0 0 [] (Some []) new
         by (inl it) =
             let short = it.0 in
-            let none : [] ≡ flat_map (noted_line revived key) (all_of (take settings made)) = ap (λ n. flat_map (noted_line revived key) (all_of (take n made))) (sym short.no_run) in
+            let none : [] ≡ flat_map (noted_line columns key) (all_of (take settings made)) = ap (λ n. flat_map (noted_line columns key) (all_of (take n made))) (sym short.no_run) in
             settings_again [] none it.1 (short_again header text kept short.rest short.written short.all ∙ sym (append-nil header))
         by (inr it) = on it.started
           where

@@ -13,7 +13,7 @@ use Rattle.sweep.specs.Runs.{IsAskedFor}
 use Rattle.sweep.specs.Resumed.{IsShort}
 use Rattle.sweep.specs.Shards.{shard_header}
 use Rattle.sweep.specs.Sums.{key_of_text}
-use Rattle.sweep.specs.Table.{counts_revived}
+use Rattle.sweep.specs.Table.{columns_of}
 use Rattle.sweep.specs.declared.summing.LineKey.{LineKey}
 use Rattle.toml.specs.Data.{Data}
 use Rattle.sweep_until.specs.Shards.{CanGoOn, settings_in, first_setting}
@@ -81,7 +81,7 @@ lines_behind key sweep width first most settings number past left after before a
 
 module _ (tree : Data) (mark : List ℕ) (sweep : Sweep) (width : ℕ) (p : Shard) (text : List ℕ) where
   abbrev header : List ℕ
-  header = shard_header (counts_revived tree) mark sweep p
+  header = shard_header (columns_of tree) mark sweep p
 
   -- a beginning of the first line
   pub short_stands : (before : List Note) → before ≡ [] → (rest : List ℕ) × (header ≡ text ++ rest) → IsBegunSettings tree mark sweep width p text (length text) 0 before

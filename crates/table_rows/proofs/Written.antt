@@ -1,5 +1,5 @@
 -- A line that is written of a run is the line of that run.
-use Rattle.std.proofs.Common.{◌≡◌, ◌∙◌, ◌<◌, ◌^◌, ℕ, Bool, List, [], ◌∷◌, ◌++◌, fold, lit<, refl, sym, ap, subst, append_assoc, append-nil}
+use Rattle.std.proofs.Common.{◌≡◌, ◌∙◌, ◌<◌, ◌^◌, ℕ, List, [], ◌∷◌, ◌++◌, fold, lit<, refl, sym, ap, subst, append_assoc, append-nil}
 use Rattle.std.specs.Prelude.{Option, Some, None, Ok, pos}
 use Rattle.std.specs.Option.{ForSome, option_map_or}
 use Rattle.std.proofs.lemmas.Option.{same_Some}
@@ -12,13 +12,14 @@ use Rattle.schema.specs.declared.schema.Section.TheVariants as section
 use Rattle.schema.specs.declared.schema.FormatKey.{FormatKey}
 use Rattle.schema.specs.declared.schema.FormatKey.TheVariants as key
 use Rattle.scenario.specs.Setup.{Setup}
-use Rattle.scenario_reader.specs.Reading.{setup_of_tree}
-use Rattle.scenario_reader.specs.Rules.{document_verdict, least_broken, unless_broken}
+use Rattle.text_reader.specs.Answers.{AnswersDocument}
+use Rattle.text_reader.proofs.Sound.{seed_answer}
 use Rattle.sweep_plan.specs.Document.{put, table_at, with_choice, with_entry, with_items, with_value_in, with_values}
 use Rattle.sweep_plan.specs.Sweep.{Sweep}
 use Rattle.sweep_plan.specs.declared.choice.Choice.{Choice}
 use Rattle.sweep_plan.specs.declared.items.ItemName.{ItemName}
 use Rattle.sweep_plan.proofs.Puts.{get_here}
+use Rattle.figures.specs.declared.column_set.ColumnSet.{ColumnSet}
 use Rattle.figures.specs.Figures.{figures_of}
 use Rattle.figures.specs.Lines.{figures_in_order, run_line}
 use Rattle.figures.proofs.SameFigures.{Small}
@@ -53,26 +54,21 @@ with_choices_table (c ∷ setting) tree ms is =
     let one = with_value_table c.key.table c.key.item c.key.key _ ms in
     with_choices_table setting (with_choice tree c) one.0 (ap (λ t. with_choice t c) is ∙ one.1)
 
-judged_so : (s m : Setup) (broken : Option ℕ) → unless_broken s broken ≡ Ok m → s ≡ m
-judged_so s m None is = cc
-judged_so s m (Some rule) is = absurd cc
-
-seed_read : (seed : ℕ) (ns : Members) → (setup_of_tree (with_entry key.Seed (integer (pos seed)) (table ns))).seed ≡ seed
-unfolding setup_of_tree number_at
+seed_read : (seed : ℕ) (ns : Members) → number_at section.Top key.Seed (Some (with_entry key.Seed (integer (pos seed)) (table ns))) ≡ seed
+unfolding number_at
 seed_read seed ns = ap (λ (found : Option Data). whole_or (default_of section.Top key.Seed) found) (get_here (spelling_of key.Seed) (integer (pos seed)) ns)
 
-seed_of : (tree : Data) (setting : List Choice) (seed : ℕ) (m : Setup) (ms : Members) → tree ≡ table ms → document_verdict (with_values tree setting (Some seed)) ≡ Ok m → m.seed ≡ seed
+seed_of : (tree : Data) (setting : List Choice) (seed : ℕ) (m : Setup) (ms : Members) → tree ≡ table ms → AnswersDocument (with_values tree setting (Some seed)) (Ok m) → m.seed ≡ seed
 unfolding with_values
-seed_of tree setting seed m ms is accepted =
+seed_of tree setting seed m ms is answered =
     let inner = with_choices_table setting tree ms is in
-    let read : setup_of_tree (with_entry key.Seed (integer (pos seed)) (fold with_choice tree setting)) ≡ m =
-    judged_so _ m (least_broken (with_entry key.Seed (integer (pos seed)) (fold with_choice tree setting))) accepted in
-    ap (λ (s : Setup). s.seed) (sym read) ∙ ap (λ (t : Data). (setup_of_tree (with_entry key.Seed (integer (pos seed)) t)).seed) inner.1 ∙ seed_read seed inner.0
+    seed_answer (with_values tree setting (Some seed)) m answered ∙ ap (λ (t : Data). number_at section.Top key.Seed (Some (with_entry key.Seed (integer (pos seed)) t))) inner.1
+    ∙ seed_read seed inner.0
 
 module _ (key : LineKey) (members : Members) (sweep : Sweep) (number : ℕ) (p : Planned) (m : Made) (there : IsRunAt sweep number p) (is : IsMadeAs (table members) p m) (fits : FitsLine m)
     (own : p.seed ≡ None → ForSome key.own (λ s. m.scenario.seed ≡ s)) where
-  abbrev revived : Bool
-  revived = key.revived
+  abbrev columns : ColumnSet
+  columns = key.columns
 
   -- its seed is the one that is known
   seeded : ForSome (known_seed p.seed key.own) (λ k. m.scenario.seed ≡ k)
@@ -82,53 +78,53 @@ module _ (key : LineKey) (members : Members) (sweep : Sweep) (number : ℕ) (p :
       by None none = own none
       by (Some seed) some =
           let same : m.scenario.seed ≡ seed =
-          seed_of (table members) p.setting seed m.scenario members refl (ap (λ s. document_verdict (with_values (table members) p.setting s)) (sym some) ∙ is.accepted) in
+          seed_of (table members) p.setting seed m.scenario members refl (subst (λ s. AnswersDocument (with_values (table members) p.setting s) (Ok m.scenario)) some is.accepted) in
           λ k one. same ∙ same_Some seed k one
 
   -- what stands behind its metadata
-  its_cells : IsBehindMetadata key sweep number (noted m) (made_line revived m)
+  its_cells : IsBehindMetadata key sweep number (noted m) (made_line columns m)
   its_cells = record {
     planned = p;
     there = there;
     seed = m.scenario.seed;
     seeded = seeded;
     run = figures_of m.scenario m.rows;
-    agrees = made_agrees m.scenario m.rows;
-    small = All-cons Small (Some m.scenario.seed) (figures_in_order revived (figures_of m.scenario m.rows)) (λ n one. subst (λ k. k < 2 ^ 63) (same_Some m.scenario.seed n one) fits.seed) (fits.figures revived);
-    written = ap (λ chosen. run_line revived (texts_of chosen) m.scenario.seed (figures_of m.scenario m.rows)) is.same;
+    agrees = made_agrees m.scenario m.tick m.rows;
+    small = All-cons Small (Some m.scenario.seed) (figures_in_order columns (figures_of m.scenario m.rows)) (λ n one. subst (λ k. k < 2 ^ 63) (same_Some m.scenario.seed n one) fits.seed) (fits.figures columns);
+    written = ap (λ chosen. run_line columns (texts_of chosen) m.scenario.seed (figures_of m.scenario m.rows)) is.same;
   }
 
-  placed : IsPlaced key sweep number (note_cell (noted m) ++ made_line revived m)
-  placed = record { note = noted m; small = fits.note; behind = made_line revived m; cells = its_cells; written = refl }
+  placed : IsPlaced key sweep number (note_cell (noted m) ++ made_line columns m)
+  placed = record { note = noted m; small = fits.note; behind = made_line columns m; cells = its_cells; written = refl }
 
   -- it has one line feed
-  fed : IsFed (noted_line revived key.digest m)
+  fed : IsFed (noted_line columns key.digest m)
   fed =
-      let l = line_from revived key.digest m in
+      let l = line_from columns key.digest m in
       let rest = note_text l.note ++ 44 ∷ l.body in
       record {
         body = l.sum ++ 32 ∷ rest;
-        one = lacks_both 10 l.sum (32 ∷ rest) (sum_no_feed key.digest (note_cell (noted m) ++ made_line revived m))
+        one = lacks_both 10 l.sum (32 ∷ rest) (sum_no_feed key.digest (note_cell (noted m) ++ made_line columns m))
             (lacks_cons 10 32 rest refl
-            (lacks_both 10 (note_text l.note) (44 ∷ l.body) (note_lacks 10 (lit< tt) refl l.note fits.note) (lacks_cons 10 44 l.body refl (line_sound revived key.digest m fits).one)));
-        fed = sym (line_in_shard revived key.digest m)
+            (lacks_both 10 (note_text l.note) (44 ∷ l.body) (note_lacks 10 (lit< tt) refl l.note fits.note) (lacks_cons 10 44 l.body refl (line_sound columns key.digest m fits).one)));
+        fed = sym (line_in_shard columns key.digest m)
             ∙ ap (λ x. l.sum ++ 32 ∷ x) (sym (append_assoc (note_text l.note) (44 ∷ l.body) (10 ∷ [])))
             ∙ sym (append_assoc l.sum (32 ∷ rest) (10 ∷ []));
       }
 
-  pub line_written : IsLineOf key sweep number (noted_line revived key.digest m)
-  line_written = record { fed = fed; rest = note_cell (noted m) ++ made_line revived m; sum = refl; placed = placed }
+  pub line_written : IsLineOf key sweep number (noted_line columns key.digest m)
+  line_written = record { fed = fed; rest = note_cell (noted m) ++ made_line columns m; sum = refl; placed = placed }
 
-  pub row_written : (behind : List ℕ) → HasRowOf key sweep number (noted_line revived key.digest m ++ behind)
+  pub row_written : (behind : List ℕ) → HasRowOf key sweep number (noted_line columns key.digest m ++ behind)
   row_written behind = (
     behind,
     record {
-      one = line_from revived key.digest m;
+      one = line_from columns key.digest m;
       sound = record {
-        sound = line_sound revived key.digest m fits;
-        placed = subst (λ l. AreLinesOf key sweep number l 1) (sym (line_in_shard revived key.digest m))
-            (record { lines = noted_line revived key.digest m ∷ []; are = (line_written, tt); written = sym (append-nil (noted_line revived key.digest m)) ∙ sym (append-nil (noted_line revived key.digest m ++ [])) });
+        sound = line_sound columns key.digest m fits;
+        placed = subst (λ l. AreLinesOf key sweep number l 1) (sym (line_in_shard columns key.digest m))
+            (record { lines = noted_line columns key.digest m ∷ []; are = (line_written, tt); written = sym (append-nil (noted_line columns key.digest m)) ∙ sym (append-nil (noted_line columns key.digest m ++ [])) });
       };
-      written = ap (λ l. l ++ behind) (sym (line_in_shard revived key.digest m));
+      written = ap (λ l. l ++ behind) (sym (line_in_shard columns key.digest m));
     },
   )

@@ -9,7 +9,7 @@ use Rattle.shards.specs.declared.shard.Shard.{Shard}
 use Rattle.sweep.specs.Shards.{shard_header}
 use Rattle.sweep.specs.Resumed.{IsShort, RefusesStart}
 use Rattle.sweep.specs.Sums.{key_of_text}
-use Rattle.sweep.specs.Table.{counts_revived}
+use Rattle.sweep.specs.Table.{columns_of}
 use Rattle.sweep.specs.declared.summing.LineKey.{LineKey}
 use Rattle.toml.specs.Data.{Data}
 use Rattle.sweep.specs.declared.begun.BegunFault.{BegunFault}
@@ -42,10 +42,10 @@ pub record AreSettingsBehind (key : LineKey) (sweep : Sweep) (width first most :
 -- So much of the table of a shard stands in the text: so many bytes stay, with the lines of so many whole settings, and of the next one those with this metadata.
 -- Each line is genuine at its place. They are all such lines with which the text goes on behind its first line.
 pub record IsBegunSettings (tree : Data) (mark : List ℕ) (sweep : Sweep) (width : ℕ) (p : Shard) (text : List ℕ) (kept settings : ℕ) (before : List Note) : Type 0 where
-  pub stands : (IsShort (shard_header (counts_revived tree) mark sweep p) text kept settings × (before ≡ []))
-      ⊎ AreSettingsBehind (key_of_text tree mark sweep) sweep width (first_setting sweep p) (settings_in sweep p) (shard_header (counts_revived tree) mark sweep p) text kept settings before
+  pub stands : (IsShort (shard_header (columns_of tree) mark sweep p) text kept settings × (before ≡ []))
+      ⊎ AreSettingsBehind (key_of_text tree mark sweep) sweep width (first_setting sweep p) (settings_in sweep p) (shard_header (columns_of tree) mark sweep p) text kept settings before
   pub few : settings ≤ settings_in sweep p
 
 -- why nothing of the table stands in the text, unless memory was refused
 abbrev pub RefusesBegunSettings : Data → List ℕ → Sweep → Shard → List ℕ → BegunFault → Type 0
-RefusesBegunSettings tree mark sweep p text fault = RefusesStart (shard_header (counts_revived tree) mark sweep p) text fault
+RefusesBegunSettings tree mark sweep p text fault = RefusesStart (shard_header (columns_of tree) mark sweep p) text fault

@@ -6,7 +6,7 @@ use Rattle.table_rows.specs.Made.{FitsLine}
 use Rattle.shards.specs.declared.shard.Shard.{Shard}
 use Rattle.sweep.specs.Shards.{shard_table}
 use Rattle.sweep.specs.Runs.{IsAskedFor, Made}
-use Rattle.sweep.specs.Table.{counts_revived}
+use Rattle.sweep.specs.Table.{columns_of}
 use Rattle.sweep_until.specs.Shards.{AreSettingsBehind}
 use Rattle.sweep_until.specs.Until.{all_of}
 
@@ -17,4 +17,4 @@ pub record IsCutShardOfSettings (tree : Data) (mark : List ℕ) (sweep : Sweep) 
   pub are : AreSettingsBehind tree sweep width p 0 [] made
   pub fits : All (All FitsLine) made
   pub rest : List ℕ
-  pub written : text ++ rest ≡ shard_table (counts_revived tree) mark sweep p (all_of made)
+  pub written : text ++ rest ≡ shard_table (columns_of tree) mark sweep p (all_of made)

@@ -1,7 +1,8 @@
 -- Runs whose lines can be read again.
-use Rattle.std.specs.Prelude.{◌<◌, ◌^◌, Bool, All}
+use Rattle.std.specs.Prelude.{◌<◌, ◌^◌, All}
 use Rattle.std.specs.Option.{ForSome}
 use Rattle.sweep_plan.specs.Values.{FitsToml}
+use Rattle.figures.specs.declared.column_set.ColumnSet.{ColumnSet}
 use Rattle.figures.specs.Figures.{figures_of}
 use Rattle.figures.specs.Lines.{figures_in_order}
 use Rattle.figures.specs.Notes.{IsSmall}
@@ -12,4 +13,4 @@ pub record FitsLine (m : Made) : Type 0 where
   pub note : IsSmall (noted m)
   pub values : All (λ c. FitsToml c.value) m.setting
   pub seed : m.scenario.seed < 2 ^ 63
-  pub figures : (revived : Bool) → All (λ f. ForSome f (λ n. n < 2 ^ 63)) (figures_in_order revived (figures_of m.scenario m.rows))
+  pub figures : (columns : ColumnSet) → All (λ f. ForSome f (λ n. n < 2 ^ 63)) (figures_in_order columns (figures_of m.scenario m.rows))

@@ -21,10 +21,10 @@ ghost use Rattle.table_rows.specs.Cut.{IsCutShardOfSettings};
 pub fn a_written_line_is_its_runs()
     ensures genuine { (key : LineKey) (members : Members) (sweep : Sweep) (number : ℕ) (p : Planned) (m : Made) → IsRunAt sweep number p
         → IsMadeAs (table members) p m → FitsLine m → (p.seed ≡ None → ForSome key.own (λ s. m.scenario.seed ≡ s))
-        → IsLineOf key sweep number (noted_line key.revived key.digest m) }
+        → IsLineOf key sweep number (noted_line key.columns key.digest m) }
     ensures read { (key : LineKey) (members : Members) (sweep : Sweep) (number : ℕ) (p : Planned) (m : Made) (behind : List ℕ) → IsRunAt sweep number p
         → IsMadeAs (table members) p m → FitsLine m → (p.seed ≡ None → ForSome key.own (λ s. m.scenario.seed ≡ s))
-        → HasRowOf key sweep number (noted_line key.revived key.digest m ++ behind) }
+        → HasRowOf key sweep number (noted_line key.columns key.digest m ++ behind) }
 {}
 
 /// Where a text is a beginning of a shard that was made, it is taken for one, and what goes on behind the bytes of it that

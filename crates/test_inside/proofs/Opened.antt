@@ -1,6 +1,6 @@
 -- A part of one member, its windows, and an event that comes to it from elsewhere: what the tests keep.
-use Rattle.std.proofs.Common.{◌≡◌, ℕ, ◌<◌, Bool, true, false, cond, nat_eq, ◌++◌, inl, inr, List, map, Option, Some, None, Result, Ok, Err, OnOk, ap, ◌∙◌, sym, subst, refl, arith}
-use Rattle.std.specs.Option.{is_some, option_map_or, option_or}
+use Rattle.std.proofs.Common.{◌≡◌, ◌≢◌, ℕ, ◌+◌, ◌<◌, ◌≤◌, Bool, true, false, cond, nat_eq, ◌++◌, inl, inr, List, [], ◌∷◌, length, map, Option, Some, None, Result, Ok, Err, OnOk, ap, ◌∙◌, sym, subst, refl, arith}
+use Rattle.std.specs.Option.{is_some, option_map_or, option_or, IfSome}
 use Rattle.std.specs.List.{AllByRecursion}
 use Rattle.std.specs.Ordering.{nat_cmp, eq_by_cmp, is_lt}
 use Rattle.std.specs.Cmp.{nat_cmp_total, unsigned_tied}
@@ -18,7 +18,15 @@ use Rattle.base.specs.Run.{tells}
 use Rattle.base.proofs.Rising.{all_append}
 use Rattle.base.proofs.Kept.{HoldsOfAll, all_with_events}
 use Rattle.trace.specs.declared.row.Row.{Row}
-use Rattle.scenario.specs.Setup.{Setup, member_count, crash_of, leave_of}
+use Rattle.base.specs.declared.profile.Profile.{Profile}
+use Rattle.base.specs.declared.profile.Profile.TheVariants.{Papers, Memberlist, Hashicorp}
+use Rattle.scenario.specs.Setup as setup
+use Rattle.scenario.specs.Setup.{Setup, IsSound, IsSoundEvent, member_count, crash_of, leave_of}
+use Rattle.scenario.specs.Profile.{profile_of}
+use Rattle.scenario.specs.Script.{asked_by}
+use Rattle.scenario.specs.declared.script.ScriptKind.{ScriptKind}
+use Rattle.scenario.specs.declared.script.ScriptKind.TheVariants as script
+use Rattle.scenario.specs.declared.script.ScriptEvent.{ScriptEvent}
 use Rattle.member.specs.Here.{MentionsMembers}
 use Rattle.member.specs.declared.event_kind.EventKind.{EventKind}
 use Rattle.member.specs.declared.event_kind.EventKind.TheVariants.{Crash, Leave}
@@ -26,48 +34,81 @@ use Rattle.member.specs.declared.event.Event.{Event}
 use Rattle.member.specs.State.{State}
 use Rattle.member.specs.StateOf.{pair_of}
 use Rattle.member.specs.Step.{step}
-use Rattle.member.specs.Opening.{opening_state, first_number, ending_event, script_of}
+use Rattle.member.specs.Opening.{opening_state, first_number, first_number_by, ending_event, script_of, content_of, numbered_from, script_by}
 use Rattle.member_laws.specs.Words.{IsConsistent, IsAmongMembers}
 use Rattle.member_laws.proofs.Consistency.{opening_consistent}
 use Rattle.member_laws.proofs.Opened.{two_after}
+use Rattle.member_laws.proofs.Scripts.{events_so}
 use Rattle.worker_queue.specs.Queue.{IsLeastKey}
 use Rattle.windows.specs.Admitting.{AreFromBelow, with_member}
 use Rattle.windows.specs.Window.{is_own, IsConsistentPart, RunsWindow}
 use Rattle.windows.proofs.PartRuns.{own_run}
 
-module _ (s : Setup) (m : ℕ) (there : m < member_count s) where
-  opened_number : (opening_state s m).next_number ≡ first_number s m
+module _ (s : Setup) (m : ℕ) (there : m < member_count s) (sound : IsSound s) where
+  opened_number : (opening_state s m).next_number ≡ first_number_by (profile_of s) s m
   unfolding opening_state
   opened_number = refl
 
-  -- an event of the member's script
+  -- an event of the member's script, with a number that it has used where it uses this one first
+  abbrev OwnBelow : ℕ → Key → EventKind → Type 0
+  OwnBelow n k c = IsAmongMembers s k c × (k.to ≡ m) × (k.number < n)
+
   abbrev Own : Key → EventKind → Type 0
-  Own k c = IsAmongMembers s k c × (k.to ≡ m) × (k.number < (opening_state s m).next_number)
+  Own k c = OwnBelow (opening_state s m).next_number k c
 
   first_after : (ending : Option ℕ) → 0 < option_map_or (λ at. 2) ending 1
   first_after None = omega arith
   first_after (Some at) = omega arith
 
   ending_own : (content : EventKind) (ending : Option ℕ) → MentionsMembers (member_count s) content → ((at : ℕ) → ending ≡ Some at → first_number s m ≡ 2)
-      → AllByRecursion {X = Key × EventKind} (λ e. Own e.0 e.1) (ending_event content m ending)
+      → AllByRecursion {X = Key × EventKind} (λ e. OwnBelow (first_number s m) e.0 e.1) (ending_event content m ending)
   ending_own content None names two = tt
-  ending_own content (Some at) names two = let is = two at refl in ((record { receiver = there; sender = there; names = names }, refl, omega (arith, is, opened_number)), tt)
+  ending_own content (Some at) names two = let is = two at refl in ((record { receiver = there; sender = there; names = names }, refl, omega (arith, is)), tt)
 
-  endings_own : AllByRecursion {X = Key × EventKind} (λ e. Own e.0 e.1) (ending_event Crash m (crash_of s m) ++ ending_event Leave m (leave_of s m))
+  endings_own : AllByRecursion {X = Key × EventKind} (λ e. OwnBelow (first_number s m) e.0 e.1) (ending_event Crash m (crash_of s m) ++ ending_event Leave m (leave_of s m))
   endings_own =
-      all_append (λ e. Own e.0 e.1) (ending_event Crash m (crash_of s m)) (ending_event Leave m (leave_of s m))
+      all_append (λ e. OwnBelow (first_number s m) e.0 e.1) (ending_event Crash m (crash_of s m)) (ending_event Leave m (leave_of s m))
       (ending_own Crash (crash_of s m) tt (λ at is. two_after s (crash_of s m) (leave_of s m) at (inl is)))
       (ending_own Leave (leave_of s m) tt (λ at is. two_after s (crash_of s m) (leave_of s m) at (inr is)))
 
-  script_own : AllByRecursion {X = Key × EventKind} (λ e. Own e.0 e.1) (script_of s m)
+  -- who crashes or leaves but once
+  ending_script_own : AllByRecursion {X = Key × EventKind} (λ e. OwnBelow (first_number s m) e.0 e.1) (script_of s m)
+  ending_script_own =
+      let first = first_after (option_or (crash_of s m) (leave_of s m)) in ((record { receiver = there; sender = there; names = tt }, refl, first), endings_own)
+
+  -- whom a script's event names, a member
+  content_names : (kind : ScriptKind) → IfSome (asked_by kind) (λ c. c < member_count s) → MentionsMembers (member_count s) (content_of kind)
+  content_names script.Crash h = tt
+  content_names script.Leave h = tt
+  content_names (script.Restart contact) h = h
+
+  asks_member : (q : ℕ) (o : Option ℕ) → IfSome o (λ c. (c < member_count s) × (c ≢ q)) → IfSome o (λ c. c < member_count s)
+  asks_member q None h = tt
+  asks_member q (Some c) h = h.0
+
+  numbered_own : (number n : ℕ) (es : List ScriptEvent) → number + length es ≤ n → AllByRecursion (λ (e : ScriptEvent). (e.member ≡ m) × IsSoundEvent s e) es
+      → AllByRecursion {X = Key × EventKind} (λ e. OwnBelow n e.0 e.1) (numbered_from m number es)
+  numbered_own number n [] few h = tt
+  numbered_own number n (e ∷ es) few h =
+      ((record { receiver = there; sender = there; names = content_names e.kind (asks_member e.member (asked_by e.kind) h.0.1.contact) }, refl, omega (arith, few)), numbered_own (number + 1) n es (omega (arith, few)) h.1)
+
+  script_own_by : (profile : Profile) → AllByRecursion {X = Key × EventKind} (λ e. OwnBelow (first_number_by profile s m) e.0 e.1) (script_by profile s m)
+  script_own_by Papers = ending_script_own
+  script_own_by Memberlist = ending_script_own
+  script_own_by Hashicorp = (
+    (record { receiver = there; sender = there; names = tt }, refl, omega arith),
+    numbered_own 1 (1 + length (setup.script_of s m)) (setup.script_of s m) (omega arith) (events_so (IsSoundEvent s) s sound.events m),
+  )
+
+  script_own : AllByRecursion {X = Key × EventKind} (λ e. Own e.0 e.1) (script_by (profile_of s) s m)
   script_own =
-      let first = first_after (option_or (crash_of s m) (leave_of s m)) in ((record { receiver = there; sender = there; names = tt }, refl, omega (arith, first, opened_number)), endings_own)
+      subst (λ n. AllByRecursion {X = Key × EventKind} (λ e. OwnBelow n e.0 e.1) (script_by (profile_of s) s m)) (sym opened_number) (script_own_by (profile_of s))
 
   abbrev pub alone : World State EventKind
   alone = with_member s m (record { members = empty; pending = empty })
 
   own_all : HoldsOfAll Own alone.pending
-  own_all = all_with_events Own (script_of s m) empty (λ k c here. absurd (false≢true (ap is_some (sym (get-empty key_cmp k) ∙ here)))) script_own
+  own_all = all_with_events Own (script_by (profile_of s) s m) empty (λ k c here. absurd (false≢true (ap is_some (sym (get-empty key_cmp k) ∙ here)))) script_own
 
   own_pending : (q : Key) → IsPending alone q → (q.to ≡ m) × (q.number < (opening_state s m).next_number)
   own_pending q = by_value (get alone.pending q) refl

@@ -54,6 +54,8 @@ fn opened<Q: EventQueue<Event> + Drop>(
     ensures consistent { IfOk result (λ part. IsConsistentPart scenario.now (world_of Q.set part)) }
     ensures single { IfOk result (λ part. IsSingle Q.set part) }
 {
+    // by this the scenario is known to be sound
+    let _ = scenario.end();
     let mut part = Part::new(alloc, number as usize, queue);
     part.admit(alloc, scenario, MemberId(number))?;
     Ok(part)

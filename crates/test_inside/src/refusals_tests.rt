@@ -25,7 +25,7 @@ const TWO_GROUPS: &str = "count = 2\n[[group]]\nname = \"m\"\ncount = 3";
 
 /// Edits of the text with two groups, and the rule and the place of the fault.
 const PLACES: [(&str, &str, u8, u32); 11] = [
-    ("version = 1", "version = 4", 5, 0),
+    ("version = 1", "version = 5", 5, 0),
     ("seed = 7", "seed = ?", 1, 19),
     ("seed = 7", "seed = true", 4, 0),
     ("period = 1000", "period = 1", 5, 0),

@@ -1,6 +1,7 @@
 //! Events that no run hands to a member, since nobody sends them to one that waits, joins or runs: it makes nothing of
 //! them. What a member makes of all others stands in tests/steps.
 ghost use Rattle.std.specs.Prelude.{◌<◌, All, IsTrue, OnOk, IfOk};
+ghost use Rattle.std.specs.Option.{IfSome};
 ghost use Rattle.scenario.specs.Setup.{member_count};
 ghost use Rattle.links.specs.Arrival.{AreLinksOf};
 ghost use Rattle.member.specs.Here.{HoldsMembers, MentionsMembers};
@@ -156,6 +157,16 @@ fn are_about(updates: &Updates, members: usize) -> bool
         .all(|update| update.subject.index() < members)
 }
 
+/// Whether this is one of the first so many members, if it is any.
+fn is_member_if_any(member: &Option<MemberId>, members: usize) -> bool
+    ensures { IsTrue result → IfSome member.now (λ m. m < members) }
+{
+    match member {
+        Some(member) => member.index() < members,
+        None => true,
+    }
+}
+
 /// Whether a content names the first so many members alone.
 fn names_members(content: &EventKind, members: usize) -> bool
     ensures { IsTrue result → MentionsMembers members content.now }
@@ -181,6 +192,8 @@ fn names_members(content: &EventKind, members: usize) -> bool
             ..
         } => initiator.index() < members && are_about(updates, members),
         EventKind::NackTimer { initiator, .. } => initiator.index() < members,
+        EventKind::ConnectedTimer { to } => to.index() < members,
+        EventKind::Restart { contact } => is_member_if_any(contact, members),
         _ => true,
     }
 }

@@ -1,3 +1,3 @@
 pub mod Beginnings
-mod ShortFields
+pub mod ShortFields
 pub mod RowsText

@@ -2,10 +2,11 @@
 use Rattle.std.proofs.Common.{◌≡◌, ◌+◌, ◌<◌, ◌≤◌, ◌%◌, ◌/◌, ◌==◌, ℕ, zero, suc, List, [], ◌∷◌, ◌++◌, Bool, true, false, ◌&&◌, cond, codes, length, get_or, map, drop, drop-cons, add-one, refl, sym, ap, ◌∙◌, append_assoc, arith, flat_map, unwrap_or}
 use Rattle.std.specs.Fmt.{decimal, digits, digits_onto, digit_glyph}
 use Rattle.std.specs.List.{list_all, join_with_byte, slice_get, range_with_len, AllByRecursion}
-use Rattle.std.proofs.lemmas.Bool.{false≢true, leb-true}
+use Rattle.std.proofs.lemmas.Bool.{false≢true}
 use Rattle.std.proofs.lemmas.List.{length-append}
 use Rattle.base.proofs.Rising.{all_append}
-use Rattle.scenario.specs.GroupNames.{is_name_byte, starts_with_letter, is_group_name}
+use Rattle.scenario.proofs.Names.{short_name}
+use Rattle.scenario.specs.GroupNames.{is_name_of}
 use Rattle.scenario.specs.Setup.{Setup, Group, names_in, member_names, name_of, IsSound}
 use Rattle.trace.specs.declared.row.Row.{Row}
 use Rattle.trace.specs.Text.{fields_of, line_of, rows_text}
@@ -34,27 +35,25 @@ decimal_short n = onto_short 64 n []
 -- ---- names
 
 abbrev IsShort : List ℕ → Type 0
-IsShort name = length name ≤ 81
+IsShort name = length name ≤ 97
 
-indexed_short : (name : List ℕ) → length name ≤ 16 → (indices : List ℕ) → AllByRecursion IsShort (map (λ i. name ++ codes "-" ++ decimal i) indices)
+indexed_short : (name : List ℕ) → length name ≤ 32 → (indices : List ℕ) → AllByRecursion IsShort (map (λ i. name ++ codes "-" ++ decimal i) indices)
 indexed_short name p [] = tt
 indexed_short name p (i ∷ indices) = (omega (arith, p, length-append (name ++ codes "-") (decimal i), length-append name (codes "-"), decimal_short i), indexed_short name p indices)
 
-names_short : (gs : List Group) → list_all (λ (g : Group). is_group_name g.name) gs ≡ true → AllByRecursion IsShort (flat_map names_in gs)
-names_short [] h = tt
-names_short (g ∷ gs) h =
-    let parts = both (is_group_name g.name) (list_all (λ (g : Group). is_group_name g.name) gs) h in
-    let length_and_letter = (both _ (list_all is_name_byte g.name) parts.0).0 in
-    let bound = leb-true (length g.name) 16 (both _ (starts_with_letter g.name) length_and_letter).0 in
-    all_append IsShort (names_in g) (flat_map names_in gs) (indexed_short g.name bound (range_with_len 0 g.count)) (names_short gs parts.1)
+names_short : (form : List ℕ → Bool) → ((name : List ℕ) → form name ≡ true → length name ≤ 32) → (gs : List Group) → list_all (λ (g : Group). form g.name) gs ≡ true → AllByRecursion IsShort (flat_map names_in gs)
+names_short form short [] h = tt
+names_short form short (g ∷ gs) h =
+    let parts = both (form g.name) (list_all (λ (g : Group). form g.name) gs) h in
+    all_append IsShort (names_in g) (flat_map names_in gs) (indexed_short g.name (short g.name parts.0) (range_with_len 0 g.count)) (names_short form short gs parts.1)
 
 at_place : (names : List (List ℕ)) → AllByRecursion IsShort names → (place : ℕ) → IsShort (unwrap_or (slice_get names place) [])
 at_place [] p place = omega arith
 at_place (name ∷ names) p zero = p.0
 at_place (name ∷ names) p (suc place) = at_place names p.1 place
 
-pub name_short : (s : Setup) → IsSound s → (m : ℕ) → length (name_of s m) ≤ 81
-name_short s sound m = at_place (member_names s) (names_short s.groups sound.names) m
+pub name_short : (s : Setup) → IsSound s → (m : ℕ) → length (name_of s m) ≤ 97
+name_short s sound m = at_place (member_names s) (names_short (is_name_of s.version) (short_name s.version) s.groups sound.names) m
 
 -- ---- lines
 

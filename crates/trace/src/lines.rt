@@ -11,12 +11,12 @@ use scenario::Scenario;
 
 /// Room for any line: three numbers of at most 20 digits, three names, a word, a digit, seven commas and a
 /// line feed.
-pub(crate) const ROOM: usize = 321;
+pub(crate) const ROOM: usize = 369;
 
 /// Lays the lines of rows at the end of the room, from the last to the first, and answers where they start.
 pub(crate) fn lay_lines(rows: &[Row], scenario: &Scenario, room: &mut [u8]) -> usize
     requires named { All (NamesMembers scenario.now) rows.now }
-    requires room { 321 * length rows.now ≤ length room.old }
+    requires room { 369 * length rows.now ≤ length room.old }
     ensures start { result ≤ length room.old }
     ensures laid { drop result room.new ≡ rows_text scenario.now rows.now }
 {
@@ -32,8 +32,8 @@ pub(crate) fn lay_lines(rows: &[Row], scenario: &Scenario, room: &mut [u8]) -> u
 /// Lays a row's line before a place, and answers where it starts.
 fn lay_line(row: &Row, scenario: &Scenario, room: &mut [u8], end: usize) -> usize
     requires named { NamesMembers scenario.now row.now }
-    requires room { (321 ≤ end) × (end ≤ length room.old) }
-    ensures start { (result < end) × (end ≤ result + 321) }
+    requires room { (369 ≤ end) × (end ≤ length room.old) }
+    ensures start { (result < end) × (end ≤ result + 369) }
     ensures laid { drop result room.new ≡ line_of scenario.now row.now ++ drop end room.old }
 {
     let end = lay_byte(b'\n', room, end);
@@ -43,8 +43,8 @@ fn lay_line(row: &Row, scenario: &Scenario, room: &mut [u8], end: usize) -> usiz
 /// Lays a row's fields before a place, from the last to the first, and answers where they start.
 fn lay_fields(row: &Row, scenario: &Scenario, room: &mut [u8], end: usize) -> usize
     requires named { NamesMembers scenario.now row.now }
-    requires room { (320 ≤ end) × (end ≤ length room.old) }
-    ensures start { (result < end) × (end ≤ result + 320) }
+    requires room { (368 ≤ end) × (end ≤ length room.old) }
+    ensures start { (result < end) × (end ≤ result + 368) }
     ensures laid { drop result room.new ≡ join_with_byte 44 (fields_of scenario.now row.now) ++ drop end room.old }
 {
     let end = lay_byte(lost_digit(row.lost), room, end);
@@ -102,7 +102,7 @@ fn lay_byte(byte: u8, room: &mut [u8], end: usize) -> usize
 fn member_name(member: MemberId, scenario: &Scenario) -> &str
     requires { member < member_count scenario.now }
     ensures value { result.now ≡ name_of scenario.now member }
-    ensures short { length result.now ≤ 81 }
+    ensures short { length result.now ≤ 97 }
 {
     scenario.name(member)
 }
@@ -111,7 +111,7 @@ fn member_name(member: MemberId, scenario: &Scenario) -> &str
 fn about_name(about: Option<MemberId>, scenario: &Scenario) -> &str
     requires { IfSome about (λ member. member < member_count scenario.now) }
     ensures value { result.now ≡ about_text scenario.now about }
-    ensures short { length result.now ≤ 81 }
+    ensures short { length result.now ≤ 97 }
 {
     match about {
         Some(member) => member_name(member, scenario),

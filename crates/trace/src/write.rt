@@ -90,7 +90,7 @@ pub fn write_rows<S: Sink>(
 
 /// Room for the lines of so many rows, as far as they are put at once.
 fn room_for(alloc: Global, rows: usize) -> Result<Vec<u8>, Memory>
-    ensures { IfOk result (λ room. length room.items ≡ 321 * min rows 128) }
+    ensures { IfOk result (λ room. length room.items ≡ 369 * min rows 128) }
 {
     Ok(vec![in alloc; 0; rows.min(ROWS_AT_ONCE) * ROOM]?)
 }
@@ -104,7 +104,7 @@ fn put_rows<S: Sink>(
 ) -> Result<(), WriteError>
     requires named { All (NamesMembers scenario.now) rows.now }
     requires countable { S.failed sink.old < 2 ^ 63 }
-    requires room { length room.old ≡ 321 * min (length rows.now) 128 }
+    requires room { length room.old ≡ 369 * min (length rows.now) 128 }
     ensures whole { OnOk result (Appends (S.held sink.old) (S.held sink.new) (rows_text scenario.now rows.now)) }
     ensures part { OnErr result (AppendsBeginning (S.held sink.old) (S.held sink.new) (rows_text scenario.now rows.now)) }
     ensures failures { S.failed sink.new ≡ S.failed sink.old + failures_of_write result }

@@ -11,12 +11,17 @@ use Rattle.std.proofs.lemmas.Option.{slice_get_within}
 use Rattle.base.specs.declared.key.Key.{Key}
 use Rattle.base.specs.Order.{key_cmp, key_total, key_exact}
 use Rattle.base.specs.World.{IsPending, with_events}
+use Rattle.base.specs.declared.profile.Profile.{Profile}
+use Rattle.base.specs.declared.profile.Profile.TheVariants.{Papers, Memberlist, Hashicorp}
+use Rattle.scenario.specs.Profile.{profile_of}
+use Rattle.scenario.specs.Setup as setup
 use Rattle.scenario.specs.Setup.{Setup, start_of, crash_of, leave_of}
+use Rattle.scenario.specs.declared.script.ScriptEvent.{ScriptEvent}
 use Rattle.scenario.specs.Division.{Deal}
 use Rattle.member.specs.declared.event_kind.EventKind.{EventKind}
 use Rattle.member.specs.declared.event_kind.EventKind.TheVariants.{Start, Crash, Leave}
 use Rattle.member.specs.declared.event.Event.{Event}
-use Rattle.member.specs.Opening.{opening_state, script_key, ending_event, script_of}
+use Rattle.member.specs.Opening.{opening_state, script_key, ending_event, numbered_from, content_of, script_of, whole_script_of, script_by}
 use Rattle.member.specs.State.{State}
 use Rattle.member_laws.specs.Runs.{Cluster}
 use Rattle.windows.specs.declared.part.Part.{Part}
@@ -69,27 +74,50 @@ module _ (owns : ℕ → Bool) (m : ℕ) where
       ∙ ap (λ l. cond b (ending_event Crash m (crash_of s m)) [] ++ l) (ending_own Leave b is (leave_of s m))
 
   -- a member's script is for it alone
-  script_own : (s : Setup) (b : Bool) → owns m ≡ b → for_own owns (script_of s m) ≡ cond b (script_of s m) []
-  script_own s true is =
+  once_own : (s : Setup) (b : Bool) → owns m ≡ b → for_own owns (script_of s m) ≡ cond b (script_of s m) []
+  once_own s true is =
       ap (λ b. cond b ((script_key m (start_of s m) 0, Start) ∷ for_own owns (endings s)) (for_own owns (endings s))) is
       ∙ ap (λ l. (script_key m (start_of s m) 0, Start) ∷ l) (endings_in_two s true is)
-  script_own s false is =
+  once_own s false is =
       ap (λ b. cond b ((script_key m (start_of s m) 0, Start) ∷ for_own owns (endings s)) (for_own owns (endings s))) is
       ∙ endings_in_two s false is
+
+  numbered_own : (number : ℕ) (events : List ScriptEvent) (b : Bool) → owns m ≡ b → for_own owns (numbered_from m number events) ≡ cond b (numbered_from m number events) []
+  numbered_own number [] true is = refl
+  numbered_own number [] false is = refl
+  numbered_own number (e ∷ es) true is =
+      ap (λ b. cond b ((script_key m e.at number, content_of e.kind) ∷ for_own owns (numbered_from m (number + 1) es)) (for_own owns (numbered_from m (number + 1) es))) is
+      ∙ ap (λ l. (script_key m e.at number, content_of e.kind) ∷ l) (numbered_own (number + 1) es true is)
+  numbered_own number (e ∷ es) false is =
+      ap (λ b. cond b ((script_key m e.at number, content_of e.kind) ∷ for_own owns (numbered_from m (number + 1) es)) (for_own owns (numbered_from m (number + 1) es))) is
+      ∙ numbered_own (number + 1) es false is
+
+  whole_own : (s : Setup) (b : Bool) → owns m ≡ b → for_own owns (whole_script_of s m) ≡ cond b (whole_script_of s m) []
+  whole_own s true is =
+      ap (λ b. cond b ((script_key m (start_of s m) 0, Start) ∷ for_own owns (numbered_from m 1 (setup.script_of s m))) (for_own owns (numbered_from m 1 (setup.script_of s m)))) is
+      ∙ ap (λ l. (script_key m (start_of s m) 0, Start) ∷ l) (numbered_own 1 (setup.script_of s m) true is)
+  whole_own s false is =
+      ap (λ b. cond b ((script_key m (start_of s m) 0, Start) ∷ for_own owns (numbered_from m 1 (setup.script_of s m))) (for_own owns (numbered_from m 1 (setup.script_of s m)))) is
+      ∙ numbered_own 1 (setup.script_of s m) false is
+
+  script_own : (profile : Profile) (s : Setup) (b : Bool) → owns m ≡ b → for_own owns (script_by profile s m) ≡ cond b (script_by profile s m) []
+  script_own Papers s b is = once_own s b is
+  script_own Memberlist s b is = once_own s b is
+  script_own Hashicorp s b is = whole_own s b is
 
   -- who comes to a cluster comes to its own part, and to no other
   pub part_admits : (s : Setup) (w : Cluster) → owns m ≡ true → part_of owns (with_member s m w) ≡ with_member s m (part_of owns w)
   part_admits s w mine =
       let members = retain_insert nat_cmp_total nat_cmp-IsAntisymmetric owns w.members m (opening_state s m) mine in
-      let pending : own_keys owns (with_events w.pending (script_of s m)) ≡ with_events (own_keys owns w.pending) (script_of s m) =
-      retain_events owns (script_of s m) w.pending ∙ ap (with_events (own_keys owns w.pending)) (script_own s true mine) in
+      let pending : own_keys owns (with_events w.pending (script_by (profile_of s) s m)) ≡ with_events (own_keys owns w.pending) (script_by (profile_of s) s m) =
+      retain_events owns (script_by (profile_of s) s m) w.pending ∙ ap (with_events (own_keys owns w.pending)) (script_own (profile_of s) s true mine) in
       λ i. record { members = members i; pending = pending i }
 
   pub part_passes : (s : Setup) (w : Cluster) → owns m ≡ false → part_of owns (with_member s m w) ≡ part_of owns w
   part_passes s w other =
       let members = retain_insert_other nat_cmp_total nat_cmp-IsAntisymmetric owns w.members m (opening_state s m) other in
-      let pending : own_keys owns (with_events w.pending (script_of s m)) ≡ own_keys owns w.pending =
-      retain_events owns (script_of s m) w.pending ∙ ap (with_events (own_keys owns w.pending)) (script_own s false other) in
+      let pending : own_keys owns (with_events w.pending (script_by (profile_of s) s m)) ≡ own_keys owns w.pending =
+      retain_events owns (script_by (profile_of s) s m) w.pending ∙ ap (with_events (own_keys owns w.pending)) (script_own (profile_of s) s false other) in
       λ i. record { members = members i; pending = pending i }
 
 -- one part more, with the next number

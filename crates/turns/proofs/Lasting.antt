@@ -19,7 +19,7 @@ use Rattle.member.proofs.Fair.{steps_later}
 use Rattle.member_laws.specs.Runs.{Cluster, IsSoundCluster, CounterOverflows}
 use Rattle.member_laws.proofs.Reached.{consistent_reached, pending_among}
 use Rattle.windows.proofs.Members.{sound_stays}
-use Rattle.turns.proofs.Wearing.{overflow_stays}
+use Rattle.turns.proofs.ProcessWearing.{overflow_stays}
 use Rattle.turns.proofs.Ends.{one_end, end_there, end_before}
 
 module _ (s : Setup) (sound : IsSound s) where

@@ -8,5 +8,6 @@ pub mod After
 pub mod Goes
 pub mod Ends
 mod Wearing
+pub mod ProcessWearing
 pub mod Lasting
 mod Admitted

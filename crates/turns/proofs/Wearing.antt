@@ -1,9 +1,8 @@
 -- A counter past its limit stays so through every step.
-use Rattle.std.proofs.Common.{◌≡◌, ℕ, nat_eq, nat_lt, ◌<◌, Bool, true, false, cond, List, Option, Some, None, subst, refl, arith, inl, inr}
-use Rattle.std.specs.Option.{option_map_or, option_or}
+use Rattle.std.proofs.Common.{◌≡◌, ℕ, nat_eq, nat_lt, ◌<◌, ◌^◌, Bool, true, false, cond, List, Option, Some, None, refl, arith, inl, inr}
 use Rattle.base.specs.declared.key.Key.{Key}
 use Rattle.std.specs.FinSet as set
-use Rattle.scenario.specs.Setup.{Setup, crash_of, leave_of}
+use Rattle.scenario.specs.Setup.{Setup, start_of}
 use Rattle.base.specs.declared.profile.Profile.{Profile}
 use Rattle.base.specs.declared.profile.Profile.TheVariants.{Papers, Memberlist, Hashicorp}
 use Rattle.scenario.specs.Profile.{profile_of}
@@ -17,23 +16,24 @@ use Rattle.member.specs.declared.event_kind.EventKind.{EventKind}
 use Rattle.member.specs.declared.event_kind.EventKind.TheVariants.{Start, Crash, Leave, JoinTimer, PeriodTimer, TimeoutTimer, NackTimer, SuspicionTimer, Join, Welcome, Ping, PingReq, Ack, Nack, Bye, DeadlineTimer, GossipTimer, PushTimer, Call, Answer, Gossip, Push, Pull}
 use Rattle.member.specs.declared.announce.Announce.TheVariants.{Aloud, Quietly}
 use Rattle.member.specs.State.{State}
-use Rattle.member.specs.Effects.{Effect, unchanged, with_event}
+use Rattle.member.specs.Effects.{Effect, on_state, with_row, with_event}
+use Rattle.member.specs.FirstRounds.{first_round}
+use Rattle.membership.specs.Table.{all_alive}
+use Rattle.probing.specs.ProbeOrder.{round_over}
 use Rattle.member.specs.Send.{ping_req_sent, nack_sent, bye_sent, gossip_sent, answer_sent, push_sent, pull_sent}
-use Rattle.member.specs.Opening.{opening_state}
 use Rattle.base.specs.Beats.{next_in_step}
 use Rattle.member.specs.LoneBuddy.{plain_ping_sent}
 use Rattle.member.specs.SingleBeat.{single_beaten, single_deadline_over, single_answered}
 use Rattle.member.specs.LateAcks.{ping_answered, help_asked_for, single_ack_taken, single_ack_heard, help_over}
-use Rattle.member.specs.Step.{single_handled, period_beaten, is_under_way, deadline_over, timed_ack_heard, sampled_help, timed_out_timed, answer_heard, is_told_out, gossip_spread, gossip_due, pushed, push_due, push_heard, timed_handled, handled_by, crashed, join_asked, join_handled, joined, period_begun, timed_out, help_asked, ping_heard, ping_req_heard, ack_heard, nack_due, nack_heard, confirmed, suspicion_over, withdrawn, byes_said, departed, plain_handled, handled, step}
+use Rattle.member.specs.Step.{single_handled, period_beaten, is_under_way, deadline_over, timed_ack_heard, sampled_help, timed_out_timed, answer_heard, is_told_out, gossip_spread, gossip_due, pushed, push_due, push_heard, timed_handled, first_others, began, joining_begun, started, crashed, join_asked, join_handled, joined, period_begun, timed_out, help_asked, ping_heard, ping_req_heard, ack_heard, nack_due, nack_heard, confirmed, suspicion_over, withdrawn, byes_said, departed, plain_handled, handled}
 use Rattle.member.specs.CounterOverflow.{IsOverflowed}
-use Rattle.member.proofs.CounterOverflow.{kept_event, kept_posted, kept_gossip, kept_push, kept_merged, kept_in_turn, kept_waiting, kept_settled, kept_timed_taken, kept_called, kept_gossip_set_again, kept_row, kept_timer, kept_sent, kept_ping, kept_ping_req, kept_ack, kept_join, kept_welcome, kept_bye, kept_each, kept_applied, kept_all, kept_probe_ended, kept_next, kept_owed, kept_taken, kept_first_period, kept_health, kept_beat_taken, kept_if_waiting, kept_plain_ping, kept_relay}
-use Rattle.member_laws.specs.Words.{WaitsAsOpened}
+use Rattle.member.proofs.CounterOverflow.{kept_event, kept_posted, kept_gossip, kept_push, kept_merged, kept_in_turn, kept_waiting, kept_settled, kept_timed_taken, kept_called, kept_gossip_set_again, kept_row, kept_timer, kept_sent, kept_ping, kept_ping_req, kept_ack, kept_pings_ack, kept_join, kept_welcome, kept_bye, kept_each, kept_applied, kept_all, kept_probe_ended, kept_next, kept_owed, kept_taken, kept_first_period, kept_health, kept_beat_taken, kept_if_waiting, kept_plain_ping, kept_relay}
 
-either_overflow : (b : Bool) (o p : Effect) → IsOverflowed o.state → IsOverflowed p.state → IsOverflowed (cond b o p).state
+pub either_overflow : (b : Bool) (o p : Effect) → IsOverflowed o.state → IsOverflowed p.state → IsOverflowed (cond b o p).state
 either_overflow true o p first second = first
 either_overflow false o p first second = second
 
-kept_crashed : (k : Key) (o : Effect) → IsOverflowed o.state → IsOverflowed (crashed k o).state
+pub kept_crashed : (k : Key) (o : Effect) → IsOverflowed o.state → IsOverflowed (crashed k o).state
 unfolding crashed
 kept_crashed k o overflow = kept_row k _ _ _ _ _ overflow
 
@@ -105,9 +105,40 @@ kept_departed : (s : Setup) (k : Key) (o : Effect) → IsOverflowed o.state → 
 unfolding departed
 kept_departed s k o overflow = kept_byes s k _ (kept_row k _ _ _ _ _ overflow)
 
-kept_plain : (s : Setup) (k : Key) (c : EventKind) (phase : Phase) (o : Effect) → (phase ≡ Waiting → ¬ (IsOverflowed o.state)) → IsOverflowed o.state → IsOverflowed (plain_handled s k c phase o).state
+-- ---- starts
+
+-- where two counters are the same, and the third was within its limit, it is one of these that is past it
+pub counters_stay : (t u : State) → u.next_number ≡ t.next_number → u.sequence ≡ t.sequence → ¬ (2 ^ 63 < t.incarnation) → IsOverflowed t → IsOverflowed u
+counters_stay t u number sequence within overflow =
+    elim overflow [
+      | inl h ↦ inl (omega (arith, h, number))
+      | inr more ↦ elim more [ inl h ↦ inr (inl (omega (arith, h, sequence))) | inr h ↦ absurd (within h) ]
+    ]
+
+kept_first_round : (profile : Profile) (t : State) → IsOverflowed t → IsOverflowed (first_round profile t)
+kept_first_round Papers t overflow = overflow
+kept_first_round Memberlist t overflow = overflow
+kept_first_round Hashicorp t overflow = overflow
+
+pub kept_began : (s : Setup) (k : Key) (o : Effect) → ¬ (2 ^ 63 < o.state.incarnation) → IsOverflowed o.state → IsOverflowed (began s k o).state
+unfolding began
+kept_began s k o within overflow =
+    let others = first_others s k.to in
+    let known : State = record o.state { phase = Running; incarnation = 0; table = all_alive others; rota = round_over others } in
+    kept_first_period s k (on_state (first_round (profile_of s)) (on_state (λ t. record t { phase = Running; incarnation = 0; table = all_alive others; rota = round_over others }) o))
+    (kept_first_round (profile_of s) known (counters_stay o.state known refl refl within overflow))
+
+kept_joining : (s : Setup) (k : Key) (o : Effect) → IsOverflowed o.state → IsOverflowed (joining_begun s k o).state
+unfolding joining_begun
+kept_joining s k o overflow = kept_join_asked s k _ overflow
+
+kept_started : (s : Setup) (k : Key) (o : Effect) → ¬ (2 ^ 63 < o.state.incarnation) → IsOverflowed o.state → IsOverflowed (started s k o).state
+unfolding started with_row
+kept_started s k o within overflow = either_overflow (nat_eq (start_of s k.to) 0) _ _ (kept_began s k _ within overflow) (kept_joining s k _ overflow)
+
+kept_plain : (s : Setup) (k : Key) (c : EventKind) (phase : Phase) (o : Effect) → (phase ≡ Waiting → ¬ (2 ^ 63 < o.state.incarnation)) → IsOverflowed o.state → IsOverflowed (plain_handled s k c phase o).state
 unfolding plain_handled
-kept_plain s k Start Waiting o waits overflow = absurd (waits refl overflow)
+kept_plain s k Start Waiting o waits overflow = kept_started s k o (waits refl) overflow
 kept_plain s k Crash Joining o waits overflow = kept_crashed k o overflow
 kept_plain s k Crash Running o waits overflow = kept_crashed k o overflow
 kept_plain s k JoinTimer Joining o waits overflow = kept_join_asked s k o overflow
@@ -123,7 +154,7 @@ kept_plain s k (Ack initiator seq updates) Running o waits overflow = kept_ack_h
 kept_plain s k (Nack seq) Running o waits overflow = kept_nack_heard seq o overflow
 kept_plain s k _ _ o waits overflow = overflow
 
-kept_handled : (s : Setup) (k : Key) (c : EventKind) (phase : Phase) (o : Effect) → (phase ≡ Waiting → ¬ (IsOverflowed o.state)) → IsOverflowed o.state → IsOverflowed (handled s k c phase o).state
+pub kept_handled : (s : Setup) (k : Key) (c : EventKind) (phase : Phase) (o : Effect) → (phase ≡ Waiting → ¬ (2 ^ 63 < o.state.incarnation)) → IsOverflowed o.state → IsOverflowed (handled s k c phase o).state
 unfolding handled
 kept_handled s k Leave Joining o waits overflow = kept_withdrawn k o overflow
 kept_handled s k Leave Running o waits overflow = kept_departed s k o overflow
@@ -165,7 +196,7 @@ kept_answer_heard : (seq : ℕ) (o : Effect) → IsOverflowed o.state → IsOver
 unfolding answer_heard
 kept_answer_heard seq o overflow = overflow
 
-kept_spread : (s : Setup) (k : Key) (gossip : settings.Gossip) (o : Effect) → IsOverflowed o.state → IsOverflowed (gossip_spread s k gossip o).state
+pub kept_spread : (s : Setup) (k : Key) (gossip : settings.Gossip) (o : Effect) → IsOverflowed o.state → IsOverflowed (gossip_spread s k gossip o).state
 unfolding gossip_spread
 kept_spread s k gossip o overflow = kept_each (gossip_sent s k) (kept_gossip s k) _ _ overflow
 
@@ -185,7 +216,7 @@ kept_push_heard : (s : Setup) (k : Key) (entries : List Update) (o : Effect) →
 unfolding push_heard pull_sent
 kept_push_heard s k entries o overflow = kept_merged s k entries _ (kept_posted s k _ _ _ _ _ o overflow)
 
-kept_timed : (s : Setup) (k : Key) (c : EventKind) (o : Effect) → IsOverflowed o.state → IsOverflowed (timed_handled s k c o).state
+pub kept_timed : (s : Setup) (k : Key) (c : EventKind) (o : Effect) → IsOverflowed o.state → IsOverflowed (timed_handled s k c o).state
 unfolding timed_handled
 kept_timed s k PeriodTimer o overflow = kept_beaten s k o overflow
 kept_timed s k (TimeoutTimer seq) o overflow = kept_timed_out_timed s k seq o.state.probe o overflow
@@ -223,32 +254,12 @@ kept_help_over : (s : Setup) (k : Key) (initiator seq : ℕ) (o : Effect) → Is
 unfolding help_over
 kept_help_over s k initiator seq o overflow = either_overflow s.lifeguard.probe _ _ (kept_nack_due s k initiator seq o overflow) overflow
 
-kept_single : (s : Setup) (k : Key) (c : EventKind) (o : Effect) → IsOverflowed o.state → IsOverflowed (single_handled s k c o).state
+pub kept_single : (s : Setup) (k : Key) (c : EventKind) (o : Effect) → IsOverflowed o.state → IsOverflowed (single_handled s k c o).state
 unfolding single_handled ping_answered help_asked_for single_ack_heard
 kept_single s k PeriodTimer o overflow = kept_single_beaten s k o overflow
 kept_single s k (DeadlineTimer seq) o overflow = kept_single_deadline s k seq o overflow
-kept_single s k (Ping initiator seq updates) o overflow = kept_all s Aloud k updates _ (kept_ack s k k.from initiator seq o overflow)
+kept_single s k (Ping initiator seq updates) o overflow = kept_all s Aloud k updates _ (kept_pings_ack s k k.from initiator seq o overflow)
 kept_single s k (PingReq target seq updates) o overflow = kept_all s Aloud k updates _ (kept_relay s k seq (plain_ping_sent s k target k.from seq o) (kept_plain_ping s k target k.from seq o overflow))
 kept_single s k (Ack initiator seq updates) o overflow = kept_all s Aloud k updates _ (kept_single_ack s k initiator seq o overflow)
 kept_single s k (NackTimer initiator seq) o overflow = kept_help_over s k initiator seq o overflow
 kept_single s k c o overflow = kept_timed s k c o overflow
-
-kept_by : (s : Setup) (k : Key) (c : EventKind) (phase : Phase) (profile : Profile) (o : Effect) → (phase ≡ Waiting → ¬ (IsOverflowed o.state)) → IsOverflowed o.state → IsOverflowed (handled_by phase profile s k c o).state
-kept_by s k c Running Memberlist o waits overflow = kept_timed s k c o overflow
-kept_by s k c Running Hashicorp o waits overflow = kept_single s k c o overflow
-kept_by s k c Running Papers o waits overflow = kept_handled s k c Running o waits overflow
-kept_by s k c Waiting profile o waits overflow = kept_handled s k c Waiting o waits overflow
-kept_by s k c Joining profile o waits overflow = kept_handled s k c Joining o waits overflow
-kept_by s k c Down profile o waits overflow = kept_handled s k c Down o waits overflow
-
-fresh_number : (ending : Option ℕ) → option_map_or (λ at. 2) ending 1 < 3
-fresh_number None = omega arith
-fresh_number (Some at) = omega arith
-
-opened_no_overflow : (s : Setup) (m : ℕ) → ¬ (IsOverflowed (opening_state s m))
-unfolding opening_state
-opened_no_overflow s m overflow = let few = fresh_number (option_or (crash_of s m) (leave_of s m)) in elim overflow [ inl h ↦ omega arith | inr more ↦ elim more [ inl h ↦ omega arith | inr h ↦ omega arith ] ]
-
-pub overflow_stays : (s : Setup) (k : Key) (c : EventKind) (t : State) → WaitsAsOpened s k.to t → IsOverflowed t → IsOverflowed (step s k c t).state
-unfolding step
-overflow_stays s k c t waits overflow = kept_by s k c t.phase (profile_of s) (unchanged t) (λ is h. opened_no_overflow s k.to (subst IsOverflowed (waits is) h)) overflow

@@ -1,13 +1,12 @@
 -- A document of version 1 that is accepted, given version 2.
 use Rattle.std.proofs.Common.{◌≡◌, ℕ, List, [], ◌∷◌, map, ◌||◌, Bool, true, false, nat_lt, Option, Some, None, is_some, Result, Ok, Err, if◌then◌else◌, true≢false, refl, sym, ap, subst, ◌∙◌, arith}
 use Rattle.std.specs.List.{list_any}
-use Rattle.std.specs.Option.{option_or, option_map_or}
+use Rattle.std.specs.Option.{option_or, option_map, option_and_then, option_map_or}
 use Rattle.toml.specs.Data.{Data, string, integer, float, boolean, datetime, array, table, Members}
 use Rattle.schema.specs.Schema.{most_members}
 use Rattle.schema.specs.Tree.{value_at, items_of, tables_of}
 use Rattle.schema.specs.Values.{whole_or, default_of, number_at}
 use Rattle.schema.specs.Shape.{table_breaks, breaks, least_broken_of_shape, KeepsShape}
-use Rattle.schema.specs.declared.schema.Version.{Version}
 use Rattle.schema.specs.declared.schema.Version.TheVariants.{One, Two}
 use Rattle.schema.specs.declared.schema.FormatKey.{FormatKey}
 use Rattle.schema.specs.declared.schema.FormatKey.TheVariants as key
@@ -15,8 +14,8 @@ use Rattle.schema.specs.declared.schema.Section.TheVariants as section
 use Rattle.schema.specs.declared.shape.Check.TheVariants.{Missing, Unknown, WrongKind, OutOfRange}
 use Rattle.schema.proofs.Chain.{nothing_of_shape}
 use Rattle.scenario.specs.Setup.{Setup, Group, member_count}
-use Rattle.scenario_reader.specs.Reading.{version_numbered, version_of, plain_group, plain_groups, group_in, path_in, slow_in, crash_in, leave_in, cut_in, swim_in, suspicion_in, lifeguard_in, link_in, gossip_in, stream_in, stream_table, leaves_in, cuts_in, pauses_in, setup_of_tree}
-use Rattle.scenario_reader.specs.Rules.{has_lost_contact, names_no_member, names_no_group, breaks_names, breaks_references, breaks_added_references, breaks_pairs, breaks_departures, breaks_pauses, breaks_times, breaks_added_times, breaks_size, least_of, least_broken_by, least_broken, unless_broken, document_verdict, tree_of, verdict}
+use Rattle.scenario_reader.specs.Reading.{version_numbered, version_of, plain_group, plain_groups, group_in, path_in, slow_in, crash_in, leave_in, cut_in, swim_in, suspicion_in, lifeguard_in, link_in, gossip_in, stream_in, stream_table, leaves_in, cuts_in, pauses_in, restarts_in, blocks_in, queue_in, dial_in, serf_in, fourth_table, setup_of_tree}
+use Rattle.scenario_reader.specs.Rules.{has_lost_contact, names_no_member, names_no_group, breaks_names, breaks_references, breaks_added_references, breaks_pairs, breaks_departures, breaks_pauses, breaks_times, breaks_added_times, breaks_size, least_of, least_broken_by, least_broken_in, least_broken, unless_broken, document_verdict, tree_of, verdict}
 use Rattle.scenario_reader.proofs.Chain.{version_is, accepted, answered_as_document}
 use Rattle.scenario_reader.proofs.First.{plain_of}
 use Rattle.sweep_plan.specs.Document.{data_of, with_value_in, with_values}
@@ -24,7 +23,7 @@ use Rattle.sweep_plan.specs.declared.choice.Choice.{Choice}
 use Rattle.sweep_plan.specs.declared.values.SweptValue.TheVariants.{Whole}
 use Rattle.version_laws.specs.Versions.{in_version_2, given_version_2}
 use Rattle.version_laws.proofs.Entries.{left_off, both_off}
-use Rattle.version_laws.proofs.Shapes.{given, values, same_values, version_there, SaysNoMore, no_more_by_shape, shape_stays}
+use Rattle.version_laws.proofs.Shapes.{given, same_values, version_there, SaysNoMore, no_more_by_shape, shape_stays}
 
 -- as a choice of a sweep
 pub as_swept : (tree : Data) (c : Choice) → c.key.table ≡ None → c.key.key ≡ key.Version → c.value ≡ Whole 2 → with_values tree (c ∷ []) None ≡ given_version_2 tree
@@ -149,6 +148,19 @@ module _ (ms : Members) (first : version_of (table ms) ≡ One) (no_more : SaysN
       ap (λ v. pauses_in v (plain_groups (table (given ms))) (table (given ms))) (is_second ms)
       ∙ ap (λ v. pauses_in v (plain_groups (table ms)) (table ms)) (sym first)
 
+  same_restarts : restarts_in (version_of (table (given ms))) (plain_groups (table (given ms))) (table (given ms)) ≡ restarts_in (version_of (table ms)) (plain_groups (table ms)) (table ms)
+  same_restarts =
+      ap (λ v. restarts_in v (plain_groups (table (given ms))) (table (given ms))) (is_second ms)
+      ∙ ap (λ v. restarts_in v (plain_groups (table ms)) (table ms)) (sym first)
+
+  same_blocks : blocks_in (version_of (table (given ms))) (plain_groups (table (given ms))) (table (given ms)) ≡ blocks_in (version_of (table ms)) (plain_groups (table ms)) (table ms)
+  same_blocks =
+      ap (λ v. blocks_in v (plain_groups (table (given ms))) (table (given ms))) (is_second ms)
+      ∙ ap (λ v. blocks_in v (plain_groups (table ms)) (table ms)) (sym first)
+
+  no_table : (k : FormatKey) → fourth_table (version_of (table (given ms))) k (table (given ms)) ≡ fourth_table (version_of (table ms)) k (table ms)
+  no_table k = ap (λ v. fourth_table v k (table (given ms))) (is_second ms) ∙ ap (λ v. fourth_table v k (table ms)) (sym first)
+
   -- but for its version it is the same
   same_setup : setup_of_tree (table (given ms)) ≡ in_version_2 (setup_of_tree (table ms))
   unfolding setup_of_tree number_at plain_groups
@@ -171,6 +183,11 @@ module _ (ms : Members) (first : version_of (table ms) ≡ One) (no_more : SaysN
         gossip = same_gossip i;
         stream = same_stream i;
         pauses = same_pauses i;
+        restarts = same_restarts i;
+        blocks = same_blocks i;
+        queue = option_and_then queue_in (no_table key.Gossip i);
+        dial = dial_in (no_table key.Stream i);
+        serf = option_map serf_in (no_table key.Serf i);
       }
 
 -- ---- the rules on its values
@@ -221,14 +238,14 @@ unfolding least_broken
 table_stays ms s first ok =
     let says = answer_says (setup_of_tree (table ms)) (least_broken (table ms)) s ok in
     let version : version_of (table ms) ≡ One = sym (version_is (table ms)) ∙ ap (λ (t : Setup). t.version) says.1 ∙ first in
-    let both = neither (least_broken_of_shape (version_of (table ms)) (table ms)) (least_broken_by (table ms) (setup_of_tree (table ms))) says.0 in
+    let both = neither (least_broken_of_shape (version_of (table ms)) (table ms)) (least_broken_in (version_of (table ms)) (table ms) (setup_of_tree (table ms))) says.0 in
     let shape = keeps_shape (table ms) (ap (λ v. least_broken_of_shape v (table ms)) (sym version) ∙ both.0) in
     let no_more = no_more_by_shape ms shape in
     let fine : least_broken (table (given ms)) ≡ None =
-    ap (λ v. option_or (least_broken_of_shape v (table (given ms))) (least_broken_by (table (given ms)) (setup_of_tree (table (given ms))))) (is_second ms)
+    ap (λ v. option_or (least_broken_of_shape v (table (given ms))) (least_broken_in v (table (given ms)) (setup_of_tree (table (given ms))))) (is_second ms)
     ∙ ap (λ o. option_or o (least_broken_by (table (given ms)) (setup_of_tree (table (given ms))))) (nothing_of_shape Two (table (given ms)) (shape_stays ms shape))
     ∙ ap (least_broken_by (table (given ms))) (same_setup ms version no_more)
-    ∙ values_stay ms (setup_of_tree (table ms)) (version_is (table ms) ∙ version) no_more both.1 in
+    ∙ values_stay ms (setup_of_tree (table ms)) (version_is (table ms) ∙ version) no_more (ap (λ v. least_broken_in v (table ms) (setup_of_tree (table ms))) (sym version) ∙ both.1) in
     accepted (table (given ms)) fine ∙ ap Ok (same_setup ms version no_more ∙ ap in_version_2 says.1)
 
 shape_of : (tree : Data) (s : Setup) → s.version ≡ One → document_verdict tree ≡ Ok s → KeepsShape One tree
@@ -236,7 +253,7 @@ unfolding least_broken
 shape_of tree s first ok =
     let says = answer_says (setup_of_tree tree) (least_broken tree) s ok in
     let version : version_of tree ≡ One = sym (version_is tree) ∙ ap (λ (t : Setup). t.version) says.1 ∙ first in
-    keeps_shape tree (ap (λ v. least_broken_of_shape v tree) (sym version) ∙ (neither (least_broken_of_shape (version_of tree) tree) (least_broken_by tree (setup_of_tree tree)) says.0).0)
+    keeps_shape tree (ap (λ v. least_broken_of_shape v tree) (sym version) ∙ (neither (least_broken_of_shape (version_of tree) tree) (least_broken_in (version_of tree) tree (setup_of_tree tree)) says.0).0)
 
 pub document_stays : (tree : Data) (s : Setup) → s.version ≡ One → document_verdict tree ≡ Ok s → document_verdict (given_version_2 tree) ≡ Ok (in_version_2 s)
 document_stays tree s first ok =

@@ -1,10 +1,13 @@
 -- Runs of a scenario by versions 1 and 2.
-use Rattle.std.proofs.Common.{◌≡◌, List, ap, subst, sym, refl, ◌∙◌}
+use Rattle.std.proofs.Common.{◌≡◌, ◌≤◌, ◌^◌, List, ap, subst, sym, refl, ◌∙◌}
+use Rattle.base.proofs.Rising.{all_weaker}
 use Rattle.base.specs.World.{Run, SequentialRun}
 use Rattle.base.specs.declared.key.Key.{Key}
 use Rattle.schema.specs.declared.schema.Version.{Version}
 use Rattle.schema.specs.declared.schema.Version.TheVariants.{One, Two, Three, Four}
-use Rattle.scenario.specs.Setup.{Setup, IsBeforeThird, IsSound}
+use Rattle.std.specs.List.{list_all}
+use Rattle.scenario.specs.GroupNames.{is_name_of}
+use Rattle.scenario.specs.Setup.{Setup, Group, extra_by, entries_of, IsBeforeThird, IsBeforeFourth, IsSound, IsSoundEvent}
 use Rattle.trace.specs.declared.row.Row.{Row}
 use Rattle.trace.specs.Text.{line_of, trace_text}
 use Rattle.member.specs.Opening.{opening}
@@ -88,14 +91,13 @@ stays_sound s sound first = record {
   jitter = sound.jitter;
   loss = sound.loss;
   between = sound.between;
-  names = sound.names;
+  names = ap (λ v. list_all (λ (g : Group). is_name_of v g.name) s.groups) (sym first) ∙ sound.names;
   members = sound.members;
   starts = sound.starts;
   contacts = λ m here. let contact = sound.contacts m here in record { none = contact.none; some = contact.some };
   crashes = sound.crashes;
-  extras = sound.extras;
+  extras = λ m t. subst (λ v. extra_by v s.slows m t ≤ 2 ^ 24) first (sound.extras m t);
   leaves = sound.leaves;
-  once = sound.once;
   cuts = sound.cuts;
   first = λ is. absurd (subst IsTwo is tt);
   gossip = sound.gossip;
@@ -103,4 +105,13 @@ stays_sound s sound first = record {
   again = sound.again;
   pauses = sound.pauses;
   before_third = λ _. let without = sound.before_third (subst IsBeforeThird (sym first) tt) in record { fallback = without.fallback; gossip = without.gossip; pauses = without.pauses };
+  events = all_weaker (IsSoundEvent s) (IsSoundEvent (in_version_2 s)) (λ e fine. record { after = fine.after; small = fine.small; contact = fine.contact }) (entries_of s) sound.events;
+  blocks = sound.blocks;
+  queue = sound.queue;
+  limit = sound.limit;
+  retry = sound.retry;
+  serf = sound.serf;
+  before_fourth = λ _.
+      let without = sound.before_fourth (subst IsBeforeFourth (sym first) tt) in
+      record { restarts = without.restarts; blocks = without.blocks; queue = without.queue; serf = without.serf; once = without.once };
 }

@@ -11,7 +11,7 @@ use Rattle.member.specs.declared.member.Phase.TheVariants.{Waiting, Joining, Run
 use Rattle.member.specs.declared.event_kind.EventKind.{EventKind}
 use Rattle.member.specs.Effects.{Effect, unchanged, with_event, with_timer}
 use Rattle.member.specs.Send.{posted, buddy_of, ping_sent, ping_req_sent, ack_sent, nack_sent, join_sent, welcome_sent, bye_sent}
-use Rattle.member.specs.Apply.{with_put, passed_on, refuted, suspect_heard, news_heard, accusation_heard, applied, all_applied}
+use Rattle.member.specs.Apply.{with_put, passed_on, refuted, suspect_heard, news_heard, accusation_heard, claim_applied, applied, all_applied}
 use Rattle.member.specs.Step.{push_begun, first_period_set, first_others, began, join_asked, joining_begun, started, join_handled, joined, probe_failed, probe_ended, probe_begun, next_probed, period_begun, help_asked, timed_out, ping_heard, ping_req_heard, ack_taken, ack_heard, nack_due, suspicion_over, byes_said, departed, plain_handled, handled, handled_by, step}
 use Rattle.member.specs.Opening.{opening_state, opening}
 use Rattle.version_laws.specs.Versions.{in_version_2}
@@ -25,7 +25,7 @@ unfolding opening_state
 same_opening s = refl
 
 same_handled : (s : Setup) → handled (in_version_1 s) ≡ handled (in_version_2 s)
-unfolding handled plain_handled started began first_period_set first_others push_begun joining_begun join_asked join_handled joined period_begun next_probed probe_ended probe_failed probe_begun timed_out help_asked ping_heard ping_req_heard ack_heard ack_taken nack_due suspicion_over departed byes_said all_applied applied refuted accusation_heard news_heard suspect_heard passed_on with_put ping_sent ping_req_sent ack_sent nack_sent join_sent welcome_sent bye_sent buddy_of posted arrival_of uncut_arrival_of with_event with_timer awake
+unfolding handled plain_handled started began first_period_set first_others push_begun joining_begun join_asked join_handled joined period_begun next_probed probe_ended probe_failed probe_begun timed_out help_asked ping_heard ping_req_heard ack_heard ack_taken nack_due suspicion_over departed byes_said all_applied applied claim_applied refuted accusation_heard news_heard suspect_heard passed_on with_put ping_sent ping_req_sent ack_sent nack_sent join_sent welcome_sent bye_sent buddy_of posted arrival_of uncut_arrival_of with_event with_timer awake
 same_handled s = refl
 
 same_by_papers : (s : Setup) (phase : Phase) (k : Key) (c : EventKind) (o : Effect) → handled_by phase Papers (in_version_1 s) k c o ≡ handled_by phase Papers (in_version_2 s) k c o

@@ -1,10 +1,13 @@
 -- When a scenario is warned of something. `trip` is the greatest round trip of a pair of members.
-use Rattle.std.specs.Prelude.{ℕ, ◌+◌, ◌-◌, ◌*◌, Bool, true, false, List, length, not, ◌&&◌, ◌||◌, nat_lt, nat_le, nat_eq, Option}
+use Rattle.std.specs.Prelude.{ℕ, ◌+◌, ◌-◌, ◌*◌, Bool, true, false, List, length, not, ◌&&◌, ◌||◌, nat_lt, nat_le, nat_eq, fold, if◌then◌else◌}
 use Rattle.std.specs.List.{list_all, list_any, range_with_len}
-use Rattle.std.specs.Option.{is_some, option_map_or}
+use Rattle.std.specs.Option.{is_some}
 use Rattle.base.specs.declared.profile.Profile.{Profile}
 use Rattle.base.specs.declared.profile.Profile.TheVariants.{Papers, Memberlist, Hashicorp}
-use Rattle.scenario.specs.Setup.{Setup, member_count, start_of, crash_of, leave_of}
+use Rattle.scenario.specs.Setup.{Setup, member_count, start_of, crash_of, leave_of, script_of}
+use Rattle.scenario.specs.declared.script.ScriptEvent.{ScriptEvent}
+use Rattle.scenario.specs.declared.script.ScriptKind.{ScriptKind}
+use Rattle.scenario.specs.declared.script.ScriptKind.TheVariants.{Crash, Leave, Restart}
 use Rattle.scenario.specs.Profile.{profile_of}
 use Rattle.scenario.specs.declared.settings.Link.{Link}
 use Rattle.scenario.specs.declared.settings.Path.{Path}
@@ -68,13 +71,19 @@ is_lonely groups p = nat_eq p.from p.to && nat_le (size_of groups p.from) 1
 abbrev pub is_past : Setup → ℕ → Bool
 is_past s at = nat_lt s.end at
 
--- something has come by a moment
-abbrev pub has_come : Option ℕ → ℕ → Bool
-has_come at t = option_map_or (λ came. nat_le came t) at false
+-- a member goes by this event of its script, and doesn't start again
+abbrev pub goes_by : ScriptKind → Bool
+goes_by Crash = true
+goes_by Leave = true
+goes_by (Restart contact) = false
 
--- the member has crashed or left by a moment
+-- whether a member that was down or not is down after an event of its script, if that has come by a moment
+abbrev pub down_after : ℕ → Bool → ScriptEvent → Bool
+down_after t down e = if nat_le e.at t then goes_by e.kind else down
+
+-- the member has crashed or left by a moment, and not started again
 abbrev pub is_down : Setup → ℕ → ℕ → Bool
-is_down s m t = nat_lt m (member_count s) && (has_come (crash_of s m) t || has_come (leave_of s m) t)
+is_down s m t = nat_lt m (member_count s) && fold (down_after t) false (script_of s m)
 
 -- with what the slow member adds on the way there and back the greatest round trip is longer than the timeout
 abbrev pub is_slow_answer_late : Setup → ℕ → Slow → Bool
@@ -106,15 +115,16 @@ is_moved s m = nat_lt 0 (start_of s m) || is_some (crash_of s m) || is_some (lea
 abbrev pub is_somebody_moved : Setup → Bool
 is_somebody_moved s = list_any (is_moved s) (range_with_len 0 (member_count s))
 
--- nobody is slow or paused, and nothing is cut
+-- nobody is slow, paused or blocked, or starts again, and nothing is cut
 abbrev pub is_script_empty : Setup → Bool
-is_script_empty s = nat_eq (length s.slows) 0 && nat_eq (length s.cuts) 0 && nat_eq (length s.pauses) 0
+is_script_empty s =
+    nat_eq (length s.slows) 0 && nat_eq (length s.cuts) 0 && nat_eq (length s.pauses) 0 && nat_eq (length s.blocks) 0 && nat_eq (length s.restarts) 0
 
 -- no link loses a message
 abbrev pub is_loss_free : Setup → Bool
 is_loss_free s = nat_eq s.link.loss 0 && list_all (λ p. nat_eq p.link.loss 0) s.paths
 
--- Nothing happens: nobody joins later, crashes, leaves, is slow or paused, nothing is lost or cut, and each answer comes in time.
+-- Nothing happens: nobody joins later, crashes, leaves, starts again, is slow, paused or blocked, nothing is lost or cut, and each answer comes in time.
 abbrev pub is_run_quiet : Setup → ℕ → Bool
 is_run_quiet s trip = is_script_empty s && is_loss_free s && not (is_answer_late s trip) && not (is_somebody_moved s)
 

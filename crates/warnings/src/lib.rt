@@ -7,6 +7,7 @@ mod findings;
 mod lines;
 mod list;
 mod members;
+mod origins;
 mod paths;
 mod pauses;
 mod placing;

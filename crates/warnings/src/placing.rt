@@ -3,7 +3,8 @@ ghost use Rattle.std.specs.Prelude.{◌≡◌, IfOk, map};
 
 use crate::about::{Placed, about_of};
 use crate::lines::{line_starts, place_of_span};
-use crate::spans::{crash_items, span_of};
+use crate::origins::plain_entries;
+use crate::spans::{Document, crash_items, span_of};
 use crate::warning::Warning;
 use base::Memory;
 use scenario::Scenario;
@@ -21,11 +22,17 @@ pub fn places_of(
     ensures { IfOk result (λ placed. map (λ p. p.warning) placed.items ≡ warnings.now) }
 {
     let places = toml_places::read(alloc, text)?;
-    let crashes = crash_items(alloc, &places)?;
+    let plain = plain_entries(alloc, text)?;
+    let crashes = crash_items(alloc, &places, scenario, plain.as_ref())?;
+    let document = Document {
+        places: &places,
+        plain: plain.as_ref(),
+        crashes: &crashes,
+    };
     let starts = line_starts(alloc, text.as_bytes())?;
     let mut placed = Vec::new(alloc);
     for warning in warnings {
-        let span = span_of(&places, &crashes, scenario, about_of(*warning));
+        let span = span_of(&document, scenario, about_of(*warning));
         placed.push(Placed {
             warning: *warning,
             place: place_of_span(text, starts.as_slice(), span),

@@ -70,11 +70,15 @@ fn is_run_quiet(scenario: &Scenario, trip: u64) -> bool
         && !is_somebody_moved(scenario)
 }
 
-/// Whether nobody is slow or paused, and nothing is cut.
+/// Whether nobody is slow, paused or blocked, or starts again, and nothing is cut.
 fn is_script_empty(scenario: &Scenario) -> bool
     ensures { result ≡ is_script_empty scenario.now }
 {
-    scenario.slows().len() == 0 && scenario.cuts().len() == 0 && scenario.pauses().len() == 0
+    scenario.slows().len() == 0
+        && scenario.cuts().len() == 0
+        && scenario.pauses().len() == 0
+        && scenario.blocks().len() == 0
+        && scenario.restarts().len() == 0
 }
 
 /// Whether no link loses a message.

@@ -46,7 +46,7 @@ aimed n (Some p) target = target p refl
 
 -- a consistent state holds members of the scenario
 pub holds_members : (s : Setup) (m : ℕ) (t : State) → IsConsistent s m t → HoldsMembers s m t
-holds_members s m t h = record { others = h.others; listed = λ q absent. h.probes q ∙ none_living (get t.table q) absent; sound = h.order; target = aimed (member_count s) t.probe h.target }
+holds_members s m t h = record { others = h.others; listed = λ q absent. h.probes q ∙ none_living (get t.table q) absent; sound = h.order; target = aimed (member_count s) t.probe h.target; asked = h.life.asked }
 
 -- the event may be handled here
 pub event_here : (s : Setup) (l : Links) (bound : ℕ) (k : Key) (c : EventKind) → IsSound s → AreLinksOf l s → bound ≤ s.end + 1 → k.at < bound → IsAmongMembers s k c → IsSoundSetting s l k

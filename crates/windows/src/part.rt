@@ -1,9 +1,11 @@
 //! A part of a cluster: its members and the queue of their pending events, and how it runs a window up to a bound.
-ghost use Rattle.std.specs.Prelude.{◌≡◌, ◌+◌, ◌<◌, ◌++◌, ◌∷◌, [], true, false, All, IfOk, OnOk, IfSome, IfNone, IsErrOf, min};
-ghost use Rattle.std.specs.Option.{option_map_or};
+ghost use Rattle.std.specs.Prelude.{◌≡◌, ◌+◌, ◌<◌, ◌≤◌, ℕ, ◌++◌, ◌∷◌, [], true, false, All, None, IfOk, OnOk, IfSome, IfNone, IsErrOf, min};
+ghost use Rattle.std.specs.Option.{is_some, option_map_or};
 ghost use Rattle.std.specs.FinMap.{empty, contains_key, insert};
 ghost use Rattle.scenario.specs.Setup.{IsSound, member_count, crash_of, leave_of};
-ghost use Rattle.member.specs.Opening.{opening, script_key, ending_event};
+ghost use Rattle.base.specs.World.{with_events};
+ghost use Rattle.scenario.specs.Setup as setup;
+ghost use Rattle.member.specs.Opening.{opening, script_key, ending_event, numbered_from};
 ghost use Rattle.member.specs.StateOf.{pair_of};
 ghost use Rattle.member.specs.declared.event_kind.EventKind.TheVariants.{Crash, Leave};
 ghost use Rattle.member.specs.declared.event.Event.{Event as AnEvent};
@@ -19,8 +21,8 @@ use crate::cluster::Cluster;
 use crate::own_members::OwnMembers;
 use crate::setting::Setting;
 use crate::steps::{in_parts, run_from};
-use base::{Key, MemberId, Memory, Moment};
-use member::{Event, EventKind, Member, StepError};
+use base::{Key, MemberId, Memory, Moment, Profile};
+use member::{Event, EventKind, Member, StepError, content_of};
 use scenario::Scenario;
 use std::alloc::Global;
 use trace::Row;
@@ -73,7 +75,7 @@ impl<Q: EventQueue<Event> + Drop> Part<Q> {
     }
 
     /// Takes in a member of the scenario as it waits for its start, and lets pend what the script has for
-    /// it: its start, and its crash or its leave if it has one. So far only members before it have events.
+    /// it: its start, and its crashes, leaves and restarts if it has any. So far only members before it have events.
     pub fn admit(
         &mut self,
         alloc: Global,
@@ -89,9 +91,9 @@ impl<Q: EventQueue<Event> + Drop> Part<Q> {
         self.members.insert(alloc, member, waiting)?;
         let start = script_event(member, scenario.start(member), 0, EventKind::Start);
         push(&mut self.queue, start)?;
-        match ending_of(scenario, member) {
-            Some(ending) => push(&mut self.queue, ending),
-            None => Ok(()),
+        match scenario.profile() {
+            Profile::Papers | Profile::Memberlist => push_ending(&mut self.queue, scenario, member),
+            Profile::Hashicorp => push_script(&mut self.queue, scenario, member),
         }
     }
 
@@ -174,9 +176,47 @@ impl<Q: EventQueue<Event> + Drop> Part<Q> {
     }
 }
 
-/// The event with which the member's part ends, if the script has one: nobody crashes and leaves.
+/// Lets pend the event with which the member's part ends, if the script has one, as before version 4 of the format: it
+/// doesn't crash and leave.
+fn push_ending<Q: EventQueue<Event>>(
+    queue: &mut Q,
+    scenario: &Scenario,
+    member: MemberId,
+) -> Result<(), Memory>
+    requires named { member < member_count scenario.now }
+    requires once { is_some (leave_of scenario.now member) ≡ true → crash_of scenario.now member ≡ None }
+    requires new { (at : ℕ) → contains_key (contents_in (Q.set queue.old)) (script_key member at 1) ≡ false }
+    ensures { OnOk result (contents_in (Q.set queue.new) ≡ with_events (contents_in (Q.set queue.old)) (ending_event Crash member (crash_of scenario.now member) ++ ending_event Leave member (leave_of scenario.now member))) }
+{
+    match ending_of(scenario, member) {
+        Some(ending) => push(queue, ending),
+        None => Ok(()),
+    }
+}
+
+/// Lets pend what the script has for a member that may crash, leave and start again several times.
+fn push_script<Q: EventQueue<Event>>(
+    queue: &mut Q,
+    scenario: &Scenario,
+    member: MemberId,
+) -> Result<(), Memory>
+    requires named { member < member_count scenario.now }
+    requires new { (at number : ℕ) → 1 ≤ number → contains_key (contents_in (Q.set queue.old)) (script_key member at number) ≡ false }
+    ensures { OnOk result (contents_in (Q.set queue.new) ≡ with_events (contents_in (Q.set queue.old)) (numbered_from member 1 (setup.script_of scenario.now member))) }
+{
+    let script = scenario.script(member);
+    for (place, event) in script.iter().enumerate() {
+        let number = place as u64 + 1;
+        let content = content_of(event.kind);
+        push(queue, script_event(member, event.at, number, content))?;
+    }
+    Ok(())
+}
+
+/// The event with which the member's part ends, if the script has one. It doesn't crash and leave.
 fn ending_of(scenario: &Scenario, member: MemberId) -> Option<Event>
     requires named { member < member_count scenario.now }
+    requires once { is_some (leave_of scenario.now member) ≡ true → crash_of scenario.now member ≡ None }
     ensures event { option_map_or (λ (ending : AnEvent). pair_of ending ∷ []) result [] ≡ ending_event Crash member (crash_of scenario.now member) ++ ending_event Leave member (leave_of scenario.now member) }
     ensures key { IfSome result (λ ending. (ending.key.from ≡ member) × (ending.key.number ≡ 1)) }
 {

@@ -38,7 +38,7 @@ fn nearest(alloc: Global, name: &str) -> Result<Guess, Memory> {
     if name.len() > LONGEST {
         return Ok(guess);
     }
-    for row in Section::Top.rows(Version::Three) {
+    for row in Section::Top.rows(Version::Four) {
         consider_row(alloc, &mut guess, name, row)?;
     }
     Ok(guess)
@@ -48,7 +48,7 @@ fn nearest(alloc: Global, name: &str) -> Result<Guess, Memory> {
 fn consider_row(alloc: Global, guess: &mut Guess, name: &str, row: &KeyRule) -> Result<(), Memory> {
     match row.kind {
         Kind::Table(section) => {
-            consider_table(alloc, guess, name, row.key, section.rows(Version::Three))
+            consider_table(alloc, guess, name, row.key, section.rows(Version::Four))
         }
         _ => consider(alloc, guess, name, "", row.key),
     }

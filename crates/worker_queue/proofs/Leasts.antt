@@ -1,14 +1,15 @@
--- The least event of a list, found place by place, and taken out.
-use Rattle.std.proofs.Common.{◌≡◌, ℕ, zero, suc, ◌+◌, ◌<◌, ◌⊎◌, List, [], ◌∷◌, ◌++◌, length, get_or, swap_remove, IsPermutation, ap, ◌∙◌, sym, subst, refl, inl, inr, arith}
-use Rattle.std.specs.FinMap.{remove}
+-- The least event of a list, found place by place, and brought to its end.
+use Rattle.std.proofs.Common.{◌≡◌, ℕ, zero, suc, ◌+◌, ◌-◌, ◌<◌, ◌⊎◌, List, length, get_or, swap, IsSomeAnd, IsPermutation, ap, ◌∙◌, sym, subst, inl, inr, arith}
 use Rattle.std.proofs.lemmas.Bool.{cases_eq}
 use Rattle.std.proofs.lemmas.List.{get_or_default}
-use Rattle.std.proofs.lemmas.List.Sorted.{IsPermutation-sym, IsPermutation-to_front, IsPermutation-swap_remove}
+use Rattle.std.proofs.lemmas.List.Sorted.{IsPermutation-swap, length_permutation}
+use Rattle.std.proofs.lemmas.Option.{get_or_from_slice_get}
 use Rattle.base.specs.declared.key.Key.{Key}
 use Rattle.base.specs.Order.{IsBefore}
 use Rattle.base.specs.Run.{IsFirst}
-use Rattle.worker_queue.specs.Slots.{by_key, AreUnlike, IsLeastPlace, NoneIsBefore}
-use Rattle.worker_queue.proofs.Lists.{before_itself, not_both, not_before_through, get-by_key, is_found, one_with, unlike_moved, by_key-moved, unlike_front, by_key-front}
+use Rattle.worker_queue.specs.Slots.{by_key, AreUnlike, IsLeastPlace, NoneIsBefore, last_of}
+use Rattle.worker_queue.proofs.Lists.{before_itself, not_both, not_before_through, get-by_key, is_found, one_with, unlike_moved, by_key-moved}
+use Rattle.worker_queue.proofs.Ends.{at_last}
 
 module _ {E : Type 0} (key : E → Key) where
   module _ (xs : List E) where
@@ -42,40 +43,32 @@ module _ {E : Type 0} (key : E → Key) where
           by_place (inl is) = subst (λ n. ¬ (IsBefore (key (get_or xs n d)) (key (get_or xs place d)))) (sym is) not_here
           by_place (inr differs) = low k d (omega (arith, under, differs))
 
-    -- ---- the event at the place is taken out
+    -- ---- the event at the place changes places with the last
 
-    module _ (place : ℕ) (e : E) (within : place < length xs) (is : e ≡ get_or xs place e) (unlike : AreUnlike key xs) where
-      abbrev ys : List E
-      ys = swap_remove xs place e
+    module _ (place : ℕ) (within : place < length xs) (unlike : AreUnlike key xs) where
+      module _ (e : E) (is : e ≡ get_or xs place e) (least : IsLeastPlace key xs place) where
+        none_less : NoneIsBefore (by_key key xs) (key e)
+        none_less q here =
+            let one = one_with key xs q here in
+            let at = one.1.2 in
+            subst (λ k. ¬ (IsBefore k (key e))) (ap key at ∙ one.2) (subst (λ y. ¬ (IsBefore (key (get_or xs one.1.0 one.0)) (key y))) (get_or_default xs place one.0 e within ∙ sym is) (least one.1.0 one.0 one.1.1))
 
-      unlike_fronted : AreUnlike key (e ∷ ys)
-      unlike_fronted = unlike_moved key xs (e ∷ ys) (IsPermutation-swap_remove xs place e within is) unlike
+        first_of_list : IsFirst (by_key key xs) (key e) e
+        first_of_list = record { here = get-by_key key xs (key e) ∙ is_found key xs e unlike (place, within, sym is); least = none_less }
 
-      to_back : IsPermutation (e ∷ ys) (ys ++ e ∷ [])
-      to_back = IsPermutation-sym (ys ++ e ∷ []) (e ∷ ys) (IsPermutation-to_front ys e)
+      module _ (ys : List E) (count : ℕ) (counted : count ≡ length xs) (swapped : ys ≡ swap xs place (count - 1)) where
+        moved : IsPermutation xs ys
+        moved = IsPermutation-swap xs ys place (count - 1) within (omega (arith, counted, within)) swapped
 
-      unlike_ended : AreUnlike key (ys ++ e ∷ [])
-      unlike_ended = unlike_moved key (e ∷ ys) (ys ++ e ∷ []) to_back unlike_fronted
+        pub unlike_swapped : AreUnlike key ys
+        unlike_swapped = unlike_moved key xs ys moved unlike
 
-      pub unlike_taken : AreUnlike key ys
-      unlike_taken = unlike_front key (ys ++ e ∷ []) ys e refl unlike_ended
+        pub same_swapped : by_key key ys ≡ by_key key xs
+        same_swapped = by_key-moved key xs ys moved unlike
 
-      pub taken_out : by_key key ys ≡ remove (by_key key xs) (key e)
-      taken_out =
-          by_key-front key (ys ++ e ∷ []) ys e refl unlike_ended
-          ∙ ap (λ m. remove m (key e)) (by_key-moved key (e ∷ ys) (ys ++ e ∷ []) to_back unlike_fronted ∙ by_key-moved key xs (e ∷ ys) (IsPermutation-swap_remove xs place e within is) unlike)
-
-      none_less : IsLeastPlace key xs place → NoneIsBefore (by_key key xs) (key e)
-      none_less least q here =
-          let one = one_with key xs q here in
-          let at = one.1.2 in
-          subst (λ k. ¬ (IsBefore k (key e))) (ap key at ∙ one.2) (subst (λ y. ¬ (IsBefore (key (get_or xs one.1.0 one.0)) (key y))) (get_or_default xs place one.0 e within ∙ sym is) (least one.1.0 one.0 one.1.1))
-
-      pub first_of_list : IsLeastPlace key xs place → IsFirst (by_key key xs) (key e) e
-      first_of_list least = record {
-        here = get-by_key key xs (key e) ∙ is_found key xs e unlike (place, within, sym is);
-        least = none_less least;
-      }
-
-      pub none_of_list : IsLeastPlace key xs place → (limit : Key) → ¬ (IsBefore (key e) limit) → NoneIsBefore (by_key key xs) limit
-      none_of_list least limit late q here = not_before_through q (key e) limit (none_less least q here) late
+        pub first_swapped : IsLeastPlace key xs place → ((d : E) → get_or ys (count - 1) d ≡ get_or xs place d) → IsSomeAnd (last_of ys) (λ e. IsFirst (by_key key ys) (key e) e)
+        first_swapped least up =
+            let long : length ys ≡ length xs = length_permutation xs ys moved in
+            at_last key ys _ (omega arith) (λ e last.
+            let at : get_or ys (length ys - 1) e ≡ e = get_or_from_slice_get ys (length ys - 1) e e (sym last) in
+            subst (λ m. IsFirst m (key e) e) (sym same_swapped) (first_of_list e (sym at ∙ ap (λ n. get_or ys (n - 1) e) (long ∙ sym counted) ∙ up e) least))

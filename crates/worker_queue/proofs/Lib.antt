@@ -4,6 +4,7 @@ mod Ends
 mod Events
 mod Leasts
 mod Lists
+mod Places
 mod Receivers
 mod Turned
 mod Unions

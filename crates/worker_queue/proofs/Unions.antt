@@ -3,7 +3,7 @@ use Rattle.std.proofs.Common.{◌≡◌, ℕ, zero, suc, ◌+◌, ◌-◌, ◌<�
 use Rattle.std.specs.Option.{is_some}
 use Rattle.std.specs.Ordering.{eq_by_cmp}
 use Rattle.std.specs.FinMap.{FinMap, entries, empty, get, contains_key, insert, remove, find, get-entries, get-from_entries, get-insert, get-remove, get-empty, same_map, len, len-empty, len-insert, len-remove, empty_of_len}
-use Rattle.std.proofs.lemmas.Bool.{false≢true, cases_lt}
+use Rattle.std.proofs.lemmas.Bool.{false≢true}
 use Rattle.base.specs.declared.key.Key.{Key}
 use Rattle.base.specs.Order.{key_cmp, key_total, key_exact, IsBefore, moments-from_not_before}
 use Rattle.base.specs.Run.{IsFirst, tells, holds-with_events, contains-remove}
@@ -61,10 +61,10 @@ module _ {E : Type 0} where
   second_of_either None y here = here
   second_of_either (Some e) y here = refl
 
-  from_first : (a b : FinMap {K = Key} key_cmp E) (q : Key) → contains_key a q ≡ true → contains_key (union a b) q ≡ true
+  pub from_first : (a b : FinMap {K = Key} key_cmp E) (q : Key) → contains_key a q ≡ true → contains_key (union a b) q ≡ true
   from_first a b q here = ap is_some (get_union a b q) ∙ first_of_either (get a q) (get b q) here
 
-  from_second : (a b : FinMap {K = Key} key_cmp E) (q : Key) → contains_key b q ≡ true → contains_key (union a b) q ≡ true
+  pub from_second : (a b : FinMap {K = Key} key_cmp E) (q : Key) → contains_key b q ≡ true → contains_key (union a b) q ≡ true
   from_second a b q here = ap is_some (get_union a b q) ∙ second_of_either (get a q) (get b q) here
 
   pub not_in_first : (a b : FinMap {K = Key} key_cmp E) (k : Key) → contains_key (union a b) k ≡ false → contains_key a k ≡ false
@@ -149,12 +149,9 @@ module _ {E : Type 0} where
       by_set (inl there) = first q there
       by_set (inr there) = second q there
 
-  -- the first of one, if it comes before a limit that none of the other comes before
-  pub first_in_first : (a b : FinMap {K = Key} key_cmp E) (k limit : Key) (e : E) → IsFirst a k e → IsBefore k limit → NoneIsBefore b limit → IsFirst (union a b) k e
-  first_in_first a b k limit e first before none = record {
-    here = in_first a b k e first.here;
-    least = no_key_before a b k first.least (λ q there early. none q there (key_total.trans q k limit early before));
-  }
+  -- the first of one, if none of the other comes before it
+  pub first_in_first : (a b : FinMap {K = Key} key_cmp E) (k : Key) (e : E) → IsFirst a k e → NoneIsBefore b k → IsFirst (union a b) k e
+  first_in_first a b k e first none = record { here = in_first a b k e first.here; least = no_key_before a b k first.least none }
 
   pub first_in_second : (a b : FinMap {K = Key} key_cmp E) (k : Key) (e : E) → AreApart a b → IsFirst b k e → NoneIsBefore a k → IsFirst (union a b) k e
   first_in_second a b k e apart first none = record {
@@ -168,18 +165,15 @@ module _ {E : Type 0} where
   pub absent_in_second : (a b : FinMap {K = Key} key_cmp E) (k : Key) (e : E) → AreApart a b → IsFirst a k e → contains_key b k ≡ false
   absent_in_second a b k e apart first = apart k (ap is_some first.here)
 
-  pub least_from_first : (m : FinMap {K = Key} key_cmp E) (k : Key) (e : E) → IsFirst m k e → IsLeastKey m k
-  least_from_first m k e first = record { here = ap is_some first.here; least = first.least }
-
   pub no_earlier : (m : FinMap {K = Key} key_cmp E) (k : Key) → NoneIsBefore m k → (q : Key) → contains_key m q ≡ true → k.at ≤ q.at
   no_earlier m k none q here = moments-from_not_before q k (none q here)
 
-  pub none_below_in_both : (a b : FinMap {K = Key} key_cmp E) (limit : Key) (bound : ℕ) → NoneIsBefore a limit → NoneIsBelow b bound → ((q : Key) → q.at < bound → IsBefore q limit) → NoneIsBelow (union a b) bound
-  none_below_in_both a b limit bound none late free q here = by_set (in_either a b q here)
-    where
-      by_set : (contains_key a q ≡ true) ⊎ (contains_key b q ≡ true) → bound ≤ q.at
-      by_set (inl there) = elim (cases_lt q.at bound) [ inl early ↦ absurd (none q there (free q early)) | inr h ↦ h ]
-      by_set (inr there) = late q there
+  -- none comes before what comes before a limit that none comes before
+  pub none_before_lesser : (m : FinMap {K = Key} key_cmp E) (k limit : Key) → IsBefore k limit → NoneIsBefore m limit → NoneIsBefore m k
+  none_before_lesser m k limit before none q there early = none q there (key_total.trans q k limit early before)
+
+  pub none_below_in_both : (a b : FinMap {K = Key} key_cmp E) (limit : Key) (bound : ℕ) → NoneIsBefore a limit → NoneIsBefore b limit → bound ≤ limit.at → NoneIsBelow (union a b) bound
+  none_below_in_both a b limit bound first second late q here = let after = moments-from_not_before q limit (no_key_before a b limit first second q here) in omega (arith, after, late)
 
   pub least_in_both : (a b : FinMap {K = Key} key_cmp E) (x y o : Option Key) → IfSome x (λ k. IsLeastKey a k) → IfSome y (λ k. IsLeastKey b k) → IfNone x (a ≡ empty) → IfNone y (b ≡ empty)
       → IfSome o (λ k. (x ≡ Some k) ⊎ (y ≡ Some k)) → IfSome o (λ k. IfSome x (λ l. ¬ (IsBefore l k))) → IfSome o (λ k. IfSome y (λ l. ¬ (IsBefore l k))) → IfSome o (λ k. IsLeastKey (union a b) k)
@@ -208,10 +202,6 @@ module _ {E : Type 0} where
     pub all_after_push : {A F : Type 0} (k : Key) (e : E) (pushed : Result A F) → OnOk pushed (a' ≡ insert a k e) → OnOk pushed (union a' b ≡ insert (union a b) k e)
     all_after_push k e (Ok _) is = ap (λ m. union m b) is ∙ union_pushed_first a b k e
     all_after_push k e (Err _) is = tt
-
-    pub apart_after_pop : (key : E → Key) (popped : Option E) → IfSome popped (λ e. a' ≡ remove a (key e)) → IfNone popped (a' ≡ a) → AreApart a b → AreApart a' b
-    apart_after_pop key (Some e) is same apart = subst (λ m. AreApart m b) (sym is) (apart_popped_first a b (key e) apart)
-    apart_after_pop key None is same apart = subst (λ m. AreApart m b) (sym same) apart
 
   module _ (a b b' : FinMap {K = Key} key_cmp E) where
     pub apart_after_late_push : {A F : Type 0} (k : Key) (e : E) (pushed : Result A F) → OnOk pushed (b' ≡ insert b k e) → OnErr pushed (b' ≡ b) → AreApart a b → contains_key (union a b) k ≡ false → AreApart a b'
@@ -248,16 +238,12 @@ module _ {E : Type 0} where
   pub one_less : (m n : FinMap {K = Key} key_cmp E) (k : Key) (e : E) (count : ℕ) → n ≡ remove m k → get m k ≡ Some e → count ≡ len m → count - 1 ≡ len n
   one_less m n k e count is here counted = ap (λ c. c - 1) counted ∙ sym (ap len is ∙ len-remove key_total m k ∙ ap (λ b. cond b (len m - 1) (len m)) (ap is_some here))
 
-  pub some_left : (m : FinMap {K = Key} key_cmp E) (k : Key) (e : E) (count : ℕ) → get m k ≡ Some e → count ≡ len m → 0 < count
-  some_left m k e zero here counted = absurd (not_in_empty m k (empty_of_len m (sym counted)) (ap is_some here))
-  some_left m k e (suc count) here counted = omega arith
+  pub some_left : (m : FinMap {K = Key} key_cmp E) (k : Key) (count : ℕ) → contains_key m k ≡ true → count ≡ len m → 0 < count
+  some_left m k zero here counted = absurd (not_in_empty m k (empty_of_len m (sym counted)) here)
+  some_left m k (suc count) here counted = omega arith
 
-  -- the same of what a pop gave, if it gave an event
-  pub one_less_popped : (key : E → Key) (m n : FinMap {K = Key} key_cmp E) (popped : Option E) (count : ℕ) → true ≡ is_some popped → IfSome popped (λ e. IsFirst m (key e) e) → IfSome popped (λ e. n ≡ remove m (key e)) → count ≡ len m
+  -- the same of what a pop gave
+  pub one_less_popped : (key : E → Key) (m n : FinMap {K = Key} key_cmp E) (popped : Option E) (count : ℕ) → is_some popped ≡ true → IfSome popped (λ e. IsFirst m (key e) e) → IfSome popped (λ e. n ≡ remove m (key e)) → count ≡ len m
       → count - 1 ≡ len n
-  one_less_popped key m n None count some first taken counted = absurd (false≢true (sym some))
+  one_less_popped key m n None count some first taken counted = absurd (false≢true some)
   one_less_popped key m n (Some e) count some first taken counted = one_less m n (key e) e count taken first.here counted
-
-  pub left_of_popped : (key : E → Key) (m : FinMap {K = Key} key_cmp E) (popped : Option E) (count : ℕ) → true ≡ is_some popped → IfSome popped (λ e. IsFirst m (key e) e) → count ≡ len m → 0 < count
-  left_of_popped key m None count some first counted = absurd (false≢true (sym some))
-  left_of_popped key m (Some e) count some first counted = some_left m (key e) e count first.here counted

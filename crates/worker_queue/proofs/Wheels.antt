@@ -13,7 +13,7 @@ use Rattle.worker_queue.specs.Queue.{IsLeastKey}
 use Rattle.worker_queue.specs.Marks.{mark_at}
 use Rattle.worker_queue.specs.Slots.{by_key, IsOfOneMoment, NoneIsBefore}
 use Rattle.worker_queue.specs.Wheel.{slot_at, all_by_key, Spans, ArePlaced, AreMarked, turns, IsFirstPlace}
-use Rattle.worker_queue.proofs.Lists.{found, get-by_key, list_empty, some_key}
+use Rattle.worker_queue.proofs.Lists.{found, get-by_key, some_key}
 
 abbrev pub or_else : {A : Type 0} → Option A → Option A → Option A
 or_else None o = o
@@ -151,9 +151,6 @@ module _ {E : Type 0} (key : E → Key) where
           by_place (inr differs) =
               let one = some_key key (slot_at lists place) is.some in
               none one.0 one.1 (key_total.trans one.0 q limit (before-from_moments one.0 q (earlier one.0 q one.1 there differs)) before)
-
-      pub none_to_pop : by_key key (slot_at lists place) ≡ empty → ⊥
-      none_to_pop none = is.some (list_empty key (slot_at lists place) none)
 
   -- ---- a slot that has changed
 

@@ -1,10 +1,10 @@
 //! A slot of the wheel holds the events of one moment: it scans few of them for the least, and sorts many.
-ghost use Rattle.std.specs.Prelude.{◌≡◌, ◌↔◌, ◌<◌, length, [], true, false, IsTrue, IfSome, IfNone, IfErr, OnOk, OnErr};
+ghost use Rattle.std.specs.Prelude.{◌≡◌, ◌<◌, ◌++◌, length, [], true, false, IsTrue, IsFalse, IsSomeAnd, IfSome, IfNone, IfErr, OnOk, OnErr, option_to_list, vec_len, vec_capacity};
 ghost use Rattle.std.specs.FinMap.{contains_key, insert, remove, empty};
 ghost use Rattle.base.specs.Order.{IsBefore};
 ghost use Rattle.base.specs.Run.{IsFirst};
 ghost use Rattle.worker_queue.specs.Queue.{IsLeastKey};
-ghost use Rattle.worker_queue.specs.Slots.{by_key, AreUnlike, AreFalling, IsOfOneMoment, NoneIsBefore};
+ghost use Rattle.worker_queue.specs.Slots.{by_key, AreUnlike, AreFalling, IsOfOneMoment, NoneIsBefore, last_of};
 
 use crate::falling::{least_key, least_place, sort_falling};
 use crate::least::{first_key, is_before};
@@ -43,11 +43,12 @@ impl<E: Keyed + Drop> Slot<E> {
         ensures handed_back { IfErr result (λ refused. refused ≡ event) }
         ensures unchanged { OnErr result (by_key E.key self.new.events.items ≡ by_key E.key self.old.events.items) }
     {
-        self.is_sorted = false;
-        match self.events.push(event) {
-            Ok(()) => Ok(()),
-            Err(refused) => Err(refused.value),
+        if !make_room(&mut self.events) {
+            return Err(event);
         }
+        self.is_sorted = false;
+        self.events.push_reserved(event);
+        Ok(())
     }
 
     /// The least key of its events: `None` where there is none.
@@ -58,78 +59,69 @@ impl<E: Keyed + Drop> Slot<E> {
         least_key(&self.events)
     }
 
-    /// Whether it has no event.
-    pub(crate) fn is_empty(&self) -> bool
-        ensures { IsTrue result ↔ (self.now.events.items ≡ []) }
-    {
-        self.events.is_empty()
-    }
-
-    /// Takes out the event with the least key, if that is before the limit: `None` where no event's is.
+    /// Brings the event with the least key to the end, if that is before the limit: `false` where no
+    /// event's is.
     #[inline(always)]
-    pub(crate) fn pop_before(&mut self, limit: &Key) -> Option<E>
+    pub(crate) fn bring_up(&mut self, limit: &Key) -> bool
         requires { IsOfOneMoment (by_key E.key self.old.events.items) }
-        ensures first { IfSome result (λ event. IsFirst (by_key E.key self.old.events.items) (E.key event) event) }
-        ensures before { IfSome result (λ event. IsBefore (E.key event) limit.now) }
-        ensures taken { IfSome result (λ event. by_key E.key self.new.events.items ≡ remove (by_key E.key self.old.events.items) (E.key event)) }
-        ensures none { IfNone result (NoneIsBefore (by_key E.key self.old.events.items) limit.now) }
-        ensures unchanged { IfNone result (by_key E.key self.new.events.items ≡ by_key E.key self.old.events.items) }
-    {
-        let last = self.events.last()?;
-        if !is_before(&first_key(last.key().at), limit) {
-            return None;
-        }
-        if !self.is_sorted && self.events.len() <= FEW {
-            return self.pop_least_before(limit);
-        }
-        self.sort();
-        self.pop_last_before(limit)
-    }
-
-    /// The same, of a slot that has an event and is not sorted. The last event takes the place of the one that
-    /// leaves, and no other moves.
-    #[inline(always)]
-    fn pop_least_before(&mut self, limit: &Key) -> Option<E>
-        requires some { 0 < length self.old.events.items }
-        requires unsorted { self.old.is_sorted ≡ false }
-        ensures first { IfSome result (λ event. IsFirst (by_key E.key self.old.events.items) (E.key event) event) }
-        ensures before { IfSome result (λ event. IsBefore (E.key event) limit.now) }
-        ensures taken { IfSome result (λ event. by_key E.key self.new.events.items ≡ remove (by_key E.key self.old.events.items) (E.key event)) }
-        ensures none { IfNone result (NoneIsBefore (by_key E.key self.old.events.items) limit.now) }
-        ensures unchanged { IfNone result (by_key E.key self.new.events.items ≡ by_key E.key self.old.events.items) }
-    {
-        let place = least_place(&self.events);
-        if !is_before(&self.events[place].key(), limit) {
-            return None;
-        }
-        Some(self.events.swap_remove(place))
-    }
-
-    /// The same, of a slot that is sorted.
-    #[inline(always)]
-    fn pop_last_before(&mut self, limit: &Key) -> Option<E>
-        requires { self.old.is_sorted ≡ true }
-        ensures first { IfSome result (λ event. IsFirst (by_key E.key self.old.events.items) (E.key event) event) }
-        ensures before { IfSome result (λ event. IsBefore (E.key event) limit.now) }
-        ensures taken { IfSome result (λ event. by_key E.key self.new.events.items ≡ remove (by_key E.key self.old.events.items) (E.key event)) }
-        ensures none { IfNone result (NoneIsBefore (by_key E.key self.old.events.items) limit.now) }
-        ensures unchanged { IfNone result (by_key E.key self.new.events.items ≡ by_key E.key self.old.events.items) }
-    {
-        let last = self.events.last()?;
-        if !is_before(&last.key(), limit) {
-            return None;
-        }
-        self.events.pop()
-    }
-
-    /// Sorts its events, if they are not sorted.
-    fn sort(&mut self)
         ensures same { by_key E.key self.new.events.items ≡ by_key E.key self.old.events.items }
-        ensures sorted { self.new.is_sorted ≡ true }
+        ensures first { IsTrue result → IsSomeAnd (last_of self.new.events.items) (λ event. IsFirst (by_key E.key self.new.events.items) (E.key event) event) }
+        ensures before { IsTrue result → IfSome (last_of self.new.events.items) (λ event. IsBefore (E.key event) limit.now) }
+        ensures none { IsFalse result → NoneIsBefore (by_key E.key self.old.events.items) limit.now }
     {
-        if !self.is_sorted {
+        let Some(any) = self.events.last() else {
+            return false;
+        };
+        if !is_before(&first_key(any.key().at), limit) {
+            return false;
+        }
+        self.raise_least();
+        let Some(last) = self.events.last() else {
+            return false;
+        };
+        is_before(&last.key(), limit)
+    }
+
+    /// Brings the event with the least key to the end, of a slot that has an event: of few events it takes
+    /// the place of the last, and many are sorted.
+    #[inline(always)]
+    fn raise_least(&mut self)
+        requires { 0 < length self.old.events.items }
+        ensures same { by_key E.key self.new.events.items ≡ by_key E.key self.old.events.items }
+        ensures first { IsSomeAnd (last_of self.new.events.items) (λ event. IsFirst (by_key E.key self.new.events.items) (E.key event) event) }
+    {
+        if self.is_sorted {
+            return;
+        }
+        if self.events.len() > FEW {
             sort_falling(&mut self.events);
             self.is_sorted = true;
+            return;
         }
+        let place = least_place(&self.events);
+        let end = self.events.len() - 1;
+        self.events.swap(place, end);
     }
+
+    /// Takes out the last event: `None` where there is none.
+    #[inline(always)]
+    pub(crate) fn pop(&mut self) -> Option<E>
+        ensures last { result ≡ last_of self.old.events.items }
+        ensures items { self.old.events.items ≡ self.new.events.items ++ option_to_list result }
+        ensures taken { IfSome result (λ event. by_key E.key self.new.events.items ≡ remove (by_key E.key self.old.events.items) (E.key event)) }
+    {
+        self.events.pop()
+    }
+}
+
+/// Whether there is room for one event more. It is made if need be: `false` where memory is refused.
+#[inline(always)]
+fn make_room<E: Drop>(events: &mut Vec<E>) -> bool
+    ensures same { events.new.items ≡ events.old.items }
+    ensures room { IsTrue result → vec_len events.new < vec_capacity events.new }
+{
+    if events.len() < events.capacity() {
+        return true;
+    }
+    events.reserve(1).is_ok()
 }

@@ -1,5 +1,5 @@
 //! Joins the wheel with a tree for events whose moment has no slot, and pops the lesser of their first events.
-ghost use Rattle.std.specs.Prelude.{◌≡◌, ◌⊎◌, ◌<◌, false, Some, None, IfOk, IfSome, IfNone, IfErr, OnOk, OnErr};
+ghost use Rattle.std.specs.Prelude.{◌≡◌, ◌<◌, false, IsSome, IfOk, IfSome, IfNone, IfErr, OnOk, OnErr};
 ghost use Rattle.std.specs.FinMap.{contains_key, insert, remove, empty};
 ghost use Rattle.base.specs.declared.key.Key.{Key as AKey};
 ghost use Rattle.base.specs.Order.{IsBefore};
@@ -9,6 +9,7 @@ ghost use Rattle.worker_queue.specs.Slots.{NoneIsBefore};
 ghost use Rattle.worker_queue.specs.Union.{AreApart};
 ghost use Rattle.worker_queue.specs.SetOf.{set_of};
 ghost use Rattle.worker_queue.specs.Wheel.{events_in};
+ghost use Rattle.worker_queue.specs.declared.stores.Place.TheVariants.{Late};
 
 use crate::least::{first_key, is_before, lesser_key};
 use crate::queue::EventQueue;
@@ -16,6 +17,13 @@ use crate::tree::TreeQueue;
 use crate::wheel::Wheel;
 use base::{Key, Keyed, Memory, Moment};
 use std::alloc::Global;
+
+/// Where the first of all events stands: last in the slot of this place, or in the tree.
+#[derive(Clone, Copy)]
+pub(crate) enum Place {
+    Slot(usize),
+    Late,
+}
 
 /// Events in the slots of a wheel, and in an ordered tree those whose moment had no slot when they came.
 /// Nothing moves from the one to the other.
@@ -31,7 +39,7 @@ pub(crate) struct Stores<E: Keyed> {
 }
 
 impl<E: Keyed + Drop> Stores<E> {
-    ghost use Rattle.worker_queue.specs.Stores.{all_in};
+    ghost use Rattle.worker_queue.specs.Stores.{all_in, IsNextAt};
 
     /// No events. `Memory` where it was refused.
     pub(crate) fn new(alloc: Global) -> Result<Self, Memory>
@@ -71,35 +79,47 @@ impl<E: Keyed + Drop> Stores<E> {
         lesser_key(self.wheel.least(), self.late.least())
     }
 
-    /// Takes out the event with the least key, if its moment is below the bound: `None` where no event's
-    /// is. It takes no memory.
+    /// Finds the place of the event with the least key, if its moment is below the bound: `None` where no
+    /// event's is. In a slot it is brought to the end.
     #[inline(always)]
-    pub(crate) fn pop_below(&mut self, bound: Moment) -> Option<E>
-        ensures first { IfSome result (λ event. IsFirst (all_in E.key self.old) (E.key event) event) }
-        ensures below { IfSome result (λ event. (E.key event).at < bound) }
-        ensures taken { IfSome result (λ event. all_in E.key self.new ≡ remove (all_in E.key self.old) (E.key event)) }
+    pub(crate) fn bring_up(&mut self, bound: Moment) -> Option<Place>
+        ensures same { all_in E.key self.new ≡ all_in E.key self.old }
+        ensures next { IfSome result (λ place. IsNextAt E.key self.new bound place) }
         ensures none { IfNone result (NoneIsBelow (all_in E.key self.old) bound) }
-        ensures unchanged { IfNone result (all_in E.key self.new ≡ all_in E.key self.old) }
     {
         let limit = self.limit(bound);
-        let popped = self.wheel.pop_before(&limit);
-        if popped.is_some() {
-            return popped;
+        if let Some(place) = self.wheel.bring_up(&limit) {
+            return Some(Place::Slot(place));
         }
-        self.pop_late(bound, &limit)
+        if limit.at.ticks() < bound.ticks() {
+            Some(Place::Late)
+        } else {
+            None
+        }
     }
 
-    /// Takes out the first of the late events, if its moment is below the bound. No event in a slot comes
-    /// before the limit.
-    fn pop_late(&mut self, bound: Moment, limit: &Key) -> Option<E>
-        requires none { NoneIsBefore (events_in E.key self.old.wheel.slots.items) limit.now }
-        requires least { (k : AKey) → IsLeastKey (set_of self.old.late) k → k.at < bound → limit.now ≡ k }
-        requires free { NoneIsBelow (set_of self.old.late) bound → (q : AKey) → q.at < bound → IsBefore q limit.now }
+    /// Takes out the event at a place, which is the first of all and below the bound. It takes no memory.
+    #[inline(always)]
+    pub(crate) fn pop_at(&mut self, place: Place, bound: Moment) -> Option<E>
+        requires { IsNextAt E.key self.old bound place }
+        ensures some { IsSome result }
         ensures first { IfSome result (λ event. IsFirst (all_in E.key self.old) (E.key event) event) }
         ensures below { IfSome result (λ event. (E.key event).at < bound) }
         ensures taken { IfSome result (λ event. all_in E.key self.new ≡ remove (all_in E.key self.old) (E.key event)) }
-        ensures none { IfNone result (NoneIsBelow (all_in E.key self.old) bound) }
-        ensures unchanged { IfNone result (all_in E.key self.new ≡ all_in E.key self.old) }
+    {
+        match place {
+            Place::Slot(place) => self.wheel.pop_at(place),
+            Place::Late => self.pop_late(bound),
+        }
+    }
+
+    /// Takes out the first of the late events, which is the first of all and below the bound.
+    fn pop_late(&mut self, bound: Moment) -> Option<E>
+        requires { IsNextAt E.key self.old bound Late }
+        ensures some { IsSome result }
+        ensures first { IfSome result (λ event. IsFirst (all_in E.key self.old) (E.key event) event) }
+        ensures below { IfSome result (λ event. (E.key event).at < bound) }
+        ensures taken { IfSome result (λ event. all_in E.key self.new ≡ remove (all_in E.key self.old) (E.key event)) }
     {
         let event = self.late.pop_below(bound)?;
         self.wheel.rise(event.key().at);
@@ -112,8 +132,7 @@ impl<E: Keyed + Drop> Stores<E> {
     fn limit(&self, bound: Moment) -> Key
         ensures late { NoneIsBefore (set_of self.now.late) result }
         ensures below { (q : AKey) → IsBefore q result → q.at < bound }
-        ensures least { (k : AKey) → IsLeastKey (set_of self.now.late) k → k.at < bound → result ≡ k }
-        ensures free { NoneIsBelow (set_of self.now.late) bound → (q : AKey) → q.at < bound → IsBefore q result }
+        ensures least { result.at < bound → IsLeastKey (set_of self.now.late) result }
     {
         let first = first_key(bound);
         if bound.ticks() <= self.late_from {

@@ -1,12 +1,12 @@
 //! A timing wheel: one slot for each of 1,024 moments from a base on, which rises to the moment of each popped event.
-ghost use Rattle.std.specs.Prelude.{◌≡◌, ◌↔◌, ◌<◌, ◌≤◌, ◌%◌, ℕ, length, IsTrue, true, false, IfOk, IfSome, IfNone, IfErr, OnOk, OnErr, []};
+ghost use Rattle.std.specs.Prelude.{◌≡◌, ◌↔◌, ◌<◌, ◌≤◌, ◌%◌, ℕ, length, IsTrue, true, false, IsSomeAnd, IfOk, IfSome, IfNone, IfErr, OnOk, OnErr, []};
 ghost use Rattle.std.specs.FinMap.{contains_key, insert, remove, empty};
 ghost use Rattle.base.specs.declared.key.Key.{Key as AKey};
 ghost use Rattle.base.specs.Order.{IsBefore};
 ghost use Rattle.base.specs.Run.{IsFirst};
 ghost use Rattle.worker_queue.specs.Queue.{IsLeastKey};
 ghost use Rattle.worker_queue.specs.Slots.{NoneIsBefore};
-ghost use Rattle.worker_queue.specs.Wheel.{lists_of, slot_at, events_in, Spans, ArePlaced, AreMarked, IsFirstPlace};
+ghost use Rattle.worker_queue.specs.Wheel.{lists_of, slot_at, last_at, events_in, Spans, ArePlaced, AreMarked, IsFirstPlace};
 
 use crate::marks::{Marks, PLACES};
 use crate::slot::Slot;
@@ -93,37 +93,40 @@ impl<E: Keyed + Drop> Wheel<E> {
         self.slots[place].least()
     }
 
-    /// Takes out the event with the least key, if that is before the limit: `None` where no event's is.
-    /// From then on the wheel spans the moments from that event's on.
+    /// Brings the event with the least key to the end of its slot, if that is before the limit, and gives
+    /// the place of the slot: `None` where no event's is.
     #[inline(always)]
-    pub(crate) fn pop_before(&mut self, limit: &Key) -> Option<E>
-        ensures first { IfSome result (λ event. IsFirst (events_in E.key self.old.slots.items) (E.key event) event) }
-        ensures before { IfSome result (λ event. IsBefore (E.key event) limit.now) }
-        ensures taken { IfSome result (λ event. events_in E.key self.new.slots.items ≡ remove (events_in E.key self.old.slots.items) (E.key event)) }
+    pub(crate) fn bring_up(&mut self, limit: &Key) -> Option<usize>
+        ensures same { events_in E.key self.new.slots.items ≡ events_in E.key self.old.slots.items }
+        ensures within { IfSome result (λ place. place < 1024) }
+        ensures first { IfSome result (λ place. IsSomeAnd (last_at self.new.slots.items place) (λ event. IsFirst (events_in E.key self.new.slots.items) (E.key event) event)) }
+        ensures before { IfSome result (λ place. IfSome (last_at self.new.slots.items place) (λ event. IsBefore (E.key event) limit.now)) }
         ensures none { IfNone result (NoneIsBefore (events_in E.key self.old.slots.items) limit.now) }
-        ensures unchanged { IfNone result (events_in E.key self.new.slots.items ≡ events_in E.key self.old.slots.items) }
     {
         let place = self.first_place()?;
-        self.pop_at(place, limit)
+        if self.slots[place].bring_up(limit) {
+            Some(place)
+        } else {
+            None
+        }
     }
 
-    /// The same, from the slot with the least event.
+    /// Takes out the last event of a slot, the first of all. From then on the wheel spans the moments from
+    /// that event's on.
     #[inline(always)]
-    fn pop_at(&mut self, place: usize, limit: &Key) -> Option<E>
-        requires { IsFirstPlace self.old.base (lists_of self.old.slots.items) place }
-        ensures first { IfSome result (λ event. IsFirst (events_in E.key self.old.slots.items) (E.key event) event) }
-        ensures before { IfSome result (λ event. IsBefore (E.key event) limit.now) }
+    pub(crate) fn pop_at(&mut self, place: usize) -> Option<E>
+        requires within { place < 1024 }
+        requires first { IsSomeAnd (last_at self.old.slots.items place) (λ event. IsFirst (events_in E.key self.old.slots.items) (E.key event) event) }
+        ensures last { result ≡ last_at self.old.slots.items place }
         ensures taken { IfSome result (λ event. events_in E.key self.new.slots.items ≡ remove (events_in E.key self.old.slots.items) (E.key event)) }
-        ensures none { IfNone result (NoneIsBefore (events_in E.key self.old.slots.items) limit.now) }
-        ensures unchanged { IfNone result (events_in E.key self.new.slots.items ≡ events_in E.key self.old.slots.items) }
     {
-        let popped = self.slots[place].pop_before(limit);
-        if let Some(event) = &popped {
-            let is_empty = self.slots[place].is_empty();
-            self.marks.clear_if(place, is_empty);
-            self.base = event.key().at.ticks();
-        }
-        popped
+        let slot = &mut self.slots[place];
+        let Some(last) = slot.events.last() else {
+            return None;
+        };
+        self.base = last.key().at.ticks();
+        self.marks.clear_if(place, slot.events.len() <= 1);
+        slot.pop()
     }
 
     /// Spans the moments from this one on, unless it does so from a later one on. It has no earlier event.

@@ -51,11 +51,10 @@ impl<E: Keyed + Drop> EventQueue<E> for WheelQueue<E> {
 
     #[inline(always)]
     fn pop_below(&mut self, bound: Moment) -> Option<E> {
-        let popped = self.stores.pop_below(bound);
-        if popped.is_some() {
-            self.count -= 1;
-        }
-        popped
+        // (the event moves once, from where it stands to the caller)
+        let place = self.stores.bring_up(bound)?;
+        self.count -= 1;
+        self.stores.pop_at(place, bound)
     }
 
     fn len(&self) -> usize {

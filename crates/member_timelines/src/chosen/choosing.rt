@@ -1,23 +1,22 @@
 //! All members that get a lane, chosen from the rows and the scenario, and sorted.
 ghost use Rattle.std.specs.Prelude.{◌≡◌, ◌-◌, ◌<◌, ◌≤◌, ◌==◌, ◌^◌, ◌++◌, IfOk, OnOk, All, min};
-ghost use Rattle.std.specs.Option.{option_or, option_to_list};
+ghost use Rattle.std.specs.Option.{option_to_list};
 ghost use Rattle.std.specs.List.{list_any};
 ghost use Rattle.std.specs.List.Sorted.{IsPermutation, IsSorted};
-ghost use Rattle.scenario.specs.Setup.{member_count, crash_of, leave_of};
+ghost use Rattle.scenario.specs.Setup.{member_count};
 ghost use Rattle.member_timelines.specs.Run.{IsTold};
 ghost use Rattle.member_timelines.specs.Wrongly.{times_out};
-ghost use Rattle.member_timelines.specs.Choice.{choice, choices, accused_in, times_accused, departs, at_by, is_ever_slow};
+ghost use Rattle.member_timelines.specs.Choice.{choice, choices, accused_in, times_accused, departs, is_ever_slow, is_ever_blocked};
 
 use super::Chosen;
-use crate::claims::claims_by_member;
+use crate::claims::times_out;
 use crate::run::Run;
-use base::{MemberId, Memory, Moment};
-use scenario::{Pause, Slow};
+use base::{MemberId, Memory};
+use scenario::{Pause, Restart, Slow};
 use std::alloc::Global;
-use trace::What;
 
 /// All members that get a lane, in order: those that were ever suspected or confirmed to have failed,
-/// and those that the scenario has crash, leave, be slow or be paused.
+/// and those that the scenario has crash, leave, start again, be slow, be paused or be blocked.
 pub fn all_chosen(alloc: Global, run: &Run) -> Result<Vec<Chosen>, Memory>
     requires { IsTold run.now }
     ensures all { IfOk result (λ all. IsPermutation (choices run.now.scenario.now run.now.tallies.now) all.items) }
@@ -34,8 +33,7 @@ fn unordered(alloc: Global, run: &Run) -> Result<Vec<Chosen>, Memory>
     requires { IsTold run.now }
     ensures { IfOk result (λ all. all.items ≡ choices run.now.scenario.now run.now.tallies.now) }
 {
-    let claims = run.tallies.false_positives(What::Confirm);
-    let wrongly = claims_by_member(alloc, claims, run.members())?;
+    let wrongly = times_out(alloc, run)?;
     let mut all = Vec::new(alloc);
     for number in 0..run.members() {
         push_some(&mut all, chosen(run, number as u16, wrongly[number]))?;
@@ -67,13 +65,17 @@ fn sorted(all: Vec<Chosen>) -> Result<Vec<Chosen>, Memory>
 fn chosen(run: &Run, number: u16, wrongly: u64) -> Option<Chosen>
     requires told { IsTold run.now }
     requires within { number < member_count run.now.scenario.now }
-    requires wrongly { wrongly ≡ times_out run.now.tallies.now number }
+    requires wrongly { wrongly ≡ times_out run.now.scenario.now run.now.tallies.now number }
     ensures { result ≡ choice run.now.scenario.now run.now.tallies.now number }
 {
     let member = MemberId(number);
     let accused = times_accused(run, member);
     let departs = departs(run, member);
-    if accused > 0 || departs < u64::MAX || is_ever_slow(run, member) {
+    if accused > 0
+        || departs < u64::MAX
+        || is_ever_slow(run, member)
+        || is_ever_blocked(run, member)
+    {
         return Some(Chosen {
             below_most: u64::MAX - wrongly,
             departs,
@@ -108,22 +110,14 @@ fn accused_in(run: &Run, member: MemberId, span: usize) -> u64
     claims.came(1, span).saturating_add(claims.came(2, span))
 }
 
-/// When a member departs by the scenario's end, past all moments where it doesn't.
+/// When a member first departs by the scenario's end, past all moments where it doesn't.
 fn departs(run: &Run, member: MemberId) -> u64
     requires { member < member_count run.now.scenario.now }
     ensures { result ≡ departs run.now.scenario.now member }
 {
-    let departure = run.scenario.crash(member).or(run.scenario.leave(member));
-    at_by(run.end(), departure)
-}
-
-/// When something happens by a moment, past all moments where it doesn't.
-fn at_by(end: u64, at: Option<Moment>) -> u64
-    ensures { result ≡ at_by end at }
-{
-    match at {
-        Some(at) if at.ticks() <= end => at.ticks(),
-        _ => u64::MAX,
+    match run.first_departure(member) {
+        Some(at) => at.ticks(),
+        None => u64::MAX,
     }
 }
 
@@ -132,6 +126,20 @@ fn is_ever_slow(run: &Run, member: MemberId) -> bool
     ensures { result ≡ is_ever_slow run.now.scenario.now member }
 {
     has_slow(run.scenario.slows(), member) || has_pause(run.scenario.pauses(), member)
+}
+
+/// Whether it has it be blocked, or start again.
+fn is_ever_blocked(run: &Run, member: MemberId) -> bool
+    ensures { result ≡ is_ever_blocked run.now.scenario.now member }
+{
+    has_pause(run.scenario.blocks(), member) || has_restart(run.scenario.restarts(), member)
+}
+
+/// Whether one of these restarts is a member's.
+fn has_restart(restarts: &[Restart], member: MemberId) -> bool
+    ensures { result ≡ list_any (λ restart. restart.member == member) restarts.now }
+{
+    restarts.iter().any(|restart| restart.member == member)
 }
 
 /// Whether one of these times is a member's.

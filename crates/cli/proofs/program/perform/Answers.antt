@@ -1,6 +1,6 @@
 -- a command that the words ask for: done, with its result printed, or not
 use Rattle.std.proofs.lemmas.Result.{on_ok_weaker}
-use Rattle.cli.proofs.Commands.{asked_drive_done, asked_check_unprinted, asked_drive_failed, asked_undriven, asked_expand_done, asked_expand_fails, asked_expand_unprinted, asked_explain_done, asked_explain_failed, asked_init_done, asked_init_failed, asked_join_done, asked_join_fails, asked_join_unprinted, asked_page_done, asked_page_failed, asked_shard, asked_run_done, asked_run_fails, asked_run_unprinted, asked_run_untold, asked_sweep_done, asked_sweep_fails, asked_sweep_unprinted, asked_untold, asked_wants, is_command, joined_wants, on_done}
+use Rattle.cli.proofs.Commands.{asked_drive_done, asked_check_done, asked_check_unprinted, asked_drive_failed, asked_undriven, asked_expand_done, asked_expand_fails, asked_expand_unprinted, asked_explain_done, asked_explain_failed, asked_init_done, asked_init_failed, asked_join_done, asked_join_fails, asked_join_unprinted, asked_page_done, asked_page_failed, asked_shard, asked_run_done, asked_run_fails, asked_run_unprinted, asked_run_untold, asked_sweep_done, asked_sweep_fails, asked_sweep_unprinted, asked_untold, asked_wants, is_command, joined_wants, on_done}
 use Rattle.scenario_files.proofs.Held.{handed_on}
 use Rattle.cli.proofs.program.perform.Goals as goal
 
@@ -163,6 +163,14 @@ returns-in_err-text-in-Expand-clause-failed g c =
 
 pub returns-in_err-text-in-Expand-clause-other : goal.returns-in_err-text-in-Expand-clause-other
 returns-in_err-text-in-Expand-clause-other g c none = absurd (none (is_command _ _ c.in_ok-help.ensures.answer))
+
+pub returns-in_ok-scenario-in-Check-clause-done : goal.returns-in_ok-scenario-in-Check-clause-done
+returns-in_ok-scenario-in-Check-clause-done g c =
+    asked_check_done c.args.release.now _ _ _ _ _ _ _ _ _ _ _ _ c.print_members.result c.in-Check.is c.in_ok-help.ensures.answer c.in_ok-scenario-in-Check.ensures.same c.in_ok-scenario-in-Check.ensures.accepted c.members.ensures.count c.print_members.ensures.printed
+
+pub returns-in_ok-scenario-in-Check-clause-command : goal.returns-in_ok-scenario-in-Check-clause-command
+returns-in_ok-scenario-in-Check-clause-command g c =
+    on_ok_weaker c.print_members.result (λ _. is_command _ _ c.in_ok-help.ensures.answer) c.print_members.ensures.printed
 
 pub returns-in_ok-scenario-in-Check-clause-failed : goal.returns-in_ok-scenario-in-Check-clause-failed
 returns-in_ok-scenario-in-Check-clause-failed g c =

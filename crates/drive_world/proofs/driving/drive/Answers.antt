@@ -1,6 +1,7 @@
 use Rattle.std.proofs.Common.{[], sym, subst, rules}
 use Rattle.std.proofs.lemmas.List.Elements.{All-from_recursion}
 use Rattle.base.specs.declared.fault.Fault.TheVariants.{Memory}
+use Rattle.reports.specs.contracts.tallies.Tallies.{the_row}
 use Rattle.trace.specs.Text.{NamesMembers, trace_text}
 use Rattle.trace.proofs.Beginnings.{beginning-none, Keeps-same}
 use Rattle.drive_world.specs.Ends.{HasTaken, PausesAt, EndsEarly}
@@ -10,7 +11,7 @@ use Rattle.drive_world.proofs.Coming.{come_first}
 use Rattle.drive_world.proofs.Opened.{opening_way}
 use Rattle.drive_world.proofs.Handed.{begins_none, under_way_first}
 use Rattle.drive_world.proofs.Resting.{done_end, named_end, taken_end, part_end}
-use Rattle.drive_world.proofs.Ending.{ends_fault, ends_halt}
+use Rattle.drive_world.proofs.Ending.{ends_fault, ends_halt, unfailed_halt}
 use Rattle.drive_world.proofs.driving.drive.Goals as goal
 
 pub returns-in_err-world-clause-early : goal.returns-in_err-world-clause-early
@@ -123,3 +124,7 @@ returns-in_ok-end_early-in-Some-clause-early g c =
     let taken : HasTaken s first held c.new-tallies.result = subst (HasTaken s first held) (sym c.new-tallies.ensures) (c.in_ok-begin.ensures.written s) in
     subst (λ e. EndsEarly s e gave told first (g.T.RowSink.held c.end_early.new.place)) (sym c.error_of.ensures)
     (ends_halt s gave told first _ c.in-Some.halt (c.in_ok-end_early-in-Some.ensures.stops told gave first at (c.in_ok-play.ensures.taken first taken)))
+
+pub returns-in_ok-end_early-in-Some-clause-failures : goal.returns-in_ok-end_early-in-Some-clause-failures
+returns-in_ok-end_early-in-Some-clause-failures g c =
+    unfailed_halt the_row.Denot _ _ _ _ c.error_of.result c.in-Some.halt c.error_of.ensures c.in_ok-begin.ensures.failures c.in_ok-play.ensures.failures c.in_ok-end_early-in-Some.ensures.failures

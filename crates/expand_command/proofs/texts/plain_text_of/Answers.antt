@@ -1,8 +1,7 @@
-use Rattle.std.proofs.Common.{◌≡◌, Some, None, Option, sym, subst}
+use Rattle.std.proofs.Common.{Option, sym, subst}
 use Rattle.std.proofs.lemmas.Result.{IfErr-weaker, IfOk-weaker}
 use Rattle.toml.specs.Data.{Data}
 use Rattle.toml.specs.View.{view}
-use Rattle.command_line.specs.declared.failure.Failure.{Failure}
 use Rattle.expand_command.specs.Texts.{IfNamed, RefusesBytes, RefusesTree}
 use Rattle.expand_command.proofs.Failures.{named, refused_bytes}
 use Rattle.expand_command.proofs.texts.plain_text_of.Goals as goal

@@ -1,12 +1,12 @@
-use Rattle.std.proofs.Common.{◌≡◌, ℕ, List, Some, None, length, map, ap, sym, subst, ◌∙◌, arith}
+use Rattle.std.proofs.Common.{◌≡◌, ◌≢◌, ℕ, List, Some, None, length, map, ap, sym, subst, ◌∙◌, arith}
 use Rattle.toml.specs.View.{view}
 use Rattle.expansion.specs.Verdict.{rule_of}
 use Rattle.script_reader.specs.Who.{member_total}
 use Rattle.written_entries.specs.Ranges.{AreInRange}
 use Rattle.written_names.specs.Roster.{group_of}
-use Rattle.expanded_text.specs.Rule.{error_of, seed_in, starts_of, IfRefused, IsDocumentRule}
-use Rattle.expanded_text.specs.declared.error.ExpandError.{ExpandError}
-use Rattle.expanded_text.proofs.Judged.{all_members, entries_rule, few_read, refused_lists}
+use Rattle.written_schema.specs.Lowest.{no_rule}
+use Rattle.expanded_text.specs.Rule.{starts_of, IfRefused, IsDocumentRule}
+use Rattle.expanded_text.proofs.Judged.{all_members, broken_lists, entries_rule, few_read, refused_lists}
 use Rattle.expanded_text.proofs.entries.plain_entries_of.Goals as goal
 
 pub expand_script-requires-clause-members : goal.expand_script-requires-clause-members
@@ -39,3 +39,6 @@ returns-clause-refused c =
     (refused_lists (IsDocumentRule d) c.in-Err.refusal
     (λ other. entries_rule d c.args.written.now c.requires c.as_slice-2.result.now c.number-seed.result (Some (rule_of c.in-Err.refusal)) starts c.number-seed.ensures
     (c.in-Err.ensures.refused other)))
+
+pub returns-clause-broken : goal.returns-clause-broken
+returns-clause-broken c = subst (IfRefused (λ (rule : ℕ). rule ≢ no_rule)) (sym c.error_of.ensures) (broken_lists c.in-Err.refusal)

@@ -1,8 +1,7 @@
-use Rattle.std.proofs.Common.{◌≡◌, ◌<◌, List, ℕ, map, subst, arith}
+use Rattle.std.proofs.Common.{◌<◌, List, subst, arith}
 use Rattle.toml.specs.View.{view}
 use Rattle.scenario.specs.Setup.{Group}
 use Rattle.script_reader.specs.Script.{Breaks}
-use Rattle.written_names.specs.Roster.{group_of}
 use Rattle.written_schema.specs.Lowest.{no_rule}
 use Rattle.written_schema.specs.References.{IsReferenceRule}
 use Rattle.expanded_text.proofs.Lowest.{least_within, none_within}

@@ -7,7 +7,7 @@ pub returns : goal.returns
 returns c =
     let before = string_bytes c.args.text.now in
     let widths = c.args.widths.now in
-    let figures = figure_widths c.args.revived in
+    let figures = figure_widths c.args.columns in
     let texts = map string_bytes c.args.texts.now in
     let all =
     c.deref.ensures.value ∙ c.in_ok-push_widths.ensures ∙ ap (λ l. l ++ figures) (c.in_ok-extend_from_slice.ensures.items ∙ ap (λ l. l ++ widths) c.new-all.ensures.items) in

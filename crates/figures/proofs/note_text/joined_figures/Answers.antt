@@ -1,4 +1,3 @@
-use Rattle.std.proofs.Common.{◌++◌, ap, ◌∙◌}
 use Rattle.reports.specs.Text.{figure}
 use Rattle.sweep_plan.proofs.Joined.{joined_more}
 use Rattle.figures.proofs.note_text.joined_figures.Goals as goal

@@ -17,10 +17,10 @@ returns-clause-done g c =
     let joined = c.in_ok-joined.joined in
     let came = c.in_ok-joined.ensures in
     let after = known c.store_page.new.files in
-    let gathered = subst (λ (names : List (Bor Text)). GathersSettings (known c.args.files.now) names None None joined.plan joined.revived joined.settings.items) c.as_slice.ensures.value came.gathered in
+    let gathered = subst (λ (names : List (Bor Text)). GathersSettings (known c.args.files.now) names None None joined.plan joined.columns joined.settings.items) c.as_slice.ensures.value came.gathered in
     on_ok_then _ _ c.store_page.result c.store_page.ensures.done (λ stored. record {
       plan = joined.plan;
-      revived = joined.revived;
+      columns = joined.columns;
       settings = joined.settings.items;
       gathered = gathered;
       stored = subst (λ (shelf : Shelf). StoresPage release shelf after (g.F.Files.making c.args.files.now) words joined.plan joined.settings.items) came.same
@@ -36,11 +36,11 @@ returns-clause-failed g c =
     let came = c.in_ok-joined.ensures in
     let after = known c.store_page.new.files in
     let refused = g.F.Files.refused c.store_page.new.files in
-    let gathered = subst (λ (names : List (Bor Text)). GathersSettings (known c.args.files.now) names None None joined.plan joined.revived joined.settings.items) c.as_slice.ensures.value came.gathered in
+    let gathered = subst (λ (names : List (Bor Text)). GathersSettings (known c.args.files.now) names None None joined.plan joined.columns joined.settings.items) c.as_slice.ensures.value came.gathered in
     if_err_then c.store_page.result _ _ c.store_page.ensures.failed (λ failure failed. inr (record {
       release = release;
       plan = joined.plan;
-      revived = joined.revived;
+      columns = joined.columns;
       settings = joined.settings.items;
       gathered = gathered;
       failed = subst (λ n. FailsToStorePage (n < refused) release (known c.args.files.now) after (g.F.Files.making c.args.files.now) words joined.plan joined.settings.items failure) came.counted

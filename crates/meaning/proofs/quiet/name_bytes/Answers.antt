@@ -9,7 +9,7 @@ loop-member-preserved c =
     let member = c.loop-member.member in
     record {
       value = ap (λ n. n + c.min.result) c.loop-member.invariant.value
-          ∙ ap (λ n. names_below s member + n) (c.min.ensures ∙ ap (λ bytes. min (length bytes) 21) c.name.ensures.value)
+          ∙ ap (λ n. names_below s member + n) (c.min.ensures ∙ ap (λ bytes. min (length bytes) 38) c.name.ensures.value)
           ∙ sym (sum_more (name_bytes s) member);
       few = omega (arith, c.loop-member.invariant.few, c.min.ensures);
     }

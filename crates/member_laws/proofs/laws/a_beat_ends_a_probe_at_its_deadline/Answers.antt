@@ -15,3 +15,6 @@ returns-clause-in_step c = spared_in_step
 
 pub returns-clause-once : goal.returns-clause-once
 returns-clause-once c = ended_by_single
+
+pub returns-clause-idle_by_older_rules : goal.returns-clause-idle_by_older_rules
+returns-clause-idle_by_older_rules c = λ s k seq t older other. idle_step s k seq t other (λ rules. absurd (older rules))

@@ -1,6 +1,6 @@
 use Rattle.std.proofs.Common.{ap, sym, subst, ◌+◌, ◌∙◌}
 use Rattle.member_laws.specs.Words.{IsRefuted}
-use Rattle.member_laws.proofs.Numbers.{refutes, else_same, never_falls, refuted_by_papers, papers_refute}
+use Rattle.member_laws.proofs.Numbers.{refutes, else_same, never_falls, never_falls_by_older, refuted_by_papers, papers_refute}
 use Rattle.member_laws.proofs.laws.an_incarnation_rises_to_refute_alone.Goals as goal
 
 pub returns-clause-refuted : goal.returns-clause-refuted
@@ -19,3 +19,6 @@ returns-clause-stays_by_papers c = λ s telling k u o papers other.
 
 pub returns-clause-never_falls : goal.returns-clause-never_falls
 returns-clause-never_falls c = never_falls
+
+pub returns-clause-never_falls_by_older_rules : goal.returns-clause-never_falls_by_older_rules
+returns-clause-never_falls_by_older_rules c = never_falls_by_older

@@ -7,6 +7,6 @@ abbrev pub invariant-loop-size : goal.invariant-loop-size
 invariant-loop-size l =
     (vec_len l.filled ≡ l.most)
     × (vec_len l.places ≡ l.size-index)
-    × All (λ filled. filled ≤ 4096 * l.size-index) l.filled.items
+    × All (λ filled. filled ≤ 16384 * l.size-index) l.filled.items
     × All (λ place. place < l.most) l.places.items
     × EvenSoFar l.most l.division l.filled.items l.places.items

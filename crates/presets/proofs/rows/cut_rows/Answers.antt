@@ -5,4 +5,4 @@ use Rattle.presets.proofs.rows.cut_rows.Goals as goal
 
 pub returns : goal.returns
 unfolding digits
-returns c = record { settings = each_preset _ refl refl refl refl; on_line = refl }
+returns c = record { settings = each_preset _ refl refl refl refl refl refl refl refl; on_line = refl }

@@ -11,15 +11,9 @@ use Rattle.scenario.specs.Setup.{Setup, Group, member_count}
 use Rattle.scenario_reader.specs.Reading.{version_of, plain_group, plain_groups, slows_in, crashes_in, leaves_in, pauses_in, setup_of_tree}
 use Rattle.scenario_reader.specs.Rules.{breaks_names, breaks_references, breaks_added_references, breaks_pairs, breaks_departures, breaks_pauses, breaks_times, breaks_added_times, breaks_size, least_broken_by, KeepsValues}
 use Rattle.scenario_reader.proofs.Chain.{version_is, names_least, references_least, added_references_least, pairs_least, departures_least, pauses_least, times_least, added_times_least, size_least}
-use Rattle.scenario_reader.proofs.Groups.{total_of}
-use Rattle.scenario_reader.proofs.Sound.{counts_same}
-use Rattle.scenario_reader.proofs.Trees.{map_items}
+use Rattle.scenario_reader.proofs.Groups.{names_before}
+use Rattle.scenario_reader.proofs.Judging.{groups_are, many_are}
 use Rattle.scenario_reader.proofs.reader.judge.Goals as goal
-
--- the groups that were read are the document's
-groups_are : (tree : Data) (list : List Value) → map view list ≡ items_at key.Group tree → map (λ v. plain_group (view v)) list ≡ plain_groups tree
-unfolding plain_groups
-groups_are tree list items = map_items plain_group (items_at key.Group tree) list items
 
 -- two crashes or slow times as the scenario has them
 pairs_are : (tree : Data) (gs : List Group) → gs ≡ plain_groups tree → breaks_pairs (setup_of_tree tree).crashes (setup_of_tree tree).slows ≡ breaks_pairs (crashes_in gs tree) (slows_in gs tree)
@@ -43,13 +37,6 @@ pauses_are : (tree : Data) (gs : List Group) (v : Version) → gs ≡ plain_grou
 unfolding setup_of_tree
 pauses_are tree gs v same version =
     ap (λ hs. breaks_pauses (pauses_in (version_of tree) hs tree)) (sym same) ∙ ap (λ w. breaks_pauses (pauses_in w gs tree)) (sym version)
-
--- more members than the version allows, as they were counted
-many_are : (tree : Data) (list : List Value) (v : Version) → map (λ d. plain_group (view d)) list ≡ plain_groups tree → v ≡ version_of tree
-    → breaks_size (setup_of_tree tree) ≡ nat_lt (most_members v) (sum_by (λ d. (plain_group (view d)).count) list)
-many_are tree list v are version =
-    ap (λ w. nat_lt (most_members w) (member_count (setup_of_tree tree))) (version_is tree ∙ sym version)
-    ∙ ap (nat_lt (most_members v)) (counts_same tree ∙ total_of (λ d. plain_group (view d)) list (plain_groups tree) are)
 
 -- What the checks say of the scenario of a document: of the list of its groups, of the groups that were read from that, and of its
 -- version. Each check comes after those that passed.
@@ -133,21 +120,21 @@ module _ (tree : Data) (list : List Value) (items : map view list ≡ items_at k
 pub returns-in-Err-clause-err : goal.returns-in-Err-clause-err
 returns-in-Err-clause-err c = λ other.
     let broken = c.in-Err.ensures.err other in
-    names_broken (view c.args.tree.now) c.items_at-list.result.now c.items_at-list.ensures broken.1
+    names_broken (view c.args.tree.now) c.items_at-list.result.now c.items_at-list.ensures (sym (names_before (map (λ d. plain_group (view d)) c.items_at-list.result.now)) ∙ broken.1)
     ∙ ap Some (sym broken.0)
 
 pub returns-in-Err-check_references-clause-err : goal.returns-in-Err-check_references-clause-err
 returns-in-Err-check_references-clause-err c = λ other.
     let broken = c.in-Err-check_references.ensures.err in
     references_broken (view c.args.tree.now) c.items_at-list.result.now c.items_at-list.ensures
-    c.in-Ok.roster c.in-Ok.ensures.ok c.version_of-version.result c.version_of-version.ensures c.in-Ok.ensures.fine broken.1
+    c.in-Ok.roster c.in-Ok.ensures.ok c.version_of-version.result c.version_of-version.ensures (sym (names_before (map (λ d. plain_group (view d)) c.items_at-list.result.now)) ∙ c.in-Ok.ensures.fine) broken.1
     ∙ ap Some (sym broken.0)
 
 pub returns-in-Err-check_added_references-clause-err : goal.returns-in-Err-check_added_references-clause-err
 returns-in-Err-check_added_references-clause-err c = λ other.
     let broken = c.in-Err-check_added_references.ensures.err in
     added_references_broken (view c.args.tree.now) c.items_at-list.result.now c.items_at-list.ensures
-    c.in-Ok.roster c.in-Ok.ensures.ok c.version_of-version.result c.version_of-version.ensures c.in-Ok.ensures.fine
+    c.in-Ok.roster c.in-Ok.ensures.ok c.version_of-version.result c.version_of-version.ensures (sym (names_before (map (λ d. plain_group (view d)) c.items_at-list.result.now)) ∙ c.in-Ok.ensures.fine)
     c.in_default.ensures.ok broken.1
     ∙ ap Some (sym broken.0)
 
@@ -155,7 +142,7 @@ pub returns-in-Err-check_pairs-clause-err : goal.returns-in-Err-check_pairs-clau
 returns-in-Err-check_pairs-clause-err c = λ other.
     let broken = c.in-Err-check_pairs.ensures.err other in
     pairs_broken (view c.args.tree.now) c.items_at-list.result.now c.items_at-list.ensures
-    c.in-Ok.roster c.in-Ok.ensures.ok c.version_of-version.result c.version_of-version.ensures c.in-Ok.ensures.fine
+    c.in-Ok.roster c.in-Ok.ensures.ok c.version_of-version.result c.version_of-version.ensures (sym (names_before (map (λ d. plain_group (view d)) c.items_at-list.result.now)) ∙ c.in-Ok.ensures.fine)
     c.in_default.ensures.ok c.in_default-check_added_references.ensures.ok broken.1
     ∙ ap Some (sym broken.0)
 
@@ -163,7 +150,7 @@ pub returns-in-Err-check_departures-clause-err : goal.returns-in-Err-check_depar
 returns-in-Err-check_departures-clause-err c = λ other.
     let broken = c.in-Err-check_departures.ensures.err other in
     departures_broken (view c.args.tree.now) c.items_at-list.result.now c.items_at-list.ensures
-    c.in-Ok.roster c.in-Ok.ensures.ok c.version_of-version.result c.version_of-version.ensures c.in-Ok.ensures.fine
+    c.in-Ok.roster c.in-Ok.ensures.ok c.version_of-version.result c.version_of-version.ensures (sym (names_before (map (λ d. plain_group (view d)) c.items_at-list.result.now)) ∙ c.in-Ok.ensures.fine)
     c.in_default.ensures.ok c.in_default-check_added_references.ensures.ok c.in_default-check_pairs.ensures.ok broken.1
     ∙ ap Some (sym broken.0)
 
@@ -171,7 +158,7 @@ pub returns-in-Err-check_pauses-clause-err : goal.returns-in-Err-check_pauses-cl
 returns-in-Err-check_pauses-clause-err c = λ other.
     let broken = c.in-Err-check_pauses.ensures.err other in
     pauses_broken (view c.args.tree.now) c.items_at-list.result.now c.items_at-list.ensures
-    c.in-Ok.roster c.in-Ok.ensures.ok c.version_of-version.result c.version_of-version.ensures c.in-Ok.ensures.fine
+    c.in-Ok.roster c.in-Ok.ensures.ok c.version_of-version.result c.version_of-version.ensures (sym (names_before (map (λ d. plain_group (view d)) c.items_at-list.result.now)) ∙ c.in-Ok.ensures.fine)
     c.in_default.ensures.ok c.in_default-check_added_references.ensures.ok c.in_default-check_pairs.ensures.ok c.in_default-check_departures.ensures.ok broken.1
     ∙ ap Some (sym broken.0)
 
@@ -182,7 +169,7 @@ pub returns-in-Err-check_times-clause-err : goal.returns-in-Err-check_times-clau
 returns-in-Err-check_times-clause-err c = λ other.
     let broken = c.in-Err-check_times.ensures.err in
     times_broken (view c.args.tree.now) c.items_at-list.result.now c.items_at-list.ensures
-    c.in-Ok.roster c.in-Ok.ensures.ok c.version_of-version.result c.version_of-version.ensures c.in-Ok.ensures.fine
+    c.in-Ok.roster c.in-Ok.ensures.ok c.version_of-version.result c.version_of-version.ensures (sym (names_before (map (λ d. plain_group (view d)) c.items_at-list.result.now)) ∙ c.in-Ok.ensures.fine)
     c.in_default.ensures.ok c.in_default-check_added_references.ensures.ok c.in_default-check_pairs.ensures.ok c.in_default-check_departures.ensures.ok c.in_default-check_pauses.ensures.ok broken.1
     ∙ ap Some (sym broken.0)
 
@@ -193,14 +180,14 @@ pub returns-in-Err-check_added_times-clause-err : goal.returns-in-Err-check_adde
 returns-in-Err-check_added_times-clause-err c = λ other.
     let broken = c.in-Err-check_added_times.ensures.err in
     added_times_broken (view c.args.tree.now) c.items_at-list.result.now c.items_at-list.ensures
-    c.in-Ok.roster c.in-Ok.ensures.ok c.version_of-version.result c.version_of-version.ensures c.in-Ok.ensures.fine
+    c.in-Ok.roster c.in-Ok.ensures.ok c.version_of-version.result c.version_of-version.ensures (sym (names_before (map (λ d. plain_group (view d)) c.items_at-list.result.now)) ∙ c.in-Ok.ensures.fine)
     c.in_default.ensures.ok c.in_default-check_added_references.ensures.ok c.in_default-check_pairs.ensures.ok c.in_default-check_departures.ensures.ok c.in_default-check_pauses.ensures.ok c.in_default-check_times.ensures.ok broken.1
     ∙ ap Some (sym broken.0)
 
 pub returns-then-are_too_many-clause-err : goal.returns-then-are_too_many-clause-err
 returns-then-are_too_many-clause-err c = λ other.
     size_broken (view c.args.tree.now) c.items_at-list.result.now c.items_at-list.ensures
-    c.in-Ok.roster c.in-Ok.ensures.ok c.version_of-version.result c.version_of-version.ensures c.in-Ok.ensures.fine
+    c.in-Ok.roster c.in-Ok.ensures.ok c.version_of-version.result c.version_of-version.ensures (sym (names_before (map (λ d. plain_group (view d)) c.items_at-list.result.now)) ∙ c.in-Ok.ensures.fine)
     c.in_default.ensures.ok c.in_default-check_added_references.ensures.ok c.in_default-check_pairs.ensures.ok c.in_default-check_departures.ensures.ok c.in_default-check_pauses.ensures.ok c.in_default-check_times.ensures.ok c.in_default-check_added_times.ensures.ok (sym c.are_too_many.ensures ∙ c.if-are_too_many.true)
 
 pub returns-clause-groups : goal.returns-clause-groups
@@ -209,5 +196,5 @@ returns-clause-groups c = c.in-Ok.ensures.ok ∙ groups_are (view c.args.tree.no
 pub returns-clause-kept : goal.returns-clause-kept
 returns-clause-kept c =
     all_kept (view c.args.tree.now) c.items_at-list.result.now c.items_at-list.ensures
-    c.in-Ok.roster c.in-Ok.ensures.ok c.version_of-version.result c.version_of-version.ensures c.in-Ok.ensures.fine
+    c.in-Ok.roster c.in-Ok.ensures.ok c.version_of-version.result c.version_of-version.ensures (sym (names_before (map (λ d. plain_group (view d)) c.items_at-list.result.now)) ∙ c.in-Ok.ensures.fine)
     c.in_default.ensures.ok c.in_default-check_added_references.ensures.ok c.in_default-check_pairs.ensures.ok c.in_default-check_departures.ensures.ok c.in_default-check_pauses.ensures.ok c.in_default-check_times.ensures.ok c.in_default-check_added_times.ensures.ok (sym c.are_too_many.ensures ∙ c.if-are_too_many.false)

@@ -5,7 +5,7 @@ use Rattle.schema.specs.Shape.{rule_of, least_broken_of_shape, KeepsShape}
 use Rattle.schema.specs.declared.schema.Version.{Version}
 use Rattle.scenario.specs.Setup.{Setup}
 use Rattle.scenario_reader.specs.Reading.{version_of, setup_of_tree}
-use Rattle.scenario_reader.specs.Rules.{least_broken_by, document_verdict}
+use Rattle.scenario_reader.specs.Rules.{least_broken_in, document_verdict}
 use Rattle.scenario_reader.proofs.Chain.{rule_broken, accepted, shape_least, values_least, ok_so, err_so}
 use Rattle.scenario_reader.proofs.reader.read_document.Goals as goal
 
@@ -18,10 +18,10 @@ module _ (tree : Data) (v : Version) (version : v ≡ version_of tree) (kept : K
   values : KeepsShape (version_of tree) tree
   values = subst (λ w. KeepsShape w tree) version kept
 
-  built : (s : Setup) → (least_broken_by tree (setup_of_tree tree) ≡ None) × (s ≡ setup_of_tree tree) → document_verdict tree ≡ Ok s
+  built : (s : Setup) → (least_broken_in (version_of tree) tree (setup_of_tree tree) ≡ None) × (s ≡ setup_of_tree tree) → document_verdict tree ≡ Ok s
   built s is = accepted tree (values_least tree values ∙ is.0) ∙ ap Ok (sym is.1)
 
-  unbuilt : (rule : ℕ) → least_broken_by tree (setup_of_tree tree) ≡ Some rule → document_verdict tree ≡ Err rule
+  unbuilt : (rule : ℕ) → least_broken_in (version_of tree) tree (setup_of_tree tree) ≡ Some rule → document_verdict tree ≡ Err rule
   unbuilt rule broken = rule_broken tree rule (values_least tree values ∙ broken)
 
 pub build-requires : goal.build-requires
@@ -30,13 +30,13 @@ build-requires c = subst (λ v. KeepsShape v (view c.args.tree.now)) c.version_o
 pub returns-in-Ok-clause-accepted : goal.returns-in-Ok-clause-accepted
 returns-in-Ok-clause-accepted c =
     let tree = view c.args.tree.now in
-    ok_so (λ s. (least_broken_by tree (setup_of_tree tree) ≡ None) × (s ≡ setup_of_tree tree)) (λ s. document_verdict tree ≡ Ok s) c.build.result c.build.ensures.ok
+    ok_so (λ s. (least_broken_in (version_of tree) tree (setup_of_tree tree) ≡ None) × (s ≡ setup_of_tree tree)) (λ s. document_verdict tree ≡ Ok s) c.build.result c.build.ensures.ok
     (built tree c.version_of.result c.version_of.ensures c.in-Ok.ensures.kept)
 
 pub returns-in-Ok-clause-refused : goal.returns-in-Ok-clause-refused
 returns-in-Ok-clause-refused c =
     let tree = view c.args.tree.now in
-    err_so (λ r. r.rule ≢ 11 → least_broken_by tree (setup_of_tree tree) ≡ Some r.rule) (λ r. r.rule ≢ 11 → document_verdict tree ≡ Err r.rule) c.build.result c.build.ensures.err
+    err_so (λ r. r.rule ≢ 11 → least_broken_in (version_of tree) tree (setup_of_tree tree) ≡ Some r.rule) (λ r. r.rule ≢ 11 → document_verdict tree ≡ Err r.rule) c.build.result c.build.ensures.err
     (λ r broken other. unbuilt tree c.version_of.result c.version_of.ensures c.in-Ok.ensures.kept r.rule (broken other))
 
 pub returns-in-Err-clause-refused : goal.returns-in-Err-clause-refused

@@ -4,7 +4,7 @@ use Rattle.std.specs.HashMap.{get}
 use Rattle.std.specs.String.{string_eq}
 use Rattle.scenario_reader.specs.Roster.{named_group}
 use Rattle.scenario_reader.specs.declared.roster.Block.{Block}
-use Rattle.scenario.specs.GroupNames.{is_group_name}
+use Rattle.scenario.specs.GroupNames.{is_name_of}
 use Rattle.scenario_reader.proofs.Groups.{name_taken, taken_is, group_added, block_added}
 use Rattle.scenario_reader.proofs.roster.add_group.Goals as goal
 use Rattle.scenario_reader.proofs.roster.add_group.Goals.{in-Ok-None, in-Ok-Some, in-Err}
@@ -33,15 +33,15 @@ returns-clause-numbered c =
 pub returns-clause-fine : goal.returns-clause-fine
 returns-clause-fine c =
     let groups = map named_group c.args.groups.now.entries in
-    let named : is_group_name c.args.name.now ≡ true = cc in
+    let named : is_name_of c.args.version c.args.name.now ≡ true = cc in
     let taken : list_any (λ g. bytes_eq c.args.name.now g.name) groups ≡ is_some (get string_eq c.args.groups.now c.in-Ok.key) =
     ap (λ name. list_any (λ g. bytes_eq name g.name) groups) (sym c.in-Ok.ensures.ok) ∙ sym (name_taken c.args.groups.now.entries c.in-Ok.key) in
     elim c.match-insert.branch [
       | in-Ok-None w ↦
           let new : get string_eq c.args.groups.now c.in-Ok.key ≡ None = cc w.in-Ok-None.ensures.old in
-          rw w.result-is (taken_is groups c.args.name.now false named (taken ∙ ap is_some new))
+          rw w.result-is (taken_is c.args.version groups c.args.name.now false named (taken ∙ ap is_some new))
       | in-Ok-Some w ↦
           let old : get string_eq c.args.groups.now c.in-Ok.key ≡ Some w.in-Ok-Some.field-0-0 = cc w.in-Ok-Some.ensures.old in
-          rw w.result-is (taken_is groups c.args.name.now true named (taken ∙ ap is_some old))
+          rw w.result-is (taken_is c.args.version groups c.args.name.now true named (taken ∙ ap is_some old))
       | in-Err w ↦ rw w.result-is tt
     ]

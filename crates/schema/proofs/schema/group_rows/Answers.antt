@@ -9,3 +9,7 @@ returns-in-One c = search rules
 pub returns-in-Two : goal.returns-in-Two
 unfolding key_rules_of
 returns-in-Two c = search rules
+
+pub returns-in-Four : goal.returns-in-Four
+unfolding key_rules_of
+returns-in-Four c = search rules

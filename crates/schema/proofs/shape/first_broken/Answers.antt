@@ -9,9 +9,9 @@ use Rattle.schema.specs.declared.schema.Section.TheVariants.{Top}
 use Rattle.schema.proofs.Trees.{any-flat_map}
 use Rattle.schema.proofs.shape.first_broken.Goals as goal
 
-pub returns-then-is_broken : goal.returns-then-is_broken
+pub returns-then-breaks : goal.returns-then-breaks
 unfolding breaks tables_of
-returns-then-is_broken c = sym (or_left _ _ (sym c.if-is_broken.ensures))
+returns-then-breaks c = sym (or_left _ _ (sym c.if-breaks.ensures))
 
 pub returns : goal.returns
 unfolding breaks tables_of
@@ -21,4 +21,4 @@ returns c =
     c.first_broken_below.ensures
     ∙ ap (λ rows. list_any (λ row. list_any (table_breaks c.args.version check) (below row)) rows) c.rows.ensures
     ∙ sym (any-flat_map (table_breaks c.args.version check) below (key_rules_of c.args.version Top))
-    ∙ ap (λ top. top || list_any (table_breaks c.args.version check) (flat_map below (key_rules_of c.args.version Top))) c.if-is_broken.ensures
+    ∙ ap (λ top. top || list_any (table_breaks c.args.version check) (flat_map below (key_rules_of c.args.version Top))) c.if-breaks.ensures

@@ -11,7 +11,7 @@ pub returns-in_err-header-clause-refused : goal.returns-in_err-header-clause-ref
 returns-in_err-header-clause-refused c =
     let head = c.args.head.now in
     handed c.from_residual.result _ _ c.from_residual.ensures.1
-    (λ e same. memory_lines c.args.text.now (shard_header head.revived head.mark.now head.plan c.args.shard) c.args.place e (same ∙ c.in_err-header.ensures.memory))
+    (λ e same. memory_lines c.args.text.now (shard_header head.columns head.mark.now head.plan c.args.shard) c.args.place e (same ∙ c.in_err-header.ensures.memory))
 
 -- the text begins with its first line
 pub unreachable-requires : goal.unreachable-requires

@@ -8,7 +8,7 @@ use Rattle.shard_merge.proofs.behind.lines_behind.Goals as goal
 pub returns-in_default-clause-refused : goal.returns-in_default-clause-refused
 returns-in_default-clause-refused c =
     let head = c.args.head.now in
-    missing c.args.texts.now head.mark.now head.revived head.plan head.shard c.requires.first c.args.places.now c.requires.places c.args.number c.requires.within
+    missing c.args.texts.now head.mark.now head.columns head.plan head.shard c.requires.first c.args.places.now c.requires.places c.args.number c.requires.within
     (sym c.place_of_run.ensures ∙ c.in_default.is)
 
 -- the text of a shard begins with its first line
@@ -17,8 +17,8 @@ lines_at-requires c =
     let head = c.args.head.now in
     let found = sym c.place_of_run.ensures ∙ c.in-Some.is in
     record {
-      begins = subst (λ p. BeginsAs c.text_at.result.now head.mark.now head.revived head.plan p) (sym c.shard_at-shard.ensures.same)
-          (begins_there c.args.texts.now head.mark.now head.revived head.plan head.shard c.requires.first c.args.places.now c.requires.places c.args.number _ _ found c.text_at.ensures);
+      begins = subst (λ p. BeginsAs c.text_at.result.now head.mark.now head.columns head.plan p) (sym c.shard_at-shard.ensures.same)
+          (begins_there c.args.texts.now head.mark.now head.columns head.plan head.shard c.requires.first c.args.places.now c.requires.places c.args.number _ _ found c.text_at.ensures);
     }
 
 pub returns-in_err-lines-clause-refused : goal.returns-in_err-lines-clause-refused
@@ -27,9 +27,9 @@ returns-in_err-lines-clause-refused c =
     let found = sym c.place_of_run.ensures ∙ c.in-Some.is in
     let text = c.text_at.result.now in
     let place = c.in-Some.place in
-    let header = shard_header head.revived head.mark.now head.plan in
+    let header = shard_header head.columns head.mark.now head.plan in
     handed c.from_residual.result _ _ c.from_residual.ensures.1
-    (λ e same. lines_reason c.args.texts.now head.mark.now head.revived head.plan head.shard c.requires.first c.args.places.now c.requires.places c.args.number place text found c.text_at.ensures e
+    (λ e same. lines_reason c.args.texts.now head.mark.now head.columns head.plan head.shard c.requires.first c.args.places.now c.requires.places c.args.number place text found c.text_at.ensures e
     (subst (λ p. RefusesLines text (header p) place e) c.shard_at-shard.ensures.same
     (subst (RefusesLines text (header c.shard_at-shard.result) place) (sym same) c.in_err-lines.ensures.refused)))
 
@@ -40,5 +40,5 @@ returns-clause-there c =
       found = sym c.place_of_run.ensures ∙ c.in-Some.is;
       text = _;
       there = c.text_at.ensures;
-      written = c.in_ok-lines.ensures.there ∙ ap (λ p. shard_header head.revived head.mark.now head.plan p ++ c.in_ok-lines.lines.now) c.shard_at-shard.ensures.same;
+      written = c.in_ok-lines.ensures.there ∙ ap (λ p. shard_header head.columns head.mark.now head.plan p ++ c.in_ok-lines.lines.now) c.shard_at-shard.ensures.same;
     }

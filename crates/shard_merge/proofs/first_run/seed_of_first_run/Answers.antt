@@ -23,16 +23,16 @@ returns-in-Some-clause-seed c =
       one = refl;
       body = lines;
       there = among c.args.texts.now _ _ _ behind.there behind.written;
-      line = subst (HasLineOf (line_key head.revived _ head.mark.now head.plan) head.plan 0) c.as_bytes-lines.ensures.value (rw c.in-Some.is at c.in_ok-seed.ensures.some);
+      line = subst (HasLineOf (line_key head.columns _ head.mark.now head.plan) head.plan 0) c.as_bytes-lines.ensures.value (rw c.in-Some.is at c.in_ok-seed.ensures.some);
     }
 
 pub returns-in-None-clause-refused : goal.returns-in-None-clause-refused
 returns-in-None-clause-refused c =
     let head = c.args.head.now in
     let begins = c.requires.first.begins in
-    let key = line_key head.revived None head.mark.now head.plan in
+    let key = line_key head.columns None head.mark.now head.plan in
     let none = (rw c.in-None.is at c.in_ok-seed.ensures.none) refl in
-    torn c.args.texts.now head.mark.now head.revived head.plan head.shard c.requires.first c.args.places.now c.requires.places _ _ _ c.in_ok-behind.ensures.there _ None refl
+    torn c.args.texts.now head.mark.now head.columns head.plan head.shard c.requires.first c.args.places.now c.requires.places _ _ _ c.in_ok-behind.ensures.there _ None refl
     (λ k one. absurd (none-some k one))
     (λ its. none (subst (HasLineOf key head.plan 0) (sym c.as_bytes-lines.ensures.value)
     (first_line_there key head.plan head.plan.until _ _ begins.asked c.shard_of_first_run-number.ensures.first c.shard_of_first_run-number.ensures.some its.are)))

@@ -9,14 +9,14 @@ pub returns-clause-joined : goal.returns-clause-joined
 returns-clause-joined g c =
     let head = c.in_ok-head.head in
     let begins = c.in_ok-head.ensures.first.begins in
-    whole_joined c.args.texts.now head.mark.now head.revived c.in_ok-settings.ensures.whole.0 head.plan head.shard.of begins.asked begins.marked (omega (arith, begins.sound.least, begins.sound.most)) begins.sound.few
+    whole_joined c.args.texts.now head.mark.now head.columns c.in_ok-settings.ensures.whole.0 head.plan head.shard.of begins.asked begins.marked (omega (arith, begins.sound.least, begins.sound.most)) begins.sound.few
     (g.S.Sink.held c.args.table.now) (g.S.Sink.held c.put_header.new.table) (g.S.Sink.held c.join_shards.new.table) (g.S.Sink.held c.flush.new.table)
     c.in_ok-settings.settings.items c.in_ok-settings.ensures.whole.1 c.in_ok-put_header.ensures.whole c.flush.ensures.same
 
 pub returns-clause-few : goal.returns-clause-few
 returns-clause-few g c =
     let head = c.in_ok-head.head in
-    few_joined c.args.texts.now head.mark.now head.revived c.in_ok-settings.ensures.whole.0 head.plan head.shard.of (g.S.Sink.held c.put_header.new.table) (g.S.Sink.held c.join_shards.new.table)
+    few_joined c.args.texts.now head.mark.now head.columns c.in_ok-settings.ensures.whole.0 head.plan head.shard.of (g.S.Sink.held c.put_header.new.table) (g.S.Sink.held c.join_shards.new.table)
     head.plan.until c.in_ok-settings.settings.items c.in_ok-head.ensures.first.begins.asked c.in_ok-settings.ensures.whole.1
 
 pub returns-in_err-head-clause-refused : goal.returns-in_err-head-clause-refused

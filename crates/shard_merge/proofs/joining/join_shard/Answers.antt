@@ -17,7 +17,7 @@ pub returns-in-Ok-clause-whole : goal.returns-in-Ok-clause-whole
 returns-in-Ok-clause-whole g c =
     let head = c.args.head.now in
     let behind = c.in_ok-behind.ensures.there in
-    let read = subst (λ p. ReadsBehind head.plan.until (line_key head.revived (Some c.args.seed) head.mark.now head.plan) head.plan p c.in_ok-behind.behind.lines.now c.args.so_far.now c.read.new.self) c.shard_at-shard.ensures.same
+    let read = subst (λ p. ReadsBehind head.plan.until (line_key head.columns (Some c.args.seed) head.mark.now head.plan) head.plan p c.in_ok-behind.behind.lines.now c.args.so_far.now c.read.new.self) c.shard_at-shard.ensures.same
     (subst (λ k. ReadsBehind head.plan.until k head.plan c.shard_at-shard.result c.in_ok-behind.behind.lines.now c.args.so_far.now c.read.new.self) c.in_ok-key.ensures c.in-Ok.ensures.read) in
     on_ok_then _ _ c.put_lines.result c.put_lines.ensures.whole (λ put. record {
       body = c.in_ok-behind.behind.lines.now;
@@ -33,7 +33,7 @@ pub returns-in-Err-Torn-clause-refused : goal.returns-in-Err-Torn-clause-refused
 returns-in-Err-Torn-clause-refused g c =
     let head = c.args.head.now in
     let refused = rw c.in-Err-Torn.field-0-is at c.in-Err-Torn.ensures.refused in
-    torn c.args.texts.now head.mark.now head.revived head.plan head.shard c.requires.first c.args.places.now c.requires.places c.args.number _ _ c.in_ok-behind.ensures.there _ (Some c.args.seed) refl
-    (λ k one. subst (IsFirstSeed c.args.texts.now head.mark.now head.revived head.plan head.shard.of) (same_Some c.args.seed k one) c.requires.seeded)
+    torn c.args.texts.now head.mark.now head.columns head.plan head.shard c.requires.first c.args.places.now c.requires.places c.args.number _ _ c.in_ok-behind.ensures.there _ (Some c.args.seed) refl
+    (λ k one. subst (IsFirstSeed c.args.texts.now head.mark.now head.columns head.plan head.shard.of) (same_Some c.args.seed k one) c.requires.seeded)
     (λ its. refused (subst (λ k. AreBehind head.plan.until k head.plan c.shard_at-shard.result c.in_ok-behind.behind.lines.now) (sym c.in_ok-key.ensures)
-    (subst (λ p. AreBehind head.plan.until (line_key head.revived (Some c.args.seed) head.mark.now head.plan) head.plan p c.in_ok-behind.behind.lines.now) (sym c.shard_at-shard.ensures.same) its.are)))
+    (subst (λ p. AreBehind head.plan.until (line_key head.columns (Some c.args.seed) head.mark.now head.plan) head.plan p c.in_ok-behind.behind.lines.now) (sym c.shard_at-shard.ensures.same) its.are)))

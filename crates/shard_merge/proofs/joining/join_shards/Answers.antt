@@ -18,7 +18,7 @@ pub loop-number-init : goal.loop-number-init
 loop-number-init g c =
     let head = c.args.head.now in
     record {
-      so = none_joined c.args.texts.now head.mark.now head.revived c.in_ok-seed.seed head.plan head.shard.of head.plan.until _ _ (omega (arith, c.requires.first.begins.sound.least, c.requires.first.begins.sound.most))
+      so = none_joined c.args.texts.now head.mark.now head.columns c.in_ok-seed.seed head.plan head.shard.of head.plan.until _ _ (omega (arith, c.requires.first.begins.sound.least, c.requires.first.begins.sound.most))
           (subst (λ n. IsGathered n [] c.new-so_far.result.gathering) c.runs_of_setting.ensures c.new-so_far.ensures.runs) c.new-so_far.ensures.settings;
       same = refl;
     }
@@ -27,7 +27,7 @@ pub loop-number-preserved : goal.loop-number-preserved
 loop-number-preserved g c =
     let head = c.args.head.now in
     record {
-      so = one_joined c.args.texts.now head.mark.now head.revived c.in_ok-seed.seed head.plan head.shard.of head.plan.until c.loop-number.number _ _ _ _ _ (omega (arith, c.loop-number-test.true))
+      so = one_joined c.args.texts.now head.mark.now head.columns c.in_ok-seed.seed head.plan head.shard.of head.plan.until c.loop-number.number _ _ _ _ _ (omega (arith, c.loop-number-test.true))
           c.loop-number.invariant.so c.in_ok-join_shard.ensures.whole;
       same = search rules;
     }
@@ -38,9 +38,9 @@ returns-clause-whole g c =
     let until = c.until.ensures.same in
     let all : c.loop-number.number ≡ head.shard.of = omega (arith, c.loop-number-test.false, c.loop-number.auto.number-end) in (
       c.in_ok-seed.seed,
-      all_joined c.args.texts.now head.mark.now head.revived c.in_ok-seed.seed head.plan head.shard.of head.plan.until (g.S.Sink.held c.args.table.now) (g.S.Sink.held c.loop-number.table) c.loop-number.so_far _
+      all_joined c.args.texts.now head.mark.now head.columns c.in_ok-seed.seed head.plan head.shard.of head.plan.until (g.S.Sink.held c.args.table.now) (g.S.Sink.held c.loop-number.table) c.loop-number.so_far _
           (omega (arith, c.requires.first.begins.sound.least, c.requires.first.begins.sound.most))
-          (subst (λ n. JoinsShards head.plan.until c.args.texts.now head.mark.now head.revived c.in_ok-seed.seed head.plan head.shard.of n (g.S.Sink.held c.args.table.now) (g.S.Sink.held c.loop-number.table) c.loop-number.so_far)
+          (subst (λ n. JoinsShards head.plan.until c.args.texts.now head.mark.now head.columns c.in_ok-seed.seed head.plan head.shard.of n (g.S.Sink.held c.args.table.now) (g.S.Sink.held c.loop-number.table) c.loop-number.so_far)
           all c.loop-number.invariant.so)
           (subst (λ o. c.into_summaries.result.items ≡ summaries_read o c.loop-number.so_far) until c.into_summaries.ensures),
     )

@@ -8,6 +8,6 @@ returns-in-Some-clause-refused c =
     (refl, (c.in-Some._earlier, found))
 
 pub returns-in-None-clause-kept : goal.returns-in-None-clause-kept
-returns-in-None-clause-kept c texts text mark revived sweep of are there begins =
+returns-in-None-clause-kept c texts text mark columns sweep of are there begins =
     let free = ap (λ l. get_or l c.args.number None) (sym c.as_slice.ensures.value) ∙ sym c.place_of_run.ensures ∙ c.in-None.is in
-    place_more texts mark revived sweep of c.args.number c.args.place text _ _ c.requires free refl are there begins
+    place_more texts mark columns sweep of c.args.number c.args.place text _ _ c.requires free refl are there begins

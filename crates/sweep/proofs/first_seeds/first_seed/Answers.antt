@@ -15,5 +15,5 @@ returns-in-Some-2-clause-some c =
 
 pub returns-in-None-clause-none : goal.returns-in-None-clause-none
 returns-in-None-clause-none c = λ _.
-    no_line c.args.revived c.args.mark.now c.args.plan.now c.args.text.now c.in-Some.seed (rw c.in-Some.is at c.in_ok-seed.ensures.some)
+    no_line c.args.columns c.args.mark.now c.args.plan.now c.args.text.now c.in-Some.seed (rw c.in-Some.is at c.in_ok-seed.ensures.some)
     (subst (λ k. ¬ (HasLineOf k c.args.plan.now 0 c.args.text.now)) c.in_ok-key.ensures ((rw c.in-None.is at c.in_ok-_left.ensures.none) refl))

@@ -16,22 +16,22 @@ returns-in_err-write_head-clause-part g c =
     let plan = c.args.plan.now in
     on_err c.from_residual.result
     (beginning-first (held c.args.table.now) (held c.write_head.new.table) (head_cell c.args.mark.now plan c.args.shard)
-    (header_line c.args.revived (names_of plan.swept_keys)) c.in_err-write_head.ensures.part)
+    (header_line c.args.columns (names_of plan.swept_keys)) c.in_err-write_head.ensures.part)
 
 pub returns-clause-whole : goal.returns-clause-whole
 returns-clause-whole g c =
     let held = g.S.Sink.held in
     let plan = c.args.plan.now in
-    let names = subst (λ l. OnOk c.write_names.result (Appends (held c.write_head.new.table) (held c.write_names.new.table) (header_line c.args.revived (names_of l)))) c.swept_keys.ensures c.write_names.ensures.whole in
+    let names = subst (λ l. OnOk c.write_names.result (Appends (held c.write_head.new.table) (held c.write_names.new.table) (header_line c.args.columns (names_of l)))) c.swept_keys.ensures c.write_names.ensures.whole in
     on_ok_then _ _ c.write_names.result names
     (Appends-then (held c.args.table.now) (held c.write_head.new.table) (held c.write_names.new.table) (head_cell c.args.mark.now plan c.args.shard)
-    (header_line c.args.revived (names_of plan.swept_keys)) c.in_ok-write_head.ensures.whole)
+    (header_line c.args.columns (names_of plan.swept_keys)) c.in_ok-write_head.ensures.whole)
 
 pub returns-clause-part : goal.returns-clause-part
 returns-clause-part g c =
     let held = g.S.Sink.held in
     let plan = c.args.plan.now in
-    let names = subst (λ l. OnErr c.write_names.result (AppendsBeginning (held c.write_head.new.table) (held c.write_names.new.table) (header_line c.args.revived (names_of l)))) c.swept_keys.ensures c.write_names.ensures.part in
+    let names = subst (λ l. OnErr c.write_names.result (AppendsBeginning (held c.write_head.new.table) (held c.write_names.new.table) (header_line c.args.columns (names_of l)))) c.swept_keys.ensures c.write_names.ensures.part in
     on_err_then _ _ c.write_names.result names
     (beginning-then (held c.args.table.now) (held c.write_head.new.table) (held c.write_names.new.table) (head_cell c.args.mark.now plan c.args.shard)
-    (header_line c.args.revived (names_of plan.swept_keys)) c.in_ok-write_head.ensures.whole)
+    (header_line c.args.columns (names_of plan.swept_keys)) c.in_ok-write_head.ensures.whole)

@@ -7,7 +7,7 @@ use Rattle.figures.specs.Notes.{Note}
 use Rattle.shards.specs.Shards.{first_run, past_run}
 use Rattle.sweep.specs.Shards.{rest_course, shard_header}
 use Rattle.sweep.specs.Summaries.{HasCome}
-use Rattle.sweep.specs.Table.{counts_revived}
+use Rattle.sweep.specs.Table.{columns_of}
 use Rattle.trace.proofs.Beginnings.{Keeps-same, beginning-none}
 use Rattle.run_output.proofs.Faults.{on_err}
 use Rattle.sweep.proofs.Handing.{write_caused}
@@ -34,7 +34,7 @@ returns-in_err-key-clause-part g c =
     on_err c.from_residual.result
     (rest_begun tree plan c.args.mark.now p kept old old c.args.begun.now.count c.a_run_exists.ensures c.requires.judged
     (front_part tree plan (rest_course tree c.args.mark.now plan p kept c.args.begun.now.count old) old c.requires.few
-    (beginning-none old old (drop kept (shard_header (counts_revived tree) c.args.mark.now plan p)) (Keeps-same old))))
+    (beginning-none old old (drop kept (shard_header (columns_of tree) c.args.mark.now plan p)) (Keeps-same old))))
 
 pub returns-in_err-write_front_behind-clause-part : goal.returns-in_err-write_front_behind-clause-part
 returns-in_err-write_front_behind-clause-part g c =
@@ -44,7 +44,7 @@ returns-in_err-write_front_behind-clause-part g c =
     let kept = c.args.begun.now.kept in
     let old = g.S.Sink.held c.args.table.now in
     let begun = g.S.Sink.held c.write_front_behind.new.table in
-    let front = subst (λ b. AppendsBeginning old begun (drop kept (shard_header b c.args.mark.now plan p))) c.counts_revived-revived.ensures c.in_err-write_front_behind.ensures.part in
+    let front = subst (λ b. AppendsBeginning old begun (drop kept (shard_header b c.args.mark.now plan p))) c.columns_of-columns.ensures c.in_err-write_front_behind.ensures.part in
     on_err c.from_residual-in_err-write_front_behind.result
     (rest_begun tree plan c.args.mark.now p kept old begun c.args.begun.now.count c.a_run_exists.ensures c.requires.judged
     (front_part tree plan (rest_course tree c.args.mark.now plan p kept c.args.begun.now.count old) begun c.requires.few front))
@@ -66,7 +66,7 @@ returns-in_err-make_runs-clause-part g c =
     let keyed = sym c.in_ok-key.ensures in
     let first = ap (λ n. n + c.args.begun.now.count) (c.first-first.ensures.first ∙ ap (first_run p) c.runs-runs.ensures.count) in
     let past = c.past.ensures.past ∙ ap (past_run p) c.runs-runs.ensures.count in
-    let front = subst (λ b. Appends old begun (drop kept (shard_header b c.args.mark.now plan p))) c.counts_revived-revived.ensures c.in_ok-write_front_behind.ensures.whole in
+    let front = subst (λ b. Appends old begun (drop kept (shard_header b c.args.mark.now plan p))) c.columns_of-columns.ensures c.in_ok-write_front_behind.ensures.whole in
     let come = subst (HasCome tree plan course begun Fresh) (sym first) (front_come tree plan course begun Fresh front c.requires.fresh) in
     on_err c.from_residual-in_err-make_runs.result
     (rest_begun tree plan c.args.mark.now p kept old new c.args.begun.now.count c.a_run_exists.ensures c.requires.judged
@@ -87,7 +87,7 @@ returns-in_err-flush-clause-part g c =
     let keyed = sym c.in_ok-key.ensures in
     let first = ap (λ n. n + c.args.begun.now.count) (c.first-first.ensures.first ∙ ap (first_run p) c.runs-runs.ensures.count) in
     let past = c.past.ensures.past ∙ ap (past_run p) c.runs-runs.ensures.count in
-    let front = subst (λ b. Appends old begun (drop kept (shard_header b c.args.mark.now plan p))) c.counts_revived-revived.ensures c.in_ok-write_front_behind.ensures.whole in
+    let front = subst (λ b. Appends old begun (drop kept (shard_header b c.args.mark.now plan p))) c.columns_of-columns.ensures c.in_ok-write_front_behind.ensures.whole in
     let come = subst (HasCome tree plan course begun Fresh) (sym first) (front_come tree plan course begun Fresh front c.requires.fresh) in
     on_err c.from_residual-in_err-flush.result
     (rest_begun tree plan c.args.mark.now p kept old new c.args.begun.now.count c.a_run_exists.ensures c.requires.judged
@@ -112,7 +112,7 @@ returns-clause-whole g c =
     let keyed = sym c.in_ok-key.ensures in
     let first = ap (λ n. n + c.args.begun.now.count) (c.first-first.ensures.first ∙ ap (first_run p) c.runs-runs.ensures.count) in
     let past = c.past.ensures.past ∙ ap (past_run p) c.runs-runs.ensures.count in
-    let front = subst (λ b. Appends old begun (drop kept (shard_header b c.args.mark.now plan p))) c.counts_revived-revived.ensures c.in_ok-write_front_behind.ensures.whole in
+    let front = subst (λ b. Appends old begun (drop kept (shard_header b c.args.mark.now plan p))) c.columns_of-columns.ensures c.in_ok-write_front_behind.ensures.whole in
     let come = subst (HasCome tree plan course begun Fresh) (sym first) (front_come tree plan course begun Fresh front c.requires.fresh) in
     rest_whole tree plan c.args.mark.now p kept old new c.args.begun.now.count Gathered
     (subst (HasCome tree plan course new Gathered) past

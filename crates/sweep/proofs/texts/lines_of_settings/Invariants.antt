@@ -8,4 +8,4 @@ use Rattle.sweep.proofs.texts.lines_of_settings.Given as goal
 abbrev pub invariant-loop-number : goal.invariant-loop-number
 invariant-loop-number l =
     string_bytes l.text
-    ≡ marked_header l.revived l.plan.swept_keys ++ lines_of_settings l.revived (widths_of l.plan.swept_keys) l.settings (take l.number (settings_of l.plan.swept_keys)) (take l.number l.settings)
+    ≡ marked_header l.columns l.plan.swept_keys ++ lines_of_settings l.columns (widths_of l.plan.swept_keys) l.settings (take l.number (settings_of l.plan.swept_keys)) (take l.number l.settings)

@@ -28,8 +28,8 @@ returns c chosen there =
     ap (map (λ value. value.now)) c.deref-3.ensures.value ∙ c.in_ok-values.ensures ∙ ap (map string_bytes) c.deref-2.ensures.value ∙ c.in_ok-texts.ensures ∙ ap texts_of c.deref.ensures.value in
     let same : setting ≡ chosen = same_Some setting chosen (sym c.in_ok-setting.ensures.setting ∙ there) in
     let widths = c.args.widths.now in
-    let line : string_bytes c.push_setting_line.new.text ≡ setting_line c.args.revived widths (texts_of chosen) c.args.summary.now =
-    c.in_ok-push_setting_line.ensures ∙ ap (λ l. l ++ setting_line c.args.revived widths (map (λ value. value.now) c.deref-3.result.now) c.args.summary.now) c.new-line.ensures.bytes
-    ∙ ap (λ l. setting_line c.args.revived widths l c.args.summary.now) (values ∙ ap texts_of same) in
-    c.in_ok-push_marked.ensures (cells_aligned (widths ++ figure_widths c.args.revived) (texts_of chosen ++ figure_texts c.args.revived c.args.summary.now)) (c.as_str.ensures.value ∙ line)
-    ∙ ap (λ front. string_bytes c.args.text.now ++ (cells_aligned (widths ++ figure_widths c.args.revived) (texts_of chosen ++ figure_texts c.args.revived c.args.summary.now) ++ mark_text front)) c.is_on_front.ensures
+    let line : string_bytes c.push_setting_line.new.text ≡ setting_line c.args.columns widths (texts_of chosen) c.args.summary.now =
+    c.in_ok-push_setting_line.ensures ∙ ap (λ l. l ++ setting_line c.args.columns widths (map (λ value. value.now) c.deref-3.result.now) c.args.summary.now) c.new-line.ensures.bytes
+    ∙ ap (λ l. setting_line c.args.columns widths l c.args.summary.now) (values ∙ ap texts_of same) in
+    c.in_ok-push_marked.ensures (cells_aligned (widths ++ figure_widths c.args.columns) (texts_of chosen ++ figure_texts c.args.columns c.args.summary.now)) (c.as_str.ensures.value ∙ line)
+    ∙ ap (λ front. string_bytes c.args.text.now ++ (cells_aligned (widths ++ figure_widths c.args.columns) (texts_of chosen ++ figure_texts c.args.columns c.args.summary.now) ++ mark_text front)) c.is_on_front.ensures

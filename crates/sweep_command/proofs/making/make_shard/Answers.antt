@@ -2,7 +2,7 @@
 use Rattle.std.proofs.Common.{◌∙◌, ap, is_some, subst, sym}
 use Rattle.toml.specs.View.{view}
 use Rattle.sweep.specs.Shards.{shard_header}
-use Rattle.sweep.specs.Table.{counts_revived}
+use Rattle.sweep.specs.Table.{columns_of}
 use Rattle.sweep_command.specs.Runs.{BeginsRuns, FitShard, WritesRuns, standing}
 use Rattle.sweep_command.proofs.Ways.{done_by, err_by, few_rest_begun, few_rest_made, rest_begun, rest_made}
 use Rattle.sweep_command.proofs.making.make_shard.Goals as goal
@@ -12,12 +12,12 @@ write_table_until-requires-clause-wanted g c _ _ = ap is_some (sym c.until.ensur
 
 pub write_table_until-requires-clause-begun : goal.write_table_until-requires-clause-begun
 write_table_until-requires-clause-begun g c _ _ =
-    let header = shard_header (counts_revived (view c.args.document.now)) c.args.mark.now c.args.plan.now c.args.shard in
+    let header = shard_header (columns_of (view c.args.document.now)) c.args.mark.now c.args.plan.now c.args.shard in
     subst (λ until. FitShard until c.args.plan.now c.args.shard header c.args.begun.now.kept (standing c.args.begun.now.count c.args.begun.now.started.items)) (sym c.until.ensures.same ∙ c.in-Some.is) c.requires.few
 
 pub write_table-requires-clause-few : goal.write_table-requires-clause-few
 write_table-requires-clause-few g c _ _ =
-    let header = shard_header (counts_revived (view c.args.document.now)) c.args.mark.now c.args.plan.now c.args.shard in
+    let header = shard_header (columns_of (view c.args.document.now)) c.args.mark.now c.args.plan.now c.args.shard in
     subst (λ until. FitShard until c.args.plan.now c.args.shard header c.args.begun.now.kept (standing c.args.begun.now.count c.args.begun.now.started.items)) (sym c.until.ensures.same ∙ c.in-None.is) c.requires.few
 
 pub returns-in-Some-clause-whole : goal.returns-in-Some-clause-whole

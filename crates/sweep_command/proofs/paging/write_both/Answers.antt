@@ -22,7 +22,7 @@ pub returns-clause-whole : goal.returns-clause-whole
 returns-clause-whole g c = record {
   settings = c.in_ok-settings.settings.items;
   makes = marked_makes _ _ _ _ _ _ _ _ c.as_str-mark.ensures.value c.in_ok-settings.ensures.whole;
-  text = printed_as _ _ _ _ _ _ _ _ _ c.counts_revived-revived.ensures c.deref.ensures.value c.deref-2.ensures.value c.in_ok-lines.ensures;
+  text = printed_as _ _ _ _ _ _ _ _ _ c.columns_of-columns.ensures c.deref.ensures.value c.deref-2.ensures.value c.in_ok-lines.ensures;
   paged = subst (λ (l : List SettingSummary). WritesPage c.args.words.now c.args.release.now.version.now l (g.U.Sink.held c.args.page.now) (g.U.Sink.held c.write_page.new.out)) c.deref-3.ensures.value c.in_ok-write_page.ensures.whole;
 }
 

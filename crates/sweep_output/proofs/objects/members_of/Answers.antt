@@ -8,7 +8,7 @@ pub returns : goal.returns
 returns c =
     let setting = c.args.setting.now in
     let choices = map choice_member c.args.chosen.now in
-    let figures = figure_members c.args.revived setting in
+    let figures = figure_members c.args.columns setting in
     let wanted = wanted_members c.args.wants.now c.args.is_best setting in
     let front = member (codes "front") (truth (is_on_front setting c.args.all.now)) in
     c.in_ok-push_wanted.ensures

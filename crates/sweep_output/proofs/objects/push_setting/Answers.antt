@@ -7,7 +7,7 @@ use Rattle.sweep_output.proofs.objects.push_setting.Goals as goal
 
 pub returns : goal.returns
 returns c =
-    let told : List Choice → List (List ℕ) = λ chosen. members_of c.args.revived c.args.wants.now c.args.all.now c.args.is_best chosen c.args.setting.now in
+    let told : List Choice → List (List ℕ) = λ chosen. members_of c.args.columns c.args.wants.now c.args.all.now c.args.is_best chosen c.args.setting.now in
     then_also c.push_line.result _ _ c.push_line.ensures
     (λ is chosen there.
     let same : c.in_ok-chosen.chosen.items ≡ chosen = same_Some _ _ (sym c.in_ok-chosen.ensures.setting ∙ there) in

@@ -19,9 +19,9 @@ loop-place-preserved c =
     let within : place < length choices = omega (arith, same, c.loop-place-test.true) in
     let there = slice_get-get_or choices place [] within in
     let setting = get_or settings place _ in
-    one_line (setting_object c.args.revived wants settings best) choices settings place (get_or choices place []) setting _ old _ same c.loop-place-test.true there refl
+    one_line (setting_object c.args.columns wants settings best) choices settings place (get_or choices place []) setting _ old _ same c.loop-place-test.true there refl
     (c.in_ok-push_setting.ensures (get_or choices place []) there
-    ∙ ap (λ b. old ++ object_line (members_of c.args.revived wants settings b (get_or choices place []) setting)) c.is_at-is_best.ensures)
+    ∙ ap (λ b. old ++ object_line (members_of c.args.columns wants settings b (get_or choices place []) setting)) c.is_at-is_best.ensures)
     ∙ c.loop-place.invariant
 
 pub returns : goal.returns
@@ -35,5 +35,5 @@ returns c =
     record {
       best = c.best_of-best.result;
       chosen = c.best_of-best.ensures;
-      told = sym (no_rest (setting_object c.args.revived c.args.wants.now settings c.best_of-best.result) choices settings place (string_bytes c.loop-place.text) all same) ∙ c.loop-place.invariant;
+      told = sym (no_rest (setting_object c.args.columns c.args.wants.now settings c.best_of-best.result) choices settings place (string_bytes c.loop-place.text) all same) ∙ c.loop-place.invariant;
     }

@@ -5,4 +5,4 @@ use Rattle.sweep_page.specs.Table.{row_at}
 use Rattle.sweep_page.proofs.table.push_rows.Given as goal
 
 abbrev pub invariant-loop-place : goal.invariant-loop-place
-invariant-loop-place l = string_bytes l.text ≡ string_bytes l.fn.text ++ flat_map (row_at l.time l.crashed l.plan.swept_keys l.settings l.front) (range_with_len 0 l.place)
+invariant-loop-place l = string_bytes l.text ≡ string_bytes l.fn.text ++ flat_map (row_at l.time l.crashed l.counted l.plan.swept_keys l.settings l.front) (range_with_len 0 l.place)

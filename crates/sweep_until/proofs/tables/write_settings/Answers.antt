@@ -6,7 +6,7 @@ use Rattle.trace.proofs.Beginnings.{Keeps-same, beginning-none}
 use Rattle.sweep_plan.specs.Sweep.{setting_count}
 use Rattle.shards.specs.Shards.{first_run, past_run}
 use Rattle.sweep.specs.Shards.{shard_header}
-use Rattle.sweep.specs.Table.{counts_revived}
+use Rattle.sweep.specs.Table.{columns_of}
 use Rattle.run_output.proofs.Faults.{on_err}
 use Rattle.sweep.proofs.Handing.{write_caused}
 use Rattle.sweep_until.specs.Until.{HasSettings}
@@ -38,7 +38,7 @@ returns-in_err-key-clause-part g c =
     let old = g.S.Sink.held c.args.table.now in
     on_err c.from_residual.result
     (begins_front tree plan (rest_settings tree mark plan p kept before) c.args.width c.the_run_is_one.ensures c.a_run_exists.ensures c.requires.judged (rest_within plan p before c.requires.shard c.requires.few) old old
-    (beginning-none old old (drop kept (shard_header (counts_revived tree) mark plan p)) (Keeps-same old)))
+    (beginning-none old old (drop kept (shard_header (columns_of tree) mark plan p)) (Keeps-same old)))
 
 pub returns-in_err-write_front_behind-clause-part : goal.returns-in_err-write_front_behind-clause-part
 returns-in_err-write_front_behind-clause-part g c =
@@ -51,7 +51,7 @@ returns-in_err-write_front_behind-clause-part g c =
     let before = c.args.made in
     let old = g.S.Sink.held c.args.table.now in
     let begun = g.S.Sink.held c.write_front_behind.new.table in
-    let front = subst (λ b. AppendsBeginning old begun (drop kept (shard_header b mark plan p))) c.counts_revived.ensures c.in_err-write_front_behind.ensures.part in
+    let front = subst (λ b. AppendsBeginning old begun (drop kept (shard_header b mark plan p))) c.columns_of.ensures c.in_err-write_front_behind.ensures.part in
     on_err c.from_residual-in_err-write_front_behind.result
     (begins_front tree plan (rest_settings tree mark plan p kept before) width c.the_run_is_one.ensures c.a_run_exists.ensures c.requires.judged (rest_within plan p before c.requires.shard c.requires.few) old begun front)
 
@@ -73,7 +73,7 @@ returns-in_err-make_settings-clause-part g c =
     let new = g.S.Sink.held c.make_settings.new.table in
     let first : c.first-first.result + before ≡ first_setting plan p + before = ap (λ n. n + before) (c.first-first.ensures.first ∙ ap (first_run p) c.settings-count.ensures) in
     let past : c.past-till.result ≡ past_run p (setting_count plan.swept_keys) = c.past-till.ensures.past ∙ ap (past_run p) c.settings-count.ensures in
-    let front = subst (λ b. Appends old begun (drop kept (shard_header b mark plan p))) c.counts_revived.ensures c.in_ok-write_front_behind.ensures.whole in
+    let front = subst (λ b. Appends old begun (drop kept (shard_header b mark plan p))) c.columns_of.ensures c.in_ok-write_front_behind.ensures.whole in
     let none = subst (HasSettings tree plan width stretch old begun 0) (sym c.requires.fresh) (no_setting tree plan stretch width old begun front) in
     on_err c.from_residual-in_err-make_settings.result
     (c.in_err-make_settings.ensures.part stretch old (sym c.in_ok-key.ensures) (sym first) (omega (arith, first, past)) none)
@@ -94,7 +94,7 @@ returns-in_err-flush-clause-part g c =
     let new = g.S.Sink.held c.flush.new.sink in
     let first : c.first-first.result + before ≡ first_setting plan p + before = ap (λ n. n + before) (c.first-first.ensures.first ∙ ap (first_run p) c.settings-count.ensures) in
     let past : c.past-till.result ≡ past_run p (setting_count plan.swept_keys) = c.past-till.ensures.past ∙ ap (past_run p) c.settings-count.ensures in
-    let front = subst (λ b. Appends old begun (drop kept (shard_header b mark plan p))) c.counts_revived.ensures c.in_ok-write_front_behind.ensures.whole in
+    let front = subst (λ b. Appends old begun (drop kept (shard_header b mark plan p))) c.columns_of.ensures c.in_ok-write_front_behind.ensures.whole in
     let none = subst (HasSettings tree plan width stretch old begun 0) (sym c.requires.fresh) (no_setting tree plan stretch width old begun front) in
     let count : c.past-till.result - (c.first-first.result + before) ≡ settings_in plan p - before = omega (arith, first, past) in
     on_err c.from_residual-in_err-flush.result
@@ -121,7 +121,7 @@ returns-clause-whole g c =
     let new = g.S.Sink.held c.flush.new.sink in
     let first : c.first-first.result + before ≡ first_setting plan p + before = ap (λ n. n + before) (c.first-first.ensures.first ∙ ap (first_run p) c.settings-count.ensures) in
     let past : c.past-till.result ≡ past_run p (setting_count plan.swept_keys) = c.past-till.ensures.past ∙ ap (past_run p) c.settings-count.ensures in
-    let front = subst (λ b. Appends old begun (drop kept (shard_header b mark plan p))) c.counts_revived.ensures c.in_ok-write_front_behind.ensures.whole in
+    let front = subst (λ b. Appends old begun (drop kept (shard_header b mark plan p))) c.columns_of.ensures c.in_ok-write_front_behind.ensures.whole in
     let none = subst (HasSettings tree plan width stretch old begun 0) (sym c.requires.fresh) (no_setting tree plan stretch width old begun front) in
     let count : c.past-till.result - (c.first-first.result + before) ≡ settings_in plan p - before = omega (arith, first, past) in
     subst (λ n. HasSettings tree plan width stretch old new n c.make_settings.new.settings.items) count

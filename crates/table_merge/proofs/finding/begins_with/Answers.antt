@@ -6,12 +6,12 @@ returns-clause-begins c =
     let first = c.args.first.now in
     let some = rw c.in-Some.is at c.in_ok-head.ensures.some in
     let asked = rw c.in-Some.is at c.in_ok-head.ensures.asked in
-    begins_if c.args.text.now first.head.mark.now c.in-Some.head.mark.now first.head.revived c.in-Some.head.revived first.head.plan c.in-Some.head.plan c.in-Some.head.shard c.args.seeds c.requires.marked
+    begins_if c.args.text.now first.head.mark.now c.in-Some.head.mark.now first.head.columns c.in-Some.head.columns first.head.plan c.in-Some.head.plan c.in-Some.head.shard c.args.seeds c.requires.marked
     asked some.0 some.1 some.2 some.3 c.begins_as.result c.begins_as.ensures.begins
 
 pub returns-clause-other : goal.returns-clause-other
 returns-clause-other c =
     let first = c.args.first.now in
     let some = rw c.in-Some.is at c.in_ok-head.ensures.some in
-    other_if c.args.text.now first.head.mark.now c.in-Some.head.mark.now first.head.revived c.in-Some.head.revived first.head.plan c.in-Some.head.plan c.in-Some.head.shard c.args.seeds
+    other_if c.args.text.now first.head.mark.now c.in-Some.head.mark.now first.head.columns c.in-Some.head.columns first.head.plan c.in-Some.head.plan c.in-Some.head.shard c.args.seeds
     some.0 some.1 some.2 some.3 c.begins_as.result c.begins_as.ensures.other

@@ -3,4 +3,4 @@ use Rattle.table_merge.proofs.finding.tables_of.Given as goal
 
 -- the texts so far are tables
 abbrev pub invariant-loop-place : goal.invariant-loop-place
-invariant-loop-place l = AreFound l.texts l.first.head.mark.now l.first.head.revived l.first.head.plan l.tables.items l.place
+invariant-loop-place l = AreFound l.texts l.first.head.mark.now l.first.head.columns l.first.head.plan l.tables.items l.place

@@ -18,7 +18,7 @@ pub returns-in_err-seeds-clause-refused : goal.returns-in_err-seeds-clause-refus
 returns-in_err-seeds-clause-refused g c =
     let first = c.args.first.now in
     handed c.from_residual-in_err-seeds.result _ _ c.from_residual-in_err-seeds.ensures.1
-    (λ e same. gap_reason c.args.texts.now first.head.mark.now first.head.revived first.head.plan first.seeds c.requires.several c.in_ok-found.found.items e c.in_ok-found.ensures.found
+    (λ e same. gap_reason c.args.texts.now first.head.mark.now first.head.columns first.head.plan first.seeds c.requires.several c.in_ok-found.found.items e c.in_ok-found.ensures.found
     (subst (λ (l : List Found). RefusesOrder l e) c.deref.ensures.value (subst (RefusesOrder c.deref.result.now) (sym same) c.in_err-seeds.ensures.refused)))
 
 pub head_with-requires-clause-ordered : goal.head_with-requires-clause-ordered
@@ -26,7 +26,7 @@ head_with-requires-clause-ordered g c =
     let first = c.args.first.now in
     let more = c.requires.several.more in
     let found = c.in_ok-found.ensures.found in
-    (all_range c.args.texts.now first.head.mark.now first.head.revived first.head.plan first.seeds c.requires.several c.in_ok-found.found.items c.in_ok-seeds.seeds found (omega (arith, more, found.as_many))
+    (all_range c.args.texts.now first.head.mark.now first.head.columns first.head.plan first.seeds c.requires.several c.in_ok-found.found.items c.in_ok-seeds.seeds found (omega (arith, more, found.as_many))
     (subst (λ (l : List Found). AreInTurn c.in_ok-seeds.seeds.first (map (λ (f : Found). f.seeds) l) (c.in_ok-seeds.seeds.last + 1)) c.deref.ensures.value c.in_ok-seeds.ensures.follow)).0
 
 pub head_with-requires-clause-low : goal.head_with-requires-clause-low
@@ -34,7 +34,7 @@ head_with-requires-clause-low g c =
     let first = c.args.first.now in
     let more = c.requires.several.more in
     let found = c.in_ok-found.ensures.found in
-    (all_range c.args.texts.now first.head.mark.now first.head.revived first.head.plan first.seeds c.requires.several c.in_ok-found.found.items c.in_ok-seeds.seeds found (omega (arith, more, found.as_many))
+    (all_range c.args.texts.now first.head.mark.now first.head.columns first.head.plan first.seeds c.requires.several c.in_ok-found.found.items c.in_ok-seeds.seeds found (omega (arith, more, found.as_many))
     (subst (λ (l : List Found). AreInTurn c.in_ok-seeds.seeds.first (map (λ (f : Found). f.seeds) l) (c.in_ok-seeds.seeds.last + 1)) c.deref.ensures.value c.in_ok-seeds.ensures.follow)).1
 
 pub returns-in_default-clause-refused : goal.returns-in_default-clause-refused
@@ -42,7 +42,7 @@ returns-in_default-clause-refused g c =
     let first = c.args.first.now in
     let more = c.requires.several.more in
     let found = c.in_ok-found.ensures.found in
-    many_reason c.args.texts.now first.head.mark.now first.head.revived first.head.plan first.seeds c.requires.several c.in_ok-found.found.items c.in_ok-seeds.seeds found (omega (arith, more, found.as_many))
+    many_reason c.args.texts.now first.head.mark.now first.head.columns first.head.plan first.seeds c.requires.several c.in_ok-found.found.items c.in_ok-seeds.seeds found (omega (arith, more, found.as_many))
     (subst (λ (l : List Found). AreInTurn c.in_ok-seeds.seeds.first (map (λ (f : Found). f.seeds) l) (c.in_ok-seeds.seeds.last + 1)) c.deref.ensures.value c.in_ok-seeds.ensures.follow)
     (c.in_ok-head.ensures.many (ap is_some c.in_default.is))
 
@@ -53,7 +53,7 @@ put_tables-requires-clause-full g c =
     let count = ap (λ (s : Sweep). setting_count s.swept_keys) (sym some.1) in
     subst (λ n. All (IsFull n) (map starts_in c.deref-3.result.now)) count
     (subst (λ (l : List Table). All (IsFull (setting_count first.plan.swept_keys)) (map starts_in l)) (sym c.deref-3.ensures.value)
-    (all_full c.args.texts.now first.mark.now first.revived first.plan _ c.in_ok-tables.tables.items c.in_ok-tables.ensures.read))
+    (all_full c.args.texts.now first.mark.now first.columns first.plan _ c.in_ok-tables.tables.items c.in_ok-tables.ensures.read))
 
 pub returns-clause-joined : goal.returns-clause-joined
 returns-clause-joined g c =
@@ -65,8 +65,8 @@ returns-clause-joined g c =
     let found = c.in_ok-found.found.items in
     let seeds = c.in_ok-seeds.seeds in
     let follow = subst (λ (l : List Found). AreInTurn seeds.first (map (λ (f : Found). f.seeds) l) (seeds.last + 1)) c.deref.ensures.value c.in_ok-seeds.ensures.follow in
-    let read = subst (λ (l : List Found). AreRead c.args.texts.now first.mark.now first.revived first.plan l tables) c.deref-2.ensures.value c.in_ok-tables.ensures.read in
+    let read = subst (λ (l : List Found). AreRead c.args.texts.now first.mark.now first.columns first.plan l tables) c.deref-2.ensures.value c.in_ok-tables.ensures.read in
     let put = subst (λ (l : List Table). PutsAll (sweep_key head.mark.now head.plan) (in_turn (setting_count head.plan.swept_keys) (map starts_in l)) (seed_count head.plan.seeds) (g.S.Sink.held c.put_header.new.table) (g.S.Sink.held c.put_tables.new.sink) c.in_ok-settings.settings.items) c.deref-3.ensures.value c.in_ok-settings.ensures.put in
-    joined_as c.args.texts.now first.mark.now head.mark.now first.revived head.revived first.plan head.plan found tables seeds some.0 some.2 some.1 c.in_ok-found.ensures.found c.requires.several.more follow read
+    joined_as c.args.texts.now first.mark.now head.mark.now first.columns head.columns first.plan head.plan found tables seeds some.0 some.2 some.1 c.in_ok-found.ensures.found c.requires.several.more follow read
     c.requires.several.first.begins.marked asked (g.S.Sink.held c.args.table.now) (g.S.Sink.held c.put_header.new.table) (g.S.Sink.held c.put_tables.new.sink) (g.S.Sink.held c.flush.new.table)
     c.in_ok-settings.settings.items c.in_ok-put_header.ensures.whole put c.flush.ensures.same

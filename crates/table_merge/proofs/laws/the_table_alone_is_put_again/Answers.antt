@@ -2,5 +2,5 @@ use Rattle.table_merge.proofs.Genuine.{put_again}
 use Rattle.table_merge.proofs.laws.the_table_alone_is_put_again.Goals as goal
 
 pub returns : goal.returns
-returns c texts again table put sweep read revived revived_too settings others joins alone later =
-    put_again texts again table put sweep read revived revived_too settings others joins alone later
+returns c texts again table put sweep read columns columns_too settings others joins alone later =
+    put_again texts again table put sweep read columns columns_too settings others joins alone later

@@ -3,7 +3,7 @@ use Rattle.toml.specs.View.{view}
 use Rattle.sweep_plan.specs.Sweep.{setting_count}
 use Rattle.shards.specs.Shards.{first_run, past_run}
 use Rattle.sweep.specs.Shards.{shard_header}
-use Rattle.sweep.specs.Table.{counts_revived}
+use Rattle.sweep.specs.Table.{columns_of}
 use Rattle.sweep_until.specs.Shards.{settings_in, first_setting}
 use Rattle.sweep_until.proofs.ShardSettings.{a_width, settings_within, few_settings}
 use Rattle.table_rows.proofs.Standing.{after_within, front_within, left_within, lines_behind, long_stands, rest_within, short_stands}
@@ -65,7 +65,7 @@ kept_of-kept-requires-clause-words c = front_within _ _ c.read_front-words.ensur
 
 pub kept_of-kept-requires-clause-lines : goal.kept_of-kept-requires-clause-lines
 kept_of-kept-requires-clause-lines c =
-    rest_within (shard_header (counts_revived (view c.args.document.now)) c.args.mark.now c.args.plan.now c.args.shard) c.args.text.now c.in-Some.lines.now
+    rest_within (shard_header (columns_of (view c.args.document.now)) c.args.mark.now c.args.plan.now c.args.shard) c.args.text.now c.in-Some.lines.now
     (rw c.in-Some.is at c.in_ok-lines.ensures.some)
 
 pub returns-clause-begun : goal.returns-clause-begun

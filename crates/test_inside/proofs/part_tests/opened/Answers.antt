@@ -20,10 +20,10 @@ returns-clause-consistent g c =
     let s = c.args.scenario.now in
     subst (IsConsistentPart s)
     (sym (c.in_ok-admit.ensures.world ∙ ap (with_member s c.args.number) (c.new-part.ensures.world ∙ with_pending empty _ _ (ap contents_in c.requires.none ∙ contents_by-empty content_of))))
-    (alone_consistent s c.args.number c.requires.there)
+    (alone_consistent s c.args.number c.requires.there c.end.ensures.sound)
 
 pub returns-clause-single : goal.returns-clause-single
 returns-clause-single g c q =
     let s = c.args.scenario.now in
     ap (λ (w : World State EventKind). is_own w q) (c.in_ok-admit.ensures.world ∙ ap (with_member s c.args.number) (c.new-part.ensures.world ∙ with_pending empty _ _ (ap contents_in c.requires.none ∙ contents_by-empty content_of)))
-    ∙ alone_single s c.args.number c.requires.there q ∙ ap (nat_eq q) (sym (c.in_ok-admit.ensures.number ∙ c.new-part.ensures.number))
+    ∙ alone_single s c.args.number c.requires.there c.end.ensures.sound q ∙ ap (nat_eq q) (sym (c.in_ok-admit.ensures.number ∙ c.new-part.ensures.number))

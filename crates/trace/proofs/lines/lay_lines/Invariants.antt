@@ -7,7 +7,7 @@ abbrev pub invariant-loop-left : goal.invariant-loop-left
 invariant-loop-left l =
     record {
       within : l.left ≤ length l.rows;
-      room : 321 * l.left ≤ l.start;
+      room : 369 * l.left ≤ l.start;
       start : l.start ≤ length l.room;
       laid : drop l.start l.room ≡ rows_text l.scenario (drop l.left l.rows);
     }

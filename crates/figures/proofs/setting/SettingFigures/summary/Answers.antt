@@ -1,5 +1,5 @@
 use Rattle.std.proofs.Common.{length, sym, subst, ◌∙◌, IsPermutation}
-use Rattle.figures.specs.Settings.{crashes_in, suspected_in, confirmed_in, last_in, thrown_out_in, runs_with, false_deaths_in, death_squares_in, deaths_low, deaths_high}
+use Rattle.figures.specs.Settings.{crashes_in, suspected_in, confirmed_in, last_in, incidents_in, thrown_out_in, runs_with, false_deaths_in, death_squares_in, deaths_low, deaths_high}
 use Rattle.figures.specs.Histograms.{IsHistogramOf}
 use Rattle.figures.proofs.Summaries.{of_rank, false_rate_of, low_of, high_of, per_run_of, end_of, rate_of}
 use Rattle.figures.proofs.setting.SettingFigures.summary.Goals as goal
@@ -35,5 +35,6 @@ returns c runs are =
       per_run = per_run_of (thrown_out_in runs) (length runs) setting.thrown_out setting.runs _ c.deaths_of.ensures are.thrown are.all;
       fewest = end_of deaths_low (false_deaths_in runs) (death_squares_in runs) (length runs) setting.deaths setting.squares setting.runs _ c.deaths_low.ensures are.deaths are.squares are.all;
       most = end_of deaths_high (false_deaths_in runs) (death_squares_in runs) (length runs) setting.deaths setting.squares setting.runs _ c.deaths_high.ensures are.deaths are.squares are.all;
+      incidents = c.incidents_of.ensures (incidents_in runs) are.with_incidents;
       rate = rate_of runs setting.sent setting.member_ticks _ c.message_rate.ensures are.sendings are.lasting;
     }

@@ -9,4 +9,4 @@ returns-clause-kept c =
     let s = c.args.here.now.scenario.now in
     let m = c.args.here.now.key.to in
     let self = c.args.self.now in
-    subst (λ (t : State). HoldsMembers s m t) (sym c.mark_answered.ensures) (holds_answered s m self.table self.rota c.args.seq self.probe c.requires)
+    subst (λ (t : State). HoldsMembers s m t) (sym c.mark_answered.ensures) (holds_answered s m self.table self.rota c.args.seq self.probe _ c.requires)

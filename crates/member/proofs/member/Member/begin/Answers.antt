@@ -8,5 +8,5 @@ of-requires c = first_distinct c.args.here.now.scenario.now c.args.here.now.key.
 
 pub take_up_round-requires : goal.take_up_round-requires
 take_up_round-requires c =
-    holds_first c.args.here.now.scenario.now c.args.here.now.key.to _ _ _ c.in_ok-others.others.items c.in_ok-others.ensures.others
-    (c.in_ok-table.ensures ∙ ap all_alive c.deref.ensures.value) (same_members c.in_ok-rota.rota _ c.in_ok-rota.ensures.value) c.in_ok-rota.ensures.sound c.requires.target
+    holds_first c.args.here.now.scenario.now c.args.here.now.key.to _ _ _ _ c.in_ok-others.others.items c.in_ok-others.ensures.others
+    (c.in_ok-table.ensures ∙ ap all_alive c.deref.ensures.value) (same_members c.in_ok-rota.rota _ c.in_ok-rota.ensures.value) c.in_ok-rota.ensures.sound c.requires.target c.requires.asked

@@ -16,7 +16,7 @@ pub send_probe_ping-requires-clause-known : goal.send_probe_ping-requires-clause
 send_probe_ping-requires-clause-known c =
     let self = c.args.self.now in
     let n = member_count c.args.here.now.scenario.now in
-    holds_probe _ _ self.table self.rota self.probe (Some c.timed-probe.result) (subst (λ (p : Probe). p.target < n) (sym c.timed-probe.ensures) c.requires.member) c.requires.known
+    holds_probe _ _ self.table self.rota self.probe (Some c.timed-probe.result) _ (subst (λ (p : Probe). p.target < n) (sym c.timed-probe.ensures) c.requires.member) c.requires.known
 
 pub returns-in_err-send_probe_ping : goal.returns-in_err-send_probe_ping
 returns-in_err-send_probe_ping c =

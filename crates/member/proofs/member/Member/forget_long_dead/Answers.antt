@@ -1,8 +1,6 @@
-use Rattle.std.proofs.Common.{◌≡◌, refl, sym, ap, subst, ◌∙◌, arith}
+use Rattle.std.proofs.Common.{◌≡◌, refl, arith}
 use Rattle.scenario.specs.Setup.{member_count}
-use Rattle.member.specs.Effects.{Effect}
 use Rattle.member.specs.Forgetting.{all_forgotten}
-use Rattle.member.specs.CounterOverflow.{IsOverflowed}
 use Rattle.member.proofs.ForgottenOnes.{forgotten_next, forgotten_all, forgotten_overflow}
 use Rattle.member.proofs.CounterOverflow.{refused}
 use Rattle.member.proofs.member.Member.forget_long_dead.Goals as goal

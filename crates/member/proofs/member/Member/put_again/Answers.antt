@@ -1,5 +1,6 @@
 use Rattle.std.proofs.Common.{sym, subst}
 use Rattle.membership.specs.Table.{Known}
+use Rattle.lives.specs.Lives.{life_of}
 use Rattle.member.specs.Here.{HoldsOthers}
 use Rattle.member.proofs.Holds.{holds_put}
 use Rattle.member.proofs.member.Member.put_again.Goals as goal
@@ -9,6 +10,7 @@ returns-clause-kept c =
     let s = c.args.here.now.scenario.now in
     let m = c.args.here.now.key.to in
     let self = c.args.self.now in
+    let contact = (life_of self.life).contact in
     let u = c.args.update.now in
-    subst (λ (t : Known). HoldsOthers s m t self.rota self.probe) (sym c.in_ok-set.ensures.ok)
-    (holds_put s m self.table self.rota self.probe u.subject (u.claim, u.inc) c.requires.member c.requires.other c.requires.up c.requires.known)
+    subst (λ (t : Known). HoldsOthers s m t self.rota self.probe contact) (sym c.in_ok-set.ensures.ok)
+    (holds_put s m self.table self.rota self.probe contact u.subject (u.claim, u.inc) c.requires.member c.requires.other c.requires.up c.requires.known)

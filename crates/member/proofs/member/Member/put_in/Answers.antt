@@ -3,6 +3,7 @@ use Rattle.std.specs.FinMap.{get, insert}
 use Rattle.streams.specs.Draw.{words_of}
 use Rattle.probing.specs.ProbeOrder.{ProbeOrder, IsSoundOrder, insert_of}
 use Rattle.membership.specs.Table.{Known}
+use Rattle.lives.specs.Lives.{life_of}
 use Rattle.member.specs.Here.{HoldsOthers}
 use Rattle.member.specs.State.{is_probed}
 use Rattle.member.proofs.Holds.{holds_put, holds_place, put_there}
@@ -16,11 +17,12 @@ returns-clause-kept c =
     let s = c.args.here.now.scenario.now in
     let m = c.args.here.now.key.to in
     let self = c.args.self.now in
+    let contact = (life_of self.life).contact in
     let u = c.args.update.now in
     let table : Known = insert self.table u.subject (u.claim, u.inc) in
-    let put : HoldsOthers s m table self.rota self.probe = holds_put s m self.table self.rota self.probe u.subject (u.claim, u.inc) c.requires.member c.requires.other c.requires.up c.requires.known in
+    let put : HoldsOthers s m table self.rota self.probe contact = holds_put s m self.table self.rota self.probe contact u.subject (u.claim, u.inc) c.requires.member c.requires.other c.requires.up c.requires.known in
     let there : is_probed (get table u.subject) ≡ true = ap is_probed (put_there self.table u.subject (u.claim, u.inc)) ∙ ap not c.requires.up in
     let rota : c.insert.new.self ≡ (insert_of (words_of self.stream) u.subject self.rota).0 = ap (λ p. p.0) c.in_ok-insert.ensures.ok in
-    subst (λ (t : Known). HoldsOthers s m t c.insert.new.self self.probe) (sym c.in_ok-set.ensures.ok)
-    (subst (λ (r : ProbeOrder). HoldsOthers s m table r self.probe) (sym rota)
-    (holds_place s m table self.rota self.probe (words_of self.stream) u.subject there (subst IsSoundOrder rota c.in_ok-insert.ensures.sound) put))
+    subst (λ (t : Known). HoldsOthers s m t c.insert.new.self self.probe contact) (sym c.in_ok-set.ensures.ok)
+    (subst (λ (r : ProbeOrder). HoldsOthers s m table r self.probe contact) (sym rota)
+    (holds_place s m table self.rota self.probe contact (words_of self.stream) u.subject there (subst IsSoundOrder rota c.in_ok-insert.ensures.sound) put))

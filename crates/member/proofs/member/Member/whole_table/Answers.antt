@@ -7,7 +7,7 @@ use Rattle.member.proofs.member.Member.whole_table.Goals as goal
 
 pub returns-clause-state : goal.returns-clause-state
 returns-clause-state c =
-    let none = own_absent _ _ _ _ _ c.requires in
+    let none = own_absent _ _ _ _ _ _ c.requires in
     record {
       ok =
           ap (λ (t : Known). record (state_of c.args.self.now) { table = t })

@@ -11,4 +11,5 @@ returns c =
     let gossip = tells_more preset gossip_of _ _ _ _ c.in_ok-push_rows-3.ensures c.gossip_rows.ensures suspicion in
     let cluster = tells_more preset cluster_of _ _ _ _ c.in_ok-push_rows-4.ensures c.cluster_rows.ensures gossip in
     let leaves = tells_comments preset _ _ _ _ c.in_ok-push_rows-5.ensures c.leave_rows.ensures cluster in
-    tells_comments preset _ _ _ _ c.in_ok-push_rows-6.ensures c.cut_rows.ensures leaves
+    let restarts = tells_comments preset _ _ _ _ c.in_ok-push_rows-6.ensures c.restart_rows.ensures leaves in
+    tells_comments preset _ _ _ _ c.in_ok-push_rows-7.ensures c.cut_rows.ensures restarts

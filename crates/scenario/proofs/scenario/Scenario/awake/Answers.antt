@@ -21,7 +21,7 @@ pub returns-clause-put_off : goal.returns-clause-put_off
 returns-clause-put_off c = λ put_off.
     let s = c.args.self.now in
     let found = c.awake_at.ensures in
-    awake_small s (subst IsSound c.self.view_is c.self.invariant.sound) c.args.member c.args.moment c.awake_at.result
+    awake_small s (subst IsSound c.self.view_is c.self.invariant.sound).pauses c.args.member c.args.moment c.awake_at.result
     (as_found s (naps_at c.as_slice.result.now c.index.result) c.args.member c.index.result c.args.moment c.ticks.result c.awake_at.result
     (λ v. ap (λ naps. is_in_any (naps_at naps c.index.result) v) c.as_slice.ensures.value ∙ c.self.invariant.naps c.index.result v ∙ ap (λ (t : Setup). is_paused t c.index.result v) c.self.view_is)
     c.index.ensures c.ticks.ensures found.later found.before found.there) put_off
@@ -30,7 +30,7 @@ pub returns-clause-small : goal.returns-clause-small
 returns-clause-small c =
     let s = c.args.self.now in
     let found = c.awake_at.ensures in
-    small_by s (subst IsSound c.self.view_is c.self.invariant.sound) c.args.member c.args.moment c.awake_at.result
+    small_by s (subst IsSound c.self.view_is c.self.invariant.sound).pauses c.args.member c.args.moment c.awake_at.result
     (as_found s (naps_at c.as_slice.result.now c.index.result) c.args.member c.index.result c.args.moment c.ticks.result c.awake_at.result
     (λ v. ap (λ naps. is_in_any (naps_at naps c.index.result) v) c.as_slice.ensures.value ∙ c.self.invariant.naps c.index.result v ∙ ap (λ (t : Setup). is_paused t c.index.result v) c.self.view_is)
     c.index.ensures c.ticks.ensures found.later found.before found.there)

@@ -9,8 +9,8 @@ returns-clause-count c =
     let counted : vec_len c.self.inside.contents.names ≡ member_count (setup_of c.self.inside) = c.self.inside.contents.names.ok.0 ∙ length-names c.self.inside.contents.names.items (setup_of c.self.inside) c.self.invariant.names in
     c.len.ensures ∙ counted ∙ ap member_count c.self.view_is
 
-pub returns-clause-at_most_4096 : goal.returns-clause-at_most_4096
-returns-clause-at_most_4096 c =
+pub returns-clause-at_most_16384 : goal.returns-clause-at_most_16384
+returns-clause-at_most_16384 c =
     let counted : vec_len c.self.inside.contents.names ≡ member_count (setup_of c.self.inside) = c.self.inside.contents.names.ok.0 ∙ length-names c.self.inside.contents.names.items (setup_of c.self.inside) c.self.invariant.names in
     omega (arith, c.self.invariant.sound.members)
 

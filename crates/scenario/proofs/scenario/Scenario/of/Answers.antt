@@ -1,6 +1,7 @@
 use Rattle.std.proofs.Common.{◌≡◌, map, sym, ap, ◌∙◌, List}
 use Rattle.std.specs.List.{range_with_len, list_any}
 use Rattle.scenario.specs.Setup.{group_at, member_count, is_in_pause}
+use Rattle.scenario.specs.Script.{script_in}
 use Rattle.scenario.specs.SetupOf.{group_of, setup_in}
 use Rattle.scenario.specs.declared.settings.Group.{Group as Stored}
 use Rattle.scenario.proofs.Names.{length-names}
@@ -21,4 +22,6 @@ invariant_of-result c =
       calendar = λ m t is. c.in_ok-calendar.ensures m t (
           ap (list_any (is_in_pause m t)) (c.as_slice-3.ensures.value ∙ sym c.as_slice-2.ensures.value) ∙ sym (c.in_ok-naps.ensures m t) ∙ is
           );
+      stops = λ m t. c.in_ok-stops.ensures m t ∙ ap (list_any (is_in_pause m t)) c.as_slice-4.ensures.value;
+      scripts = λ m. c.in_ok-scripts.ensures m ∙ (λ i. script_in (c.as_slice-5.ensures.value i) (c.as_slice-6.ensures.value i) (c.as_slice-7.ensures.value i) m);
     }

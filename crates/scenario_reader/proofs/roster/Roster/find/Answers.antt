@@ -4,17 +4,16 @@ use Rattle.std.specs.Map.{lookup}
 use Rattle.std.specs.Fmt.{decimal}
 use Rattle.std.specs.Option.{option_copied}
 use Rattle.std.proofs.lemmas.Option.{MatchOption-at_some, MatchOption-at_none}
-use Rattle.std.proofs.lemmas.Str.Pattern.{split_parts}
 use Rattle.scenario.specs.Setup.{Group}
 use Rattle.scenario_reader.specs.Reading.{member_named}
 use Rattle.scenario_reader.specs.Roster.{start_in}
-use Rattle.scenario_reader.proofs.Find.{groups_of, names_of, named_parts, in_roster, small_count, none_named, absent_names, none_found, none_dashless, no_member, a_member, dash_free, different, unequal, length-names_of_all}
+use Rattle.scenario_reader.proofs.Find.{groups_of, names_of, in_roster, small_count, none_named, absent_names, none_found, none_dashless, no_member, a_member, dash_free, different, unequal, length-names_of_all, split_last}
 use Rattle.scenario_reader.proofs.roster.Roster.find.Goals as goal
 
 pub returns-in_default-clause-number : goal.returns-in_default-clause-number
 returns-in_default-clause-number c =
     let name = c.args.name.now in
-    let no = MatchOption-at_none ((i : ℕ) → i < length name → get_or name i 0 ≡ 45 → ⊥) (λ x. _) c.in_default.is (split_parts 45 name c.split_once.result c.split_once.ensures.cases (omega arith)) in
+    let no = MatchOption-at_none ((i : ℕ) → i < length name → get_or name i 0 ≡ 45 → ⊥) (λ x. _) c.in_default.is (split_last 45 name c.rsplit_once.result c.rsplit_once.ensures.cases (omega arith)) in
     no_member c.args.self.now name (none_dashless name (dash_free name no) c.args.self.now)
 
 pub returns-in_default-get-clause-number : goal.returns-in_default-get-clause-number
@@ -24,11 +23,10 @@ returns-in_default-get-clause-number c =
     let group = c.in-Some.group in
     let index = c.in-Some.index in
     let parts = MatchOption-at_some ((i : ℕ) → i < length name → get_or name i 0 ≡ 45 → ⊥)
-    (λ x. (name ≡ x.0.now ++ 45 ∷ x.1.now) × ((i : ℕ) → i < length x.0.now → get_or x.0.now i 0 ≡ 45 → ⊥)) (group, index) c.in-Some.is (split_parts 45 name c.split_once.result c.split_once.ensures.cases (omega arith)) in
-    let plain = dash_free group.now parts.1 in
-    let forms = named_parts (groups_of es) c.self.invariant.named in
+    (λ x. (name ≡ x.0.now ++ 45 ∷ x.1.now) × ((i : ℕ) → i < length x.1.now → get_or x.1.now i 0 ≡ 45 → ⊥)) (group, index) c.in-Some.is (split_last 45 name c.rsplit_once.result c.rsplit_once.ensures.cases (omega arith)) in
+    let plain = dash_free index.now parts.1 in
     let absent : lookup _ es ≡ None = sym c.get.ensures.value ∙ ap option_copied c.in_default-get.is in
-    let none = none_named name group.now index.now parts.0 plain _ (λ k. refl) es forms.0 (absent_names name group.now index.now parts.0 plain _ (λ k. refl) es absent) in
+    let none = none_named name group.now index.now parts.0 plain _ (λ k. refl) es 0 c.self.invariant.numbered (absent_names name group.now index.now parts.0 plain _ (λ k. refl) es absent) in
     no_member (groups_of es) name none ∙ ap (λ gs. member_named gs name) c.self.view_is
 
 pub returns-in_default-index_spelt-clause-number : goal.returns-in_default-index_spelt-clause-number
@@ -38,13 +36,12 @@ returns-in_default-index_spelt-clause-number c =
     let group = c.in-Some.group in
     let index = c.in-Some.index in
     let parts = MatchOption-at_some ((i : ℕ) → i < length name → get_or name i 0 ≡ 45 → ⊥)
-    (λ x. (name ≡ x.0.now ++ 45 ∷ x.1.now) × ((i : ℕ) → i < length x.0.now → get_or x.0.now i 0 ≡ 45 → ⊥)) (group, index) c.in-Some.is (split_parts 45 name c.split_once.result c.split_once.ensures.cases (omega arith)) in
-    let plain = dash_free group.now parts.1 in
-    let forms = named_parts (groups_of es) c.self.invariant.named in
+    (λ x. (name ≡ x.0.now ++ 45 ∷ x.1.now) × ((i : ℕ) → i < length x.1.now → get_or x.1.now i 0 ≡ 45 → ⊥)) (group, index) c.in-Some.is (split_last 45 name c.rsplit_once.result c.rsplit_once.ensures.cases (omega arith)) in
+    let plain = dash_free index.now parts.1 in
     let b = c.in-Some-get.block.now in
     let found : lookup _ es ≡ Some b = sym c.get.ensures.value ∙ ap option_copied c.in-Some-get.is in
     let small = small_count name group.now index.now parts.0 plain _ (λ k. refl) es 0 b c.self.invariant.numbered found in
-    let none = none_found name group.now index.now parts.0 plain _ (λ k. refl) es b forms.0 forms.1 found (λ i below. unequal index.now (decimal i) (c.in_default-index_spelt.ensures.none i (omega arith))) in
+    let none = none_found name group.now index.now parts.0 plain _ (λ k. refl) es 0 b c.self.invariant.numbered c.self.invariant.apart found (λ i below. unequal index.now (decimal i) (c.in_default-index_spelt.ensures.none i (omega arith))) in
     no_member (groups_of es) name none ∙ ap (λ gs. member_named gs name) c.self.view_is
 
 pub returns-then-index-block-clause-number : goal.returns-then-index-block-clause-number
@@ -54,13 +51,12 @@ returns-then-index-block-clause-number c =
     let group = c.in-Some.group in
     let index = c.in-Some.index in
     let parts = MatchOption-at_some ((i : ℕ) → i < length name → get_or name i 0 ≡ 45 → ⊥)
-    (λ x. (name ≡ x.0.now ++ 45 ∷ x.1.now) × ((i : ℕ) → i < length x.0.now → get_or x.0.now i 0 ≡ 45 → ⊥)) (group, index) c.in-Some.is (split_parts 45 name c.split_once.result c.split_once.ensures.cases (omega arith)) in
-    let plain = dash_free group.now parts.1 in
-    let forms = named_parts (groups_of es) c.self.invariant.named in
+    (λ x. (name ≡ x.0.now ++ 45 ∷ x.1.now) × ((i : ℕ) → i < length x.1.now → get_or x.1.now i 0 ≡ 45 → ⊥)) (group, index) c.in-Some.is (split_last 45 name c.rsplit_once.result c.rsplit_once.ensures.cases (omega arith)) in
+    let plain = dash_free index.now parts.1 in
     let b = c.in-Some-get.block.now in
     let found : lookup _ es ≡ Some b = sym c.get.ensures.value ∙ ap option_copied c.in-Some-get.is in
     let small = small_count name group.now index.now parts.0 plain _ (λ k. refl) es 0 b c.self.invariant.numbered found in
-    let none = none_found name group.now index.now parts.0 plain _ (λ k. refl) es b forms.0 forms.1 found (λ k below. ap (λ t. bytes_eq t (decimal k)) c.in-Some-index_spelt.ensures.some ∙ different c.in-Some-index_spelt.index k (omega arith) (omega arith)) in
+    let none = none_found name group.now index.now parts.0 plain _ (λ k. refl) es 0 b c.self.invariant.numbered c.self.invariant.apart found (λ k below. ap (λ t. bytes_eq t (decimal k)) c.in-Some-index_spelt.ensures.some ∙ different c.in-Some-index_spelt.index k (omega arith) (omega arith)) in
     no_member (groups_of es) name none ∙ ap (λ gs. member_named gs name) c.self.view_is
 
 pub overflow_add-result : goal.overflow_add-result
@@ -68,7 +64,7 @@ overflow_add-result c =
     let name = c.args.name.now in
     let es = c.self.inside.groups.entries in
     let parts = MatchOption-at_some ((i : ℕ) → i < length name → get_or name i 0 ≡ 45 → ⊥)
-    (λ x. (name ≡ x.0.now ++ 45 ∷ x.1.now) × ((i : ℕ) → i < length x.0.now → get_or x.0.now i 0 ≡ 45 → ⊥)) _ c.in-Some.is (split_parts 45 name c.split_once.result c.split_once.ensures.cases (omega arith)) in
+    (λ x. (name ≡ x.0.now ++ 45 ∷ x.1.now) × ((i : ℕ) → i < length x.1.now → get_or x.1.now i 0 ≡ 45 → ⊥)) _ c.in-Some.is (split_last 45 name c.rsplit_once.result c.rsplit_once.ensures.cases (omega arith)) in
     let b = c.in-Some-get.block.now in
     let found : lookup _ es ≡ Some b = sym c.get.ensures.value ∙ ap option_copied c.in-Some-get.is in
     let place = in_roster c.self.inside c.self.invariant name _ _ parts.0 parts.1 _ (λ k. refl) b c.in-Some-index_spelt.index found c.in-Some-index_spelt.ensures.some (omega arith) in
@@ -80,7 +76,7 @@ returns-clause-number c =
     let name = c.args.name.now in
     let es = c.self.inside.groups.entries in
     let parts = MatchOption-at_some ((i : ℕ) → i < length name → get_or name i 0 ≡ 45 → ⊥)
-    (λ x. (name ≡ x.0.now ++ 45 ∷ x.1.now) × ((i : ℕ) → i < length x.0.now → get_or x.0.now i 0 ≡ 45 → ⊥)) _ c.in-Some.is (split_parts 45 name c.split_once.result c.split_once.ensures.cases (omega arith)) in
+    (λ x. (name ≡ x.0.now ++ 45 ∷ x.1.now) × ((i : ℕ) → i < length x.1.now → get_or x.1.now i 0 ≡ 45 → ⊥)) _ c.in-Some.is (split_last 45 name c.rsplit_once.result c.rsplit_once.ensures.cases (omega arith)) in
     let b = c.in-Some-get.block.now in
     let found : lookup _ es ≡ Some b = sym c.get.ensures.value ∙ ap option_copied c.in-Some-get.is in
     let place = in_roster c.self.inside c.self.invariant name _ _ parts.0 parts.1 _ (λ k. refl) b c.in-Some-index_spelt.index found c.in-Some-index_spelt.ensures.some (omega arith) in
@@ -92,7 +88,7 @@ returns-clause-start c =
     let name = c.args.name.now in
     let es = c.self.inside.groups.entries in
     let parts = MatchOption-at_some ((i : ℕ) → i < length name → get_or name i 0 ≡ 45 → ⊥)
-    (λ x. (name ≡ x.0.now ++ 45 ∷ x.1.now) × ((i : ℕ) → i < length x.0.now → get_or x.0.now i 0 ≡ 45 → ⊥)) _ c.in-Some.is (split_parts 45 name c.split_once.result c.split_once.ensures.cases (omega arith)) in
+    (λ x. (name ≡ x.0.now ++ 45 ∷ x.1.now) × ((i : ℕ) → i < length x.1.now → get_or x.1.now i 0 ≡ 45 → ⊥)) _ c.in-Some.is (split_last 45 name c.rsplit_once.result c.rsplit_once.ensures.cases (omega arith)) in
     let b = c.in-Some-get.block.now in
     let found : lookup _ es ≡ Some b = sym c.get.ensures.value ∙ ap option_copied c.in-Some-get.is in
     let place = in_roster c.self.inside c.self.invariant name _ _ parts.0 parts.1 _ (λ k. refl) b c.in-Some-index_spelt.index found c.in-Some-index_spelt.ensures.some (omega arith) in
@@ -105,7 +101,7 @@ returns-clause-within c =
     let name = c.args.name.now in
     let es = c.self.inside.groups.entries in
     let parts = MatchOption-at_some ((i : ℕ) → i < length name → get_or name i 0 ≡ 45 → ⊥)
-    (λ x. (name ≡ x.0.now ++ 45 ∷ x.1.now) × ((i : ℕ) → i < length x.0.now → get_or x.0.now i 0 ≡ 45 → ⊥)) _ c.in-Some.is (split_parts 45 name c.split_once.result c.split_once.ensures.cases (omega arith)) in
+    (λ x. (name ≡ x.0.now ++ 45 ∷ x.1.now) × ((i : ℕ) → i < length x.1.now → get_or x.1.now i 0 ≡ 45 → ⊥)) _ c.in-Some.is (split_last 45 name c.rsplit_once.result c.rsplit_once.ensures.cases (omega arith)) in
     let b = c.in-Some-get.block.now in
     let found : lookup _ es ≡ Some b = sym c.get.ensures.value ∙ ap option_copied c.in-Some-get.is in
     let place = in_roster c.self.inside c.self.invariant name _ _ parts.0 parts.1 _ (λ k. refl) b c.in-Some-index_spelt.index found c.in-Some-index_spelt.ensures.some (omega arith) in

@@ -30,14 +30,14 @@ pub returns-in-Cut : goal.returns-in-Cut
 unfolding key_rules_of
 returns-in-Cut c = search rules
 
-pub returns-in-Gossip : goal.returns-in-Gossip
-unfolding key_rules_of
-returns-in-Gossip c = search rules
-
-pub returns-in-Stream : goal.returns-in-Stream
-unfolding key_rules_of
-returns-in-Stream c = search rules
-
 pub returns-in-Pause : goal.returns-in-Pause
 unfolding key_rules_of
 returns-in-Pause c = search rules
+
+pub returns-in-Restart : goal.returns-in-Restart
+unfolding key_rules_of
+returns-in-Restart c = search rules
+
+pub returns-in-Serf : goal.returns-in-Serf
+unfolding key_rules_of
+returns-in-Serf c = search rules

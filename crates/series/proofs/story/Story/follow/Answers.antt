@@ -26,8 +26,8 @@ follow_claim-requires-clause-can c state is =
     }
 
 pub returns : goal.returns
-returns c s subject rows about no_crash next is =
+returns c s subject rows about no_crash no_return next is =
     told s subject c.args.self.now _ rows c.args.row.now c.args.span c.args.number about next is c.follow_claim.ensures c.follow_refute.ensures
     (λ k low. c.follow_revival.ensures k low ∙ raised_where k c.args.span _ _ _ c.takes_back-is_back.ensures)
-    (c.follow.ensures s subject rows about no_crash is.spread)
+    (c.follow.ensures s subject rows about no_crash no_return is.spread)
     c.first_line-self.ensures c.last_line-self.ensures c.with_fail-self.ensures

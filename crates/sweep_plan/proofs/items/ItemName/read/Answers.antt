@@ -7,5 +7,5 @@ pub returns-clause-some : goal.returns-clause-some
 returns-clause-some c =
     let name = c.args.name.now in
     let sound : is_item_name name ≡ true = search rules in
-    let bytes = ap (λ l. l ++ drop (length name) (replicate 44 0)) c.copy_from_slice.ensures.after ∙ filled name (few_bytes name sound) in
+    let bytes = ap (λ l. l ++ drop (length name) (replicate 76 0)) c.copy_from_slice.ensures.after ∙ filled name (few_bytes name sound) in
     (sound, (λ i. record { bytes = bytes i }))

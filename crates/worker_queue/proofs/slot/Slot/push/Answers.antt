@@ -1,15 +1,24 @@
-use Rattle.std.proofs.Common.{ap, ◌∙◌}
+use Rattle.std.proofs.Common.{[], ◌∷◌, ◌++◌, ap, ◌∙◌, sym, subst}
 use Rattle.std.proofs.lemmas.Bool.{false≢true}
-use Rattle.worker_queue.specs.Slots.{by_key}
-use Rattle.worker_queue.proofs.Lists.{by_key-push}
-use Rattle.worker_queue.proofs.Ends.{unlike_pushed}
+use Rattle.worker_queue.specs.Slots.{by_key, AreUnlike, AreFalling}
+use Rattle.worker_queue.proofs.Lists.{by_key-push, unlike_push}
 use Rattle.worker_queue.proofs.slot.Slot.push.Goals as goal
 
 pub invariant_of-self : goal.invariant_of-self
 invariant_of-self g c = record {
-  unlike = unlike_pushed g.E.Keyed.key c.args.self.now.events.items c.push.new.self.items c.args.event c.push.result c.push.ensures.items c.args.self.now.unlike c.requires;
+  unlike = subst (AreUnlike g.E.Keyed.key) (sym c.make_room.ensures.same) c.args.self.now.unlike;
+  falling = λ sorted. subst (AreFalling g.E.Keyed.key) (sym c.make_room.ensures.same) (c.args.self.now.falling sorted);
+}
+
+pub invariant_of-self-2 : goal.invariant_of-self-2
+invariant_of-self-2 g c = record {
+  unlike =
+      subst (AreUnlike g.E.Keyed.key) (sym (c.push_reserved.ensures.items ∙ ap (λ l. l ++ c.args.event ∷ []) c.make_room.ensures.same))
+      (unlike_push g.E.Keyed.key c.args.self.now.events.items c.args.event c.args.self.now.unlike c.requires);
   falling = λ sorted. absurd (false≢true sorted);
 }
 
-pub returns-in-Ok-clause-ok : goal.returns-in-Ok-clause-ok
-returns-in-Ok-clause-ok g c = ap (by_key g.E.Keyed.key) c.in-Ok.ensures.items ∙ by_key-push g.E.Keyed.key c.args.self.now.events.items c.args.event c.requires
+pub returns-clause-ok : goal.returns-clause-ok
+returns-clause-ok g c =
+    ap (by_key g.E.Keyed.key) (c.push_reserved.ensures.items ∙ ap (λ l. l ++ c.args.event ∷ []) c.make_room.ensures.same)
+    ∙ by_key-push g.E.Keyed.key c.args.self.now.events.items c.args.event c.requires

@@ -1,0 +1,13 @@
+pub mod Lives
+pub mod Views
+pub mod Incidents
+pub mod Whole
+pub mod Returns
+pub mod Pairs
+pub mod Flags
+pub mod Kept
+pub mod Missed
+pub mod Observed
+pub mod Cluster
+pub mod OpenPlaces
+pub mod Lines

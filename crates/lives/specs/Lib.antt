@@ -1,0 +1,2 @@
+pub mod Regards
+pub mod Lives

@@ -1,0 +1,10 @@
+pub mod Plain
+pub mod Numbers
+pub mod Shape
+pub mod Groups
+pub mod Scripts
+pub mod Texts
+pub mod Rules
+pub mod One
+pub mod Sound
+pub mod Numbered

@@ -1,0 +1,4 @@
+pub mod Moments
+pub mod Tellings
+pub mod Places
+pub mod Outcomes
