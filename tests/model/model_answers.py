@@ -17,6 +17,7 @@ Send = collections.namedtuple('Send', 'what to value payload stream')
 Timer = collections.namedtuple('Timer', 'id after')
 Told = collections.namedtuple('Told', 'what about value')
 Used = collections.namedtuple('Used', 'words')
+Exit = collections.namedtuple('Exit', '')
 
 
 class NoAnswer(Exception):
@@ -80,10 +81,16 @@ def used_of(held):
     return Used(whole(held, 'used', 1, 2**20))
 
 
+def exit_of(held):
+    if not flag(held, 'exit'):
+        raise action_error('exit is not true')
+    return Exit()
+
+
 # how an action is read, and the members that it may have, by the one that it must have
 KINDS = {
     'send': (send_of, ['send', 'to', 'value', 'payload', 'stream']), 'timer': (timer_of, ['timer', 'after']),
-    'row': (row_of, ['row', 'about', 'value']), 'used': (used_of, ['used']),
+    'row': (row_of, ['row', 'about', 'value']), 'used': (used_of, ['used']), 'exit': (exit_of, ['exit']),
 }
 
 
@@ -108,8 +115,8 @@ def numbered(action, member, numbers):
     return action._replace(**{field: numbers[name]})
 
 
-def answer_of(line, member, numbers):
-    """The actions of a line, its line feed included, for an event of this member."""
+def answer_of(line, member, numbers, may_exit=False):
+    """The actions of a line, its line feed included, for an event of this member, which may exit by the last of them or not."""
     if b'\n' not in line[:LONGEST + 1]:
         raise NoAnswer('long' if len(line) > LONGEST else 'ended', 'no line feed')
     try:
@@ -119,4 +126,6 @@ def answer_of(line, member, numbers):
     if value.kind != 'list':
         raise action_error('no list')
     actions = [action_of(item) for item in value.held]
+    if any(isinstance(action, Exit) and not (may_exit and left == 0) for left, action in enumerate(reversed(actions))):
+        raise action_error('exit of a member that may not, or before others')
     return [numbered(action, member, numbers) for action in actions]

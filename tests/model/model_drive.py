@@ -15,14 +15,15 @@ import os
 import sys
 
 from model import asked
-from model_answers import LONGEST, NoAnswer, Send, Timer, Told, Used, answer_of
+from model_answers import Exit, LONGEST, NoAnswer, Send, Timer, Told, Used, answer_of
 from model_links import Draws, arrival, awake
 from model_member import Event
 from model_rows import Row
 from model_text import report_of, trace_of
+from scenarios import script_of
 
-# what the world tells of a member before and while it runs
-SCRIPT = ('start', 'crash', 'leave')
+# what happens to a member by the text
+SCRIPT = ('start', 'restart', 'crash', 'leave')
 
 
 def compact(value):
@@ -37,11 +38,19 @@ class Process:
     """What the world keeps of a member."""
 
     def __init__(self, scenario, number):
-        name = scenario['members'][number]['name']
-        self.is_up = False
-        goes_down = any(entry['member'] == name for what in ('crash', 'leave') for entry in scenario[what])
-        self.next_number = 2 if goes_down else 1
+        self.phase = 'waiting'      # then 'up', 'leaving' or 'down'
+        self.next_number = 1 + len(script_of(scenario, scenario['members'][number]['name']))
+        self.birth = 0              # the number from which on its timers are of its present process
         self.draws = Draws(scenario['seed'], number)
+
+    def heeds(self, event):
+        """Whether an event has an effect."""
+        if self.phase == 'waiting':
+            return event.what == 'start'
+        if self.phase == 'down':
+            return event.what == 'restart'
+        is_former = event.what == 'timer' and event.number < self.birth
+        return not is_former and not (self.phase == 'leaving' and event.what == 'leave')
 
 
 class Drive:
@@ -58,10 +67,8 @@ class Drive:
         self.rows, self.answers, self.is_first = [], 0, True
         for number, member in enumerate(scenario['members']):
             self.pend(Event(member['start'], number, number, 0, 'start', {}))
-        for what in ('crash', 'leave'):
-            for entry in scenario[what]:
-                number = self.numbers[entry['member']]
-                self.pend(Event(entry['at'], number, number, 1, what, {}))
+            for place, (what, entry) in enumerate(script_of(scenario, member['name']), 1):
+                self.pend(Event(entry['at'], number, number, place, what, entry))
 
     def pend(self, event):
         heapq.heappush(self.pending[event.member], event)
@@ -98,7 +105,7 @@ class Drive:
                 event = self.safe(delay)
                 if event is None:
                     self.take_answer()
-                elif self.is_told(event):
+                elif self.processes[event.member].heeds(event):
                     line = self.line_of(event)
                     self.harness.tell(line)
                     self.settle_or_wait(event, line)
@@ -118,9 +125,6 @@ class Drive:
         rows = [row for row in self.rows if event is None or row[0][:4] < event[:4]]
         return [row for _, _, row in sorted(rows, key=lambda row: (row[0][:4], row[1]))]
 
-    def is_told(self, event):
-        return self.processes[event.member].is_up or event.what == 'start'
-
     def settle_or_wait(self, event, line):
         if event.what == 'crash':
             self.settle(event, [])
@@ -130,9 +134,14 @@ class Drive:
     def take_answer(self):
         event, self.line = self.waiting[0]
         self.answers += 1
-        actions = answer_of(self.harness.answer(), event.member, self.numbers)
+        actions = answer_of(self.harness.answer(), event.member, self.numbers, self.may_exit(event))
         self.waiting.pop(0)
         self.settle(event, actions)
+
+    def may_exit(self, event):
+        """Whether the process that answers was told to leave, at the latest by this event."""
+        is_leaving = self.processes[event.member].phase == 'leaving' and event.what != 'restart'
+        return self.scenario['version'] >= 4 and (is_leaving or event.what == 'leave')
 
     # ---- What an event comes to ----
 
@@ -141,14 +150,20 @@ class Drive:
         heapq.heappop(self.pending[event.member])
         process = self.processes[event.member]
         self.event, self.index = event, 0
-        if event.what == 'start' or process.is_up and event.what in SCRIPT:
+        if not process.heeds(event):
+            return
+        if event.what in SCRIPT:
             self.row(event.what)
-        if event.what == 'start':
-            process.is_up = True
+        if event.what in ('start', 'restart'):
+            process.phase = 'up'
+        if event.what == 'restart':
+            process.birth = process.next_number
+        if event.what == 'leave' and self.scenario['version'] >= 4:
+            process.phase = 'leaving'
         for action in actions:
             self.act(action)
-        if event.what in ('crash', 'leave'):
-            process.is_up = False
+        if event.what == 'crash' or event.what == 'leave' and self.scenario['version'] < 4:
+            process.phase = 'down'
 
     def row(self, what, about=None, value=0, lost=0):
         self.rows.append((self.event, self.index, Row(*self.event[:4], what, about, value, lost)))
@@ -156,6 +171,9 @@ class Drive:
 
     def act(self, action):
         now, member = self.event.moment, self.event.member
+        if isinstance(action, Exit):
+            self.row('exit')
+            self.processes[member].phase = 'down'
         if isinstance(action, Told):
             self.row(action.what, action.about, action.value)
         if isinstance(action, Used):
@@ -190,8 +208,8 @@ class Drive:
     def line_of(self, event):
         """The line that tells an event."""
         told = {'moment': event.moment, 'member': self.names[event.member], 'from': self.names[event.maker],
-                'number': event.number, 'event': event.what}
-        if event.what == 'start':
+                'number': event.number, 'event': 'start' if event.what == 'restart' else event.what}
+        if event.what in ('start', 'restart'):
             told |= self.of_start(event)
         if event.what == 'timer':
             told |= event.content
@@ -209,8 +227,11 @@ class Drive:
             self.is_first = False
             told |= {'members': self.names,
                      'founders': [member['name'] for member in self.scenario['members'] if member['start'] == 0]}
-        if member['start'] > 0:
-            told['contact'] = member['contact']
+        contact = event.content['contact'] if event.what == 'restart' else member['contact'] if member['start'] > 0 else None
+        if contact is not None:
+            told['contact'] = contact
+        if event.what == 'restart':
+            told['again'] = True
         return told
 
 

@@ -1,7 +1,8 @@
 """A harness whose members are the model's own, for tests/model/model_drive.py.
 
 Its members draw from the words that the world draws from. So each says by `used` how many words it took of its
-own, and goes over the links itself to keep pace.
+own, and goes over the links itself to keep pace. In version 4 a member draws a dial's trips itself, and its connected timer
+is a timer of the harness; the row of a dial can't be told, so T lacks it.
 """
 
 import collections
@@ -10,9 +11,13 @@ import json
 from model_drive import compact
 from model_links import Draws
 from model_member import Event, Member, Update
+from model_member_four import MemberFour
 
-WORLD_ROWS = ('start', 'crash', 'leave')
+# rows that the world writes, and by which action it does so, if by one
+WORLD_ROWS = {'start': None, 'restart': None, 'crash': None, 'leave': None, 'exit': {'exit': True}}
 STREAMS = ('call', 'answer')
+# the events by which a process begins, as it is told
+STARTS = {False: 'start', True: 'restart'}
 
 
 class CountedDraws(Draws):
@@ -42,7 +47,7 @@ def content_of(payload):
     return content
 
 
-class DrivenMember(Member):
+class Driven:
     """A member of the model that writes what it does as actions."""
 
     def __init__(self, run, number):
@@ -60,6 +65,9 @@ class DrivenMember(Member):
         if what not in WORLD_ROWS:
             named = {} if about is None else {'about': self.run.names[about]}
             self.actions.append({'row': what, **named, 'value': value})
+        elif WORLD_ROWS[what]:
+            self.say_used()
+            self.actions.append(WORLD_ROWS[what])
 
     def send(self, what, to, value=0, **content):
         self.say_used()
@@ -74,9 +82,32 @@ class DrivenMember(Member):
         self.next_number += 1
 
     def set_timer(self, moment, what, **content):
-        self.actions.append({'timer': len(self.timers), 'after': moment - self.now})
+        """Sets a timer. One that never comes is set all the same, since it takes a number, and means nothing."""
+        after, what = (1, None) if moment is None else (moment - self.now, what)
+        self.actions.append({'timer': len(self.timers), 'after': after})
         self.timers.append((what, content))
         self.next_number += 1
+
+
+class DrivenMember(Driven, Member):
+    """A member of versions 1 to 3."""
+
+
+class DrivenFour(Driven, MemberFour):
+    """A member of version 4."""
+
+    def dial(self, kind, to):
+        """No row of a dial can be told."""
+        rows = self.actions[:]
+        done = super().dial(kind, to)
+        self.actions = rows + [action for action in self.actions[len(rows):] if 'row' not in action]
+        return done
+
+    def restart(self, event):
+        """Its draws go on, and what was told of them."""
+        told = self.told
+        super().restart(event)
+        self.told = told
 
 
 class Harness:
@@ -86,7 +117,8 @@ class Harness:
         self.scenario, self.event = scenario, None
         self.names = [member['name'] for member in scenario['members']]
         self.numbers = {name: number for number, name in enumerate(self.names)}
-        self.members = [DrivenMember(self, number) for number in self.numbers.values()]
+        kind = DrivenFour if scenario['version'] >= 4 else DrivenMember
+        self.members = [kind(self, number) for number in self.numbers.values()]
         self.lines, self.told = collections.deque(), []
 
     def tell(self, line):
@@ -97,7 +129,8 @@ class Harness:
         member = self.members[self.numbers[told['member']]]
         member.actions = []
         self.event = self.event_of(member, told)
-        member.handle(self.event)
+        if self.event.what is not None:
+            member.handle(self.event)
         member.say_used()
         self.lines.append((compact(member.actions) + '\n').encode())
 
@@ -106,6 +139,8 @@ class Harness:
 
     def event_of(self, member, told):
         what, content = told['event'], {}
+        if what == 'start':
+            what, content = STARTS[told.get('again', False)], {'contact': told.get('contact')}
         if what == 'timer':
             what, content = member.timers[told['id']]
         if what == 'message':

@@ -8,19 +8,20 @@ import subprocess
 from generate import run_case
 from harness import TESTS, call
 from model_harness import Harness
-from model_text import report_of, rows_in
+from model_text import report_of, rows_in, trace_of
 from program import Case, DATA, expect, expect_ran
 from run_pages import expect_page
-from scenarios import document_of, judge
+from scenarios import NEWEST, document_of, judge
+from test_model_drive import rows_but_dials
 from worked import scenario_of
 
 HEAD = b'moment,member,from,number,what,about,value,lost\n'
-# version 4 has its own rows; `run` compares with those before
-NEWEST_RUN = 3
 RUNS = 20
 SEED = 20261130
 SECONDS = 60
 ANSWERS = 40
+# what a drive leaves, and what a run leaves
+PAIRS = (('t.csv', 'run.csv'), ('r.txt', 'run.txt'), ('p.html', 'run.html'))
 EXAMPLES = TESTS.parent / 'examples'
 # what examples/drive/smallest makes of examples/two.toml: a ping each, and its ack
 SMALLEST_ROWS = (b'0,n-0,n-0,0,start,,0,0\n0,n-1,n-1,0,start,,0,0\n1,n-0,n-0,1,ping,n-1,1,0\n'
@@ -50,7 +51,9 @@ def check_drive(program, case):
     expect_ran(ran, 0, ran.out, b'')
     trace, scenario = program.held('t.csv'), scenario_of(case['text'])
     expect('report', program.held('r.txt'), report_of(scenario, rows_in(scenario, trace.decode())).encode())
-    expect_page(program, 'page', 's.toml', case['text'], trace)
+    # the model makes no page of version 4
+    if scenario['version'] < 4:
+        expect_page(program, 'page', 's.toml', case['text'], trace)
 
 
 def drive_by(program, harness):
@@ -65,14 +68,38 @@ def drive_by(program, harness):
         return world.wait(SECONDS)
 
 
+def figures_in(report):
+    """The lines of a report but for the numbers of rows and of messages, among which dials count."""
+    return [line for line in report.decode().splitlines() if not line.startswith(('rows ', 'sent '))]
+
+
+def expect_run(program, names):
+    """Compares what a drive left with what `run` has left under the second of two names."""
+    for seen, wanted in names:
+        expect(seen, program.held(seen), program.held(wanted))
+
+
+def check_own_four(program, scenario):
+    """The model's own members of version 4 write the rows of the run but for those of dials, and have the figures of `run`."""
+    rows = rows_but_dials(scenario)
+    expect('trace', program.held('t.csv'), trace_of(scenario, rows).encode())
+    expect('report', program.held('r.txt'), report_of(scenario, rows).encode())
+    expect('figures', figures_in(program.held('r.txt')), figures_in(program.held('run.txt')))
+    if program.held('t.csv') == program.held('run.csv'):
+        expect_run(program, PAIRS)
+
+
 def check_own(program, text):
     """The model's own members write what `run` writes: trace, report and page."""
     program.keep('s.toml', text)
-    expect('status', drive_by(program, Harness(judge(document_of(text), NEWEST_RUN)[1])), 0)
+    scenario = judge(document_of(text), NEWEST)[1]
+    expect('status', drive_by(program, Harness(scenario)), 0)
     ran = program.call(['run', 's.toml', '--trace', 'run.csv', '--report', 'run.txt', '--page', 'run.html'])
     expect('status of the run', ran.status, 0)
-    for seen, wanted in (('t.csv', 'run.csv'), ('r.txt', 'run.txt'), ('p.html', 'run.html')):
-        expect(seen, program.held(seen), program.held(wanted))
+    if scenario['version'] >= 4:
+        check_own_four(program, scenario)
+    else:
+        expect_run(program, PAIRS)
 
 
 def answer_on(world):
@@ -101,14 +128,6 @@ def check_closed(program, text):
     expect('report and page', (program.held('r.txt'), program.held('p.html')), (b'', b''))
 
 
-def check_newest(program):
-    """A scenario of version 4 is refused before anything is told or made."""
-    program.keep('s.toml', (DATA / 'expand' / 'alone.plain').read_bytes())
-    ran = call(drive_words(program), cwd=program.folder)
-    expect_ran(ran, 3, b'', b'swimsim: scenario version: drive takes versions 1 to 3\n')
-    expect('the files', [program.held(name) for name in ('t.csv', 'r.txt', 'p.html')], 3 * [None])
-
-
 def check_smallest(program):
     """The smallest harness, in C, plays the smallest scenario."""
     built = program.folder / 'smallest'
@@ -133,13 +152,12 @@ def cases():
     drives = json.loads((DATA / 'drive' / 'drives.json').read_text())
     for case in drives:
         yield Case(f'drive of the program: {case["name"]}', check_drive, (case,))
-    for path in sorted((DATA / 'worked').glob('*.toml')):
+    for path in sorted([*(DATA / 'worked').glob('*.toml'), *(DATA / 'four').glob('*.toml')]):
         yield Case(f'drive of the program, own members: {path.stem}', check_own, (path.read_bytes(),))
     for number in range(RUNS):
         yield Case(f'drive of the program, own members: random run {number}', check_own,
-                   (run_case(SEED, number, NEWEST_RUN)[0],))
+                   (run_case(SEED, number, NEWEST)[0],))
     yield Case('drive of the program: standard output is closed', check_closed, (drives[0]['text'],))
-    yield Case('drive of the program: version 4 is refused', check_newest, ())
     yield Case('drive of the program: the harness in Python', check_python, ())
     if shutil.which('cc'):
         yield Case('drive of the program: the smallest harness', check_smallest, ())

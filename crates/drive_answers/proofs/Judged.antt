@@ -1,5 +1,5 @@
 -- What is said of a line, by what its reading came to.
-use Rattle.std.proofs.Common.{◌≡◌, ℕ, Bool, true, false, List, [], ◌∷◌, ◌++◌, drop, Option, Some, None, unwrap_or, ap, ◌∙◌, sym, refl, subst, append_assoc, inl}
+use Rattle.std.proofs.Common.{◌≡◌, ℕ, Bool, true, false, List, [], ◌∷◌, ◌++◌, drop, Option, Some, None, unwrap_or, ap, ◌∙◌, sym, refl, subst, append_assoc, inl, ◌+◌, length, arith}
 use Rattle.std.proofs.lemmas.Bool.{false≢true}
 use Rattle.std.specs.Prelude.{◌↔◌, IfSome, IsNone, IsTrue}
 use Rattle.std.specs.Option.{is_some, option_and_then}
@@ -18,24 +18,29 @@ use Rattle.drive_answers.specs.declared.said.Said.{Said}
 use Rattle.drive_answers.specs.declared.said.Said.TheVariants as says
 use Rattle.drive_answers.specs.Pieces.{Piece, pieces}
 use Rattle.drive_answers.specs.Standing.{behind}
-use Rattle.drive_answers.specs.Said.{SaysSend, SaysTimer, SaysRow, SaysUsed}
-use Rattle.drive_answers.specs.SaidOf.{Says, IsAction, send, timer, told, used}
-use Rattle.drive_answers.specs.Answer.{IsJson, IsNoJson, IsNoList, IsNobodys, NamesNobody, OneOf, AreActions, SaysAction, SaysActions, IsAnswer, IsCause}
+use Rattle.drive_answers.specs.Said.{SaysSend, SaysTimer, SaysRow, SaysUsed, SaysExit}
+use Rattle.drive_answers.specs.SaidOf.{Says, IsAction, send, timer, told, used, exit}
+use Rattle.drive_answers.specs.Answer.{IsJson, IsNoJson, IsNoList, IsNobodys, NamesNobody, OneOf, AreActions, SaysAction, SaysActions, IsAnswer, IsCause, count_items, ExitsLast}
+use Rattle.json.specs.Value.{items_view}
+use Rattle.json.specs.declared.value.Value.{Value}
+use Rattle.std.proofs.lemmas.List.{length-drop}
 
 -- ---- an item
 
 pub no_action : (j : Json) → ((what : What) (to : List ℕ) (value : ℕ) (stream : Bool) → ¬ (SaysSend j what to value stream)) → ((id after : ℕ) → ¬ (SaysTimer j id after))
-    → ((what : What) (about : Option (List ℕ)) (value : ℕ) → ¬ (SaysRow j what about value)) → ((words : ℕ) → ¬ (SaysUsed j words)) → ¬ (IsAction j)
-no_action j s t r u (send what to value stream h) = s what to value stream h
-no_action j s t r u (timer id after h) = t id after h
-no_action j s t r u (told what about value h) = r what about value h
-no_action j s t r u (used words h) = u words h
+    → ((what : What) (about : Option (List ℕ)) (value : ℕ) → ¬ (SaysRow j what about value)) → ((words : ℕ) → ¬ (SaysUsed j words)) → ¬ (SaysExit j) → ¬ (IsAction j)
+no_action j s t r u x (send what to value stream h) = s what to value stream h
+no_action j s t r u x (timer id after h) = t id after h
+no_action j s t r u x (told what about value h) = r what about value h
+no_action j s t r u x (used words h) = u words h
+no_action j s t r u x (exit h) = x h
 
 says_action : (j : Json) (x : Said) → Says j x → IsAction j
 says_action j (says.Send x) h = send x.what x.to.now x.value x.stream h
 says_action j (says.Timer t) h = timer t.id t.after h
 says_action j (says.Row r) h = told r.what _ r.value h
 says_action j (says.Used words) h = used words h
+says_action j says.Exit h = exit h
 
 pub is_said : (j : Json) (o : Option Said) → IfSome o (Says j) → (IsNone o → ¬ (IsAction j)) → (IsTrue (is_some o) ↔ IsAction j)
 is_said j None some none = (λ t. absurd (false≢true t), λ a. absurd (none refl a))
@@ -51,27 +56,38 @@ as_list (string s) js h = absurd (false≢true (sym (ap is_some h)))
 as_list (array ks) js h = ap array (sym (ap (λ o. unwrap_or o js) h))
 as_list (object ms) js h = absurd (false≢true (sym (ap is_some h)))
 
-pub no_list : (line : List ℕ) (j : Json) → IsJson line j → None ≡ as_array j → IsNoList line
-no_list line j json none = record { json = j; is = json; not = λ js is acts. false≢true (ap is_some (none ∙ ap as_array is)) }
+pub no_list : (exits : Bool) (line : List ℕ) (j : Json) → IsJson line j → None ≡ as_array j → IsNoList exits line
+no_list exits line j json none = record { json = j; is = json; not = λ js is acts. false≢true (ap is_some (none ∙ ap as_array is)) }
 
-pub not_all : (line : List ℕ) (j : Json) (js : Items) → IsJson line j → Some js ≡ as_array j → ¬ (AreActions js) → IsNoList line
-not_all line j js json is not = record {
+pub not_all : (exits : Bool) (line : List ℕ) (j : Json) (js : Items) → IsJson line j → Some js ≡ as_array j → ¬ (AreActions js × ExitsLast exits js) → IsNoList exits line
+not_all exits line j js json is not = record {
   json = j;
   is = json;
-  not = λ ks same acts. not (subst AreActions (sym (ap (λ o. unwrap_or o js) (is ∙ ap as_array same))) acts);
+  not = λ ks same acts. not (subst (λ xs. AreActions xs × ExitsLast exits xs) (sym (ap (λ o. unwrap_or o js) (is ∙ ap as_array same))) acts);
 }
 
-pub whole_answer : (s : Setup) (m : ℕ) (line : List ℕ) (j : Json) (js : Items) (ps : List Piece) (actions : List Action) → IsJson line j → Some js ≡ as_array j
-    → ps ≡ drop 1 (pieces line) → SaysActions s m js ps actions → IsAnswer s m line actions
-whole_answer s m line j js ps actions json is cut says_them =
-    record { items = js; json = subst (IsJson line) (as_list j js is) json; says = subst (λ qs. SaysActions s m js qs actions) cut says_them }
+pub whole_answer : (s : Setup) (m : ℕ) (exits : Bool) (line : List ℕ) (j : Json) (js : Items) (ps : List Piece) (actions : List Action) → IsJson line j → Some js ≡ as_array j
+    → ExitsLast exits js → ps ≡ drop 1 (pieces line) → SaysActions s m js ps actions → IsAnswer s m exits line actions
+whole_answer s m exits line j js ps actions json is last cut says_them =
+    record { items = js; json = subst (IsJson line) (as_list j js is) json; last = last; says = subst (λ qs. SaysActions s m js qs actions) cut says_them }
 
-pub whole_refused : (s : Setup) (m : ℕ) (line : List ℕ) (j : Json) (js : Items) (e : AnswerError) → IsJson line j → Some js ≡ as_array j → AreActions js
-    → IsCause ⊥ ⊥ (OneOf (NamesNobody s m) js) e → IsCause ⊥ (IsNoList line) (IsNobodys s m line) e
-whole_refused s m line j js cause.Memory json is all h = tt
-whole_refused s m line j js cause.Json json is all h = absurd h
-whole_refused s m line j js cause.Action json is all h = absurd h
-whole_refused s m line j js cause.Member json is all h = record { items = js; is = subst (IsJson line) (as_list j js is) json; actions = all; one = h }
+pub whole_refused : (s : Setup) (m : ℕ) (exits : Bool) (line : List ℕ) (j : Json) (js : Items) (e : AnswerError) → IsJson line j → Some js ≡ as_array j → AreActions js
+    → ExitsLast exits js → IsCause ⊥ ⊥ (OneOf (NamesNobody s m) js) e → IsCause ⊥ (IsNoList exits line) (IsNobodys s m exits line) e
+whole_refused s m exits line j js cause.Memory json is all last h = tt
+whole_refused s m exits line j js cause.Json json is all last h = absurd h
+whole_refused s m exits line j js cause.Action json is all last h = absurd h
+whole_refused s m exits line j js cause.Member json is all last h =
+    record { items = js; is = subst (IsJson line) (as_list j js is) json; actions = all; last = last; one = h }
+
+-- ---- where a process ends
+
+pub counts_items : {A : Type 0} → (xs : List (Value A)) → count_items (items_view xs) ≡ length xs
+counts_items [] = refl
+counts_items (x ∷ xs) = ap (λ n. n + 1) (counts_items xs) ∙ omega arith
+
+-- so many items are left behind this one
+pub items_left : {A : Type 0} → (xs : List (Value A)) (i left : ℕ) → left + (i + 1) ≡ length xs → count_items (items_view (drop (i + 1) xs)) ≡ left
+items_left xs i left count = counts_items (drop (i + 1) xs) ∙ omega (arith, count, length-drop (i + 1) xs)
 
 -- ---- item by item
 

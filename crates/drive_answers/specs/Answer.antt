@@ -1,5 +1,5 @@
 -- What a line answers: a JSON list of actions, or why it is none.
-use Rattle.std.specs.Prelude.{◌≡◌, ◌≢◌, ◌<◌, ◌⊎◌, ℕ, Bool, true, List, [], ◌∷◌, drop, codes, Some}
+use Rattle.std.specs.Prelude.{◌≡◌, ◌≢◌, ◌<◌, ◌⊎◌, ℕ, ◌+◌, Bool, true, List, [], ◌∷◌, drop, codes, Some}
 use Rattle.std.specs.Option.{IfSome, option_map, is_some}
 use Rattle.std.specs.Str.{IsUtf8}
 use Rattle.json.specs.Json.{Json, array, Items, no_items, item, value}
@@ -13,7 +13,7 @@ use Rattle.drive_answers.specs.declared.error.AnswerError.TheVariants as cause
 use Rattle.trace.specs.declared.row.What.{What}
 use Rattle.drive_answers.specs.Pieces.{Piece, pieces}
 use Rattle.drive_answers.specs.Standing.{behind, standing_in}
-use Rattle.drive_answers.specs.Said.{SaysSend, SaysTimer, SaysRow, SaysUsed}
+use Rattle.drive_answers.specs.Said.{SaysSend, SaysTimer, SaysRow, SaysUsed, SaysExit}
 use Rattle.drive_answers.specs.SaidOf.{IsAction}
 
 -- The line is this JSON: UTF-8, at most 127 lists and objects in one another, and each number in the range of floats.
@@ -29,6 +29,7 @@ SaysAction s m j ps (action.Send x) =
 SaysAction s m j ps (action.Timer t) = SaysTimer j t.id t.after
 SaysAction s m j ps (action.Noted r) = SaysRow j r.what (option_map (name_of s) r.about) r.value × IfSome r.about (λ a. a < member_count s)
 SaysAction s m j ps (action.Used words) = SaysUsed j words
+SaysAction s m j ps action.Exit = SaysExit j
 
 -- these items say these actions, one each
 abbrev pub SaysActions : Setup → ℕ → Items → List Piece → List Action → Type 0
@@ -37,10 +38,24 @@ SaysActions s m no_items ps (a ∷ rest) = ⊥
 SaysActions s m (item j js) ps [] = ⊥
 SaysActions s m (item j js) ps (a ∷ rest) = SaysAction s m j ps a × SaysActions s m js (behind j ps) rest
 
--- The line answers an event of member m by these actions.
-pub record IsAnswer (s : Setup) (m : ℕ) (line : List ℕ) (actions : List Action) : Type 0 where
+abbrev pub count_items : Items → ℕ
+count_items no_items = 0
+count_items (item j js) = count_items js + 1
+
+-- a process that ends does so where it may, by an action before no others
+abbrev pub MayStand : Bool → ℕ → Json → Type 0
+MayStand exits left j = SaysExit j → (exits ≡ true) × (left ≡ 0)
+
+-- so each of these items stands
+abbrev pub ExitsLast : Bool → Items → Type 0
+ExitsLast exits no_items = Unit {0}
+ExitsLast exits (item j js) = MayStand exits (count_items js) j × ExitsLast exits js
+
+-- The line answers an event of member m, whose process may end now or not, by these actions.
+pub record IsAnswer (s : Setup) (m : ℕ) (exits : Bool) (line : List ℕ) (actions : List Action) : Type 0 where
   pub items : Items
   pub json : IsJson line (array items)
+  pub last : ExitsLast exits items
   pub says : SaysActions s m items (drop 1 (pieces line)) actions
 
 -- ---- why a line is no answer
@@ -53,11 +68,11 @@ AreActions (item j js) = IsAction j × AreActions js
 abbrev pub IsNoJson : List ℕ → Type 0
 IsNoJson line = (j : Json) → ¬ (IsJson line j)
 
--- the line is JSON, but no list of actions
-pub record IsNoList (line : List ℕ) : Type 0 where
+-- the line is JSON, but no list of actions, or it ends a process that may not end or goes on behind it
+pub record IsNoList (exits : Bool) (line : List ℕ) : Type 0 where
   pub json : Json
   pub is : IsJson line json
-  pub not : (items : Items) → json ≡ array items → ¬ (AreActions items)
+  pub not : (items : Items) → json ≡ array items → ¬ (AreActions items × ExitsLast exits items)
 
 -- no member has the name
 abbrev pub IsNobody : Setup → List ℕ → Type 0
@@ -75,10 +90,11 @@ OneOf P no_items = ⊥
 OneOf P (item j js) = P j ⊎ OneOf P js
 
 -- the line is a list of actions, of which one names nobody whom it could name
-pub record IsNobodys (s : Setup) (m : ℕ) (line : List ℕ) : Type 0 where
+pub record IsNobodys (s : Setup) (m : ℕ) (exits : Bool) (line : List ℕ) : Type 0 where
   pub items : Items
   pub is : IsJson line (array items)
   pub actions : AreActions items
+  pub last : ExitsLast exits items
   pub one : OneOf (NamesNobody s m) items
 
 -- what holds by the cause: nothing where memory was refused

@@ -69,3 +69,8 @@ pub record SaysRow (j : Json) (what : What) (about : Option (List ℕ)) (value :
 pub record SaysUsed (j : Json) (words : ℕ) : Type 0 where
   pub only : has_only (codes "used" ∷ []) j ≡ true
   pub says_words : IsWhole (codes "used") j 1 (2 ^ 20) words
+
+-- The member's process ends.
+pub record SaysExit (j : Json) : Type 0 where
+  pub only : has_only (codes "exit" ∷ []) j ≡ true
+  pub says_so : IsTruth (codes "exit") j true

@@ -49,4 +49,6 @@ pub enum Action {
     Noted(Noted),
     /// It uses so many words of its stream.
     Used(u64),
+    /// Its process ends. It was told to leave.
+    Exit,
 }

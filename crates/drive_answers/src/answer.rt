@@ -8,7 +8,7 @@ ghost use Rattle.json.specs.Value.{value_view, items_view};
 ghost use Rattle.serde_json.specs.Read.{read};
 ghost use Rattle.scenario.specs.Setup.{member_count, name_of};
 ghost use Rattle.drive_answers.specs.declared.action.Action.{Action as AnyAction};
-ghost use Rattle.drive_answers.specs.Answer.{IsAnswer, IsJson, IsNoJson, IsNoList, IsNobodys, NamesNobody, OneOf, AreActions, SaysAction, SaysActions, IsCause};
+ghost use Rattle.drive_answers.specs.Answer.{IsAnswer, ExitsLast, MayStand, IsJson, IsNoJson, IsNoList, IsNobodys, NamesNobody, OneOf, AreActions, SaysAction, SaysActions, IsCause};
 ghost use Rattle.drive_answers.specs.Modes.{texts_of};
 ghost use Rattle.drive_answers.specs.Pieces.{pieces};
 ghost use Rattle.drive_answers.specs.Said.{SaysSend, SaysRow};
@@ -20,28 +20,29 @@ use crate::error::AnswerError;
 use crate::fields::member_named;
 use crate::parsing::parse;
 use crate::pieces::pieces_of;
-use crate::said::{Said, SaidRow, SaidSend, said_by};
+use crate::said::{Said, SaidRow, SaidSend, is_exit, said_by};
 use crate::standing::{behind, behind_first, payload_in};
 use base::MemberId;
 use json::{Scratch, Value};
 use scenario::Scenario;
 use std::alloc::Global;
 
-/// The actions that a line says, without its line feed, on an event of this member. Of several causes for
-/// which it says none the first is answered: it is no JSON, no list of actions, or it names nobody.
+/// The actions that a line says, without its line feed, on an event of this member, whose process may end now or not.
+/// Of several causes for which it says none the first is answered: it is no JSON, no list of actions, or it names nobody.
 pub fn read_answer(
     alloc: Global,
     scenario: &Scenario,
     member: MemberId,
+    exits: bool,
     line: &[u8],
 ) -> Result<Vec<Action>, AnswerError>
     requires { member < member_count scenario.now }
-    ensures said { IfOk result (λ actions. IsAnswer scenario.now member line.now actions.items) }
-    ensures refused { IfErr result (IsCause (IsNoJson line.now) (IsNoList line.now) (IsNobodys scenario.now member line.now)) }
+    ensures said { IfOk result (λ actions. IsAnswer scenario.now member exits line.now actions.items) }
+    ensures refused { IfErr result (IsCause (IsNoJson line.now) (IsNoList exits line.now) (IsNobodys scenario.now member exits line.now)) }
 {
     let mut scratch = Scratch::new(alloc);
     match parse(alloc, line, &mut scratch) {
-        Ok(value) => answer_of(alloc, scenario, member, line, &value),
+        Ok(value) => answer_of(alloc, scenario, member, exits, line, &value),
         Err(error) => Err(error),
     }
 }
@@ -51,18 +52,22 @@ fn answer_of(
     alloc: Global,
     scenario: &Scenario,
     member: MemberId,
+    exits: bool,
     line: &[u8],
     value: &Value<'_>,
 ) -> Result<Vec<Action>, AnswerError>
     requires member { member < member_count scenario.now }
     requires json { IsJson line.now (value_view value.now) }
-    ensures said { IfOk result (λ actions. IsAnswer scenario.now member line.now actions.items) }
-    ensures refused { IfErr result (IsCause ⊥ (IsNoList line.now) (IsNobodys scenario.now member line.now)) }
+    ensures said { IfOk result (λ actions. IsAnswer scenario.now member exits line.now actions.items) }
+    ensures refused { IfErr result (IsCause ⊥ (IsNoList exits line.now) (IsNobodys scenario.now member exits line.now)) }
 {
     let Some(items) = items_in(value) else {
         return Err(AnswerError::Action);
     };
     if !are_actions(items) {
+        return Err(AnswerError::Action);
+    }
+    if !exits_last(items, exits) {
         return Err(AnswerError::Action);
     }
     match said_of(alloc, scenario, member, line, items) {
@@ -113,6 +118,31 @@ fn are_actions(items: &[Value<'_>]) -> bool
         }
     }
     true
+}
+
+/// Whether none of these items says that the process ends but the last, and that only where it may end.
+fn exits_last(items: &[Value<'_>], exits: bool) -> bool
+    ensures { IsTrue result ↔ ExitsLast exits (items_view items.now) }
+{
+    let mut left = items.len();
+    for item in items {
+        left -= 1;
+        if !may_stand(item, exits, left) {
+            return false;
+        }
+    }
+    true
+}
+
+/// Whether an item may stand before so many others: one that says that the process ends only where it may and as the last.
+fn may_stand(item: &Value<'_>, exits: bool, left: usize) -> bool
+    ensures { IsTrue result ↔ MayStand exits left (value_view item.now) }
+{
+    if is_exit(item) {
+        exits && left == 0
+    } else {
+        true
+    }
 }
 
 /// Whether an item says an action.
@@ -206,6 +236,7 @@ fn action_said(
     match said {
         Said::Timer(timer) => Ok(Action::Timer(*timer)),
         Said::Used(words) => Ok(Action::Used(*words)),
+        Said::Exit => Ok(Action::Exit),
         Said::Row(row) => match told_of(scenario, member, item, row) {
             Ok(told) => Ok(Action::Noted(told)),
             Err(error) => Err(error),

@@ -1,5 +1,5 @@
 //! The members of an action's object: texts, truths and whole numbers.
-ghost use Rattle.std.specs.Prelude.{◌≡◌, ℕ, ◌<◌, ◌≤◌, ◌^◌, Some, IfSome, IsNone, Bool, option_map, map, false, codes, decimal};
+ghost use Rattle.std.specs.Prelude.{◌≡◌, ◌↔◌, ℕ, ◌<◌, ◌≤◌, ◌^◌, Some, IfSome, IsNone, IsTrue, Bool, option_map, map, true, false, codes, decimal};
 ghost use Rattle.std.specs.List.{list_any};
 ghost use Rattle.std.specs.Option.{option_and_then, is_some};
 ghost use Rattle.std.specs.Str.{bytes_eq};
@@ -90,6 +90,16 @@ pub(crate) fn stream_or_not(object: &Value<'_>) -> Option<bool>
     match object.get("stream") {
         Some(held) => held.as_bool(),
         None => Some(false),
+    }
+}
+
+/// Whether there is a truth of this name, and it is so.
+pub(crate) fn is_true(object: &Value<'_>, name: &str) -> bool
+    ensures { IsTrue result ↔ IsTruth name.now (value_view object.now) true }
+{
+    match object.get(name) {
+        Some(held) => held.as_bool() == Some(true),
+        None => false,
     }
 }
 

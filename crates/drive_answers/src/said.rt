@@ -1,12 +1,12 @@
-//! What an item of an answer says: a message, a timer, a row or words, of members by their names.
-ghost use Rattle.std.specs.Prelude.{ℕ, List, Bool, Option, IfSome, IsNone, option_map};
+//! What an item of an answer says: a message, a timer, a row, words or an exit, of members by their names.
+ghost use Rattle.std.specs.Prelude.{◌≡◌, ◌↔◌, ℕ, List, Bool, Option, IfSome, IsNone, IsTrue, option_map};
 ghost use Rattle.json.specs.Value.{value_view};
 ghost use Rattle.trace.specs.declared.row.What.{What as AnyWhat};
-ghost use Rattle.drive_answers.specs.Said.{SaysSend, SaysTimer, SaysRow, SaysUsed};
+ghost use Rattle.drive_answers.specs.Said.{SaysSend, SaysTimer, SaysRow, SaysUsed, SaysExit};
 ghost use Rattle.drive_answers.specs.SaidOf.{Says, IsAction};
 
 use crate::action::Timer;
-use crate::fields::{GREATEST, has, has_only, stream_or_not, text, value_or_zero, whole};
+use crate::fields::{GREATEST, has, has_only, is_true, stream_or_not, text, value_or_zero, whole};
 use crate::kinds::{is_about_a_member, message_named, row_named};
 use json::Value;
 use trace::What;
@@ -35,6 +35,7 @@ pub(crate) enum Said<'v> {
     Timer(Timer),
     Row(SaidRow<'v>),
     Used(u64),
+    Exit,
 }
 
 /// What an item says, where it says an action.
@@ -51,10 +52,13 @@ pub(crate) fn said_by<'v>(item: &'v Value<'_>) -> Option<Said<'v>>
     if let Some(row) = said_row(item) {
         return Some(Said::Row(row));
     }
-    match said_used(item) {
-        Some(words) => Some(Said::Used(words)),
-        None => None,
+    if let Some(words) = said_used(item) {
+        return Some(Said::Used(words));
     }
+    if is_exit(item) {
+        return Some(Said::Exit);
+    }
+    None
 }
 
 /// The message that an item says.
@@ -118,4 +122,11 @@ fn said_used(item: &Value<'_>) -> Option<u64>
         return None;
     }
     whole(item, "used", 1, 1 << 20)
+}
+
+/// Whether an item says that the member's process ends.
+pub(crate) fn is_exit(item: &Value<'_>) -> bool
+    ensures { IsTrue result ↔ SaysExit (value_view item.now) }
+{
+    has_only(item, &["exit"]) && is_true(item, "exit")
 }

@@ -2,7 +2,7 @@
 use Rattle.std.specs.Prelude.{◌≡◌, ◌≢◌, ◌⊎◌, ◌++◌, ℕ, List, [], Option, Some, None, Ok, IfSome, true, false, string_bytes}
 use Rattle.base.specs.declared.fault.Fault.{Fault}
 use Rattle.base.specs.declared.fault.Fault.TheVariants as fault
-use Rattle.scenario.specs.Setup.{Setup, is_fourth}
+use Rattle.scenario.specs.Setup.{Setup}
 use Rattle.trace.specs.Text.{trace_text}
 use Rattle.trace.specs.declared.row.Row.{Row}
 use Rattle.reports.specs.Text.{report_text}
@@ -68,11 +68,10 @@ pub record DrivesScenario (s : Setup) (release : List ℕ) (before after : Shelf
   pub stored : StoresDrive s release before after drive came_in lines
   pub ended : told ≡ lines ++ end_line s
 
--- the drive that the words of `drive` ask for was done, of the scenario that the file holds, in versions 1 to 3 of the format
+-- the drive that the words of `drive` ask for was done, of the scenario that the file holds
 pub record DrivesAll (release : List ℕ) (before after : Shelf) (making : Making) (drive : DriveWords) (came_in : List (List ℕ)) (told : List ℕ) : Type 0 where
   pub scenario : Setup
   pub accepted : HasVerdict (before drive.file.now) (Ok scenario)
-  pub earlier : is_fourth scenario.version ≡ false
   pub done : DrivesScenario scenario release before after making drive came_in told
 
 -- a drive that the words ask for was done by this release
@@ -138,8 +137,7 @@ IsUnmade making file trace report page name = ((name ≡ trace) × CannotMake ma
     ⊎ (((report ≡ Some name) × CannotMakeSecond making file trace name)
     ⊎ ((page ≡ Some name) × CannotMakePage making file trace report name))
 
--- Why a drive of this scenario was not done. Where its trace, its report and its page are whole, only the end couldn't be sent. One of
--- version 4 of the format is refused before anything is made or sent.
+-- Why a drive of this scenario was not done. Where its trace, its report and its page are whole, only the end couldn't be sent.
 abbrev pub DriveEnds : Type 0 → Setup → List ℕ → Shelf → Shelf → Making → DriveWords → List (List ℕ) → List ℕ → Failure → Type 0
 DriveEnds Refused s release before after making drive came_in told (File name) =
     IsUnmade making drive.file.now drive.trace.now (word_given drive.report) (word_given drive.page) name.now × (after ≡ before)
@@ -151,7 +149,6 @@ DriveEnds Refused s release before after making drive came_in told (Drive stop.C
 DriveEnds Refused s release before after making drive came_in told (Run cause) =
     AreApart making drive × (BreaksOff s release before after drive came_in told ⊎ ((lines : List ℕ) × StoresDrive s release before after drive came_in lines))
     × (cause ≡ fault.Write → Refused)
-DriveEnds Refused s release before after making drive came_in told (Drive stop.Version) = (is_fourth s.version ≡ true) × (after ≡ before) × (told ≡ [])
 DriveEnds Refused s release before after making drive came_in told _ = ⊥
 
 -- why the drive that the words of `drive` ask for was not done by this release: the scenario wasn't read, or what befell the drive

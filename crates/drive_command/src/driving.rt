@@ -9,7 +9,7 @@ ghost use Rattle.drive_command.specs.Outcomes.{DriveEnds, DriveFails, DrivesAll,
 use crate::ends::drive_failure;
 use crate::making::{close_files, make_files};
 use crate::playing::play;
-use command_line::{DriveStop, DriveWords, Failure, Release};
+use command_line::{DriveWords, Failure, Release};
 use drive_world::{DriveError, Harness, Setting, write_end};
 use files::Files;
 use links::Links;
@@ -22,8 +22,8 @@ use std::alloc::Global;
 /// which are made once the scenario is accepted. The page shows the release. Once they are whole the harness is sent
 /// the end.
 ///
-/// Failures: those of `load`; `File` of a file that can't be made; `Drive` where the scenario is of version 4 of the format,
-/// where an answer is none, or where nothing more can be sent to the harness; `Run`; `Memory`.
+/// Failures: those of `load`; `File` of a file that can't be made; `Drive` where an answer is none, or where nothing more can
+/// be sent to the harness; `Run`; `Memory`.
 pub fn drive<'a, H: Harness, F: Files>(
     alloc: Global,
     release: &Release<'_>,
@@ -42,9 +42,6 @@ pub fn drive<'a, H: Harness, F: Files>(
     ensures whole { OnOk result (F.refused files.new ≡ F.refused files.old) }
 {
     let scenario = load(alloc, words.file, files)?;
-    if scenario.is_fourth() {
-        return Err(Failure::Drive(DriveStop::Version));
-    }
     drive_scenario(alloc, release, &scenario, words, files, harness)
 }
 

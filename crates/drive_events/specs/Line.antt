@@ -3,10 +3,10 @@ use Rattle.std.specs.Prelude.{ℕ, Bool, List, [], ◌++◌, codes, decimal, Opt
 use Rattle.base.specs.declared.key.Key.{Key}
 use Rattle.scenario.specs.Setup.{Setup, name_of}
 use Rattle.drive_events.specs.declared.content.Content.{Content}
-use Rattle.drive_events.specs.declared.content.Content.TheVariants.{Start, Crash, Leave, Timer, Message}
+use Rattle.drive_events.specs.declared.content.Content.TheVariants.{Start, Restart, Crash, Leave, Timer, Message}
 use Rattle.drive_events.specs.declared.content.Message as declared
 use Rattle.trace.specs.Text.{word_of}
-use Rattle.drive_events.specs.Start.{start_text}
+use Rattle.drive_events.specs.Start.{start_text, restart_text}
 
 -- up to what the event is called, of these items
 unfoldable pub key_of : ℕ → List ℕ → List ℕ → ℕ → List ℕ
@@ -28,12 +28,13 @@ word_text word value = codes "message\",\"what\":\"" ++ word ++ codes "\",\"valu
 abbrev pub message_text : declared.Message → List ℕ
 message_text m = word_text (word_of m.what) m.value
 
-abbrev pub content_text : Setup → Bool → ℕ → Content → List ℕ
-content_text s is_first m Start = start_text s is_first m
-content_text s is_first m Crash = codes "crash\""
-content_text s is_first m Leave = codes "leave\""
-content_text s is_first m (Timer id) = timer_text id
-content_text s is_first m (Message message) = message_text message
+abbrev pub content_text : Setup → Bool → Key → Content → List ℕ
+content_text s is_first k Start = start_text s is_first k.to
+content_text s is_first k Restart = restart_text s is_first k
+content_text s is_first k Crash = codes "crash\""
+content_text s is_first k Leave = codes "leave\""
+content_text s is_first k (Timer id) = timer_text id
+content_text s is_first k (Message message) = message_text message
 
 -- what a message holds
 abbrev pub payload_of : Content → Option (List ℕ)
@@ -50,7 +51,7 @@ payload_text (Some payload) = held_text payload
 
 -- the line up to what a message holds
 unfoldable pub head_text : Setup → Bool → Key → Content → List ℕ
-head_text s is_first k content = key_text s k ++ content_text s is_first k.to content
+head_text s is_first k content = key_text s k ++ content_text s is_first k content
 
 -- the whole line
 unfoldable pub line_of : Setup → Bool → Key → Content → List ℕ

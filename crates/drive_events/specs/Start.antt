@@ -1,7 +1,10 @@
 -- What the line of a start holds.
-use Rattle.std.specs.Prelude.{ℕ, Bool, true, false, nat_eq, List, [], ◌∷◌, ◌++◌, flat_map, filter, codes, decimal, Option, Some, None}
+use Rattle.std.specs.Prelude.{ℕ, ◌-◌, Bool, true, false, nat_eq, List, [], ◌∷◌, ◌++◌, flat_map, filter, slice_get, codes, decimal, Option, Some, None}
 use Rattle.std.specs.List.{range_with_len}
-use Rattle.scenario.specs.Setup.{Setup, member_count, name_of, start_of, contact_of}
+use Rattle.std.specs.Option.{option_and_then}
+use Rattle.base.specs.declared.key.Key.{Key}
+use Rattle.scenario.specs.Setup.{Setup, member_count, name_of, start_of, contact_of, script_of}
+use Rattle.scenario.specs.Script.{asked_by}
 
 -- members are numbered from 0
 abbrev pub numbers : Setup → List ℕ
@@ -49,5 +52,17 @@ abbrev pub contact_text : Setup → Option ℕ → List ℕ
 contact_text s None = []
 contact_text s (Some contact) = contact_name (name_of s contact)
 
-unfoldable pub start_text : Setup → Bool → ℕ → List ℕ
-start_text s is_first m = place_text m s.seed ++ first_text s is_first ++ contact_text s (contact_of s m)
+-- a process of the member, which asks this contact
+unfoldable pub process_text : Setup → Bool → ℕ → Option ℕ → List ℕ
+process_text s is_first m contact = place_text m s.seed ++ first_text s is_first ++ contact_text s contact
+
+abbrev pub start_text : Setup → Bool → ℕ → List ℕ
+start_text s is_first m = process_text s is_first m (contact_of s m)
+
+-- whom a member asks that starts again by this event of its script
+abbrev pub restart_contact : Setup → Key → Option ℕ
+restart_contact s k = option_and_then (λ e. asked_by e.kind) (slice_get (script_of s k.to) (k.number - 1))
+
+-- a process that isn't the first one of its member
+unfoldable pub restart_text : Setup → Bool → Key → List ℕ
+restart_text s is_first k = process_text s is_first k.to (restart_contact s k) ++ codes ",\"again\":true"

@@ -18,6 +18,8 @@ pub struct Message {
 pub enum Content {
     /// The member starts.
     Start,
+    /// It starts again, by a process that knows nothing of the former one.
+    Restart,
     /// The member crashes.
     Crash,
     /// The member leaves.

@@ -5,8 +5,8 @@ ghost use Rattle.drive_events.specs.Line.{line_of, head_text, end_line, key_of, 
 
 use crate::content::{Content, Message};
 use crate::payload::Payload;
-use crate::start::push_start;
-use base::{Key, MemberId};
+use crate::start::{push_restart, push_start};
+use base::Key;
 use scenario::Scenario;
 use std::alloc::{AllocError, Global};
 
@@ -45,7 +45,7 @@ fn head_of(
 {
     let mut text = String::new(alloc);
     push_key(&mut text, scenario, key)?;
-    push_content(alloc, &mut text, scenario, &key.to, content, is_first)?;
+    push_content(alloc, &mut text, scenario, key, content, is_first)?;
     Ok(text)
 }
 
@@ -95,15 +95,16 @@ fn push_content(
     alloc: Global,
     text: &mut String,
     scenario: &Scenario,
-    member: &MemberId,
+    key: &Key,
     content: &Content,
     is_first: bool,
 ) -> Result<(), AllocError>
-    requires { member.now < member_count scenario.now }
-    ensures { OnOk result (string_bytes text.new ≡ string_bytes text.old ++ content_text scenario.now is_first member.now content.now) }
+    requires { key.now.to < member_count scenario.now }
+    ensures { OnOk result (string_bytes text.new ≡ string_bytes text.old ++ content_text scenario.now is_first key.now content.now) }
 {
     match content {
-        Content::Start => push_start(alloc, text, scenario, *member, is_first),
+        Content::Start => push_start(alloc, text, scenario, key.to, is_first),
+        Content::Restart => push_restart(alloc, text, scenario, key, is_first),
         Content::Crash => text.push_str("crash\""),
         Content::Leave => text.push_str("leave\""),
         Content::Timer(id) => push_timer(text, *id),

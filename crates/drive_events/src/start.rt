@@ -1,16 +1,16 @@
-//! What the line of a start holds: the member's place and the seed, in the first line all members, and whom a
-//! late member asks to let it join.
+//! What the line of a start holds: the member's place and the seed, in the first line all members, and whom the
+//! member asks to let it join.
 ghost use Rattle.std.specs.Prelude.{◌≡◌, ◌<◌, ◌++◌, OnOk, IfSome, string_bytes};
 ghost use Rattle.scenario.specs.Setup.{member_count};
-ghost use Rattle.drive_events.specs.Start.{start_text, place_text, first_text, members_text, founders_text, contact_name, contact_text};
+ghost use Rattle.scenario.specs.Script.{asked_by};
+ghost use Rattle.drive_events.specs.Start.{start_text, restart_text, restart_contact, process_text, place_text, first_text, members_text, founders_text, contact_name, contact_text};
 
 use crate::names::{founders, members, push_names};
-use base::MemberId;
-use scenario::Scenario;
+use base::{Key, MemberId};
+use scenario::{Scenario, ScriptEvent, ScriptKind};
 use std::alloc::{AllocError, Global};
 
 /// Appends a start, and what its line holds.
-#[tactic(auto, unfolding(crate::specs::Start::start_text))]
 pub(crate) fn push_start(
     alloc: Global,
     text: &mut String,
@@ -21,9 +21,67 @@ pub(crate) fn push_start(
     requires { member < member_count scenario.now }
     ensures { OnOk result (string_bytes text.new ≡ string_bytes text.old ++ start_text scenario.now is_first member) }
 {
+    let contact = scenario.contact(member);
+    push_process(alloc, text, scenario, member, is_first, contact)
+}
+
+/// Appends a start that isn't the member's first, and what its line holds.
+#[tactic(auto, unfolding(crate::specs::Start::restart_text))]
+pub(crate) fn push_restart(
+    alloc: Global,
+    text: &mut String,
+    scenario: &Scenario,
+    key: &Key,
+    is_first: bool,
+) -> Result<(), AllocError>
+    requires { key.now.to < member_count scenario.now }
+    ensures { OnOk result (string_bytes text.new ≡ string_bytes text.old ++ restart_text scenario.now is_first key.now) }
+{
+    let contact = restart_contact(scenario, key);
+    push_process(alloc, text, scenario, key.to, is_first, contact)?;
+    text.push_str(",\"again\":true")
+}
+
+/// Whom a member asks that starts again by this event of its script.
+fn restart_contact(scenario: &Scenario, key: &Key) -> Option<MemberId>
+    requires { key.now.to < member_count scenario.now }
+    ensures value { result ≡ restart_contact scenario.now key.now }
+    ensures member { IfSome result (λ c. c < member_count scenario.now) }
+{
+    let place = key.number.saturating_sub(1) as usize;
+    match scenario.script(key.to).get(place) {
+        Some(event) => asked_by(event),
+        None => None,
+    }
+}
+
+/// Whom a member asks that starts again by this entry of the script.
+fn asked_by(event: &ScriptEvent) -> Option<MemberId>
+    ensures { result ≡ asked_by event.now.kind }
+{
+    match event.kind {
+        ScriptKind::Restart(contact) => contact,
+        ScriptKind::Crash | ScriptKind::Leave => None,
+    }
+}
+
+/// Appends the start of a process of the member, which asks this contact.
+#[tactic(auto, unfolding(crate::specs::Start::process_text))]
+fn push_process(
+    alloc: Global,
+    text: &mut String,
+    scenario: &Scenario,
+    member: MemberId,
+    is_first: bool,
+    contact: Option<MemberId>,
+) -> Result<(), AllocError>
+    requires member { member < member_count scenario.now }
+    requires contact { IfSome contact (λ c. c < member_count scenario.now) }
+    ensures { OnOk result (string_bytes text.new ≡ string_bytes text.old ++ process_text scenario.now is_first member contact) }
+{
     push_place(text, scenario, member)?;
     push_first(alloc, text, scenario, is_first)?;
-    push_contact(text, scenario, scenario.contact(member))
+    push_contact(text, scenario, contact)
 }
 
 /// Appends the member's number, and the scenario's seed.
@@ -80,7 +138,7 @@ fn push_founders(alloc: Global, text: &mut String, scenario: &Scenario) -> Resul
     Ok(())
 }
 
-/// Appends whom the member asks to let it join, if it starts later.
+/// Appends whom the member asks to let it join, if it asks anybody.
 fn push_contact(
     text: &mut String,
     scenario: &Scenario,

@@ -1,5 +1,5 @@
 -- The events and the rows that answers make, action by action.
-use Rattle.std.proofs.Common.{◌≡◌, ◌≢◌, ◌⊎◌, inl, inr, ℕ, suc, ◌+◌, ◌<◌, ◌≤◌, Bool, false, List, [], ◌∷◌, ◌++◌, map, length, Option, Some, None, ap, ◌∙◌, sym, subst, refl, arith}
+use Rattle.std.proofs.Common.{◌≡◌, ◌≢◌, ◌⊎◌, inl, inr, ℕ, suc, ◌+◌, ◌<◌, ◌≤◌, Bool, true, false, nat_lt, if◌then◌else◌, List, [], ◌∷◌, ◌++◌, map, length, Option, Some, None, ap, ◌∙◌, sym, subst, refl, arith}
 use Rattle.std.specs.Option.{IfSome}
 use Rattle.std.specs.List.{AllByRecursion, range_with_len}
 use Rattle.std.proofs.lemmas.List.{map-append}
@@ -15,18 +15,23 @@ use Rattle.trace.specs.declared.row.What.{What}
 use Rattle.trace.specs.declared.row.What.TheVariants as what
 use Rattle.streams.specs.Draw.{Words}
 use Rattle.member.specs.Places.{place_of}
+use Rattle.base.specs.declared.profile.Profile.{Profile}
+use Rattle.base.specs.declared.profile.Profile.TheVariants.{Papers, Memberlist, Hashicorp}
+use Rattle.scenario.specs.Profile.{profile_of}
+use Rattle.member.specs.Blocks.{departs_by, on_its_way}
+use Rattle.member.proofs.Ways.{departs_later, through_later}
 use Rattle.member.proofs.Fair.{arrival_later, call_later, answer_later, kept_later}
 use Rattle.drive_events.specs.declared.content.Content.{Content}
-use Rattle.drive_events.specs.declared.content.Content.TheVariants.{Start, Crash, Leave, Timer, Message}
+use Rattle.drive_events.specs.declared.content.Content.TheVariants.{Start, Restart, Crash, Leave, Timer, Message}
 use Rattle.drive_answers.specs.declared.action.Action.{Action}
 use Rattle.drive_answers.specs.declared.action.Action.TheVariants as action
 use Rattle.drive_answers.specs.declared.action.Send as declared
 use Rattle.drive_process.specs.declared.process.ProcessPhase.{ProcessPhase}
-use Rattle.drive_process.specs.declared.process.ProcessPhase.TheVariants.{Waiting, Up, Down}
+use Rattle.drive_process.specs.declared.process.ProcessPhase.TheVariants.{Waiting, Up, Leaving, Down}
 use Rattle.drive_process.specs.Process.{Process, Effect, unchanged, on_process, with_row, with_number, with_event}
 use Rattle.drive_process.specs.Acts.{Way, packet, call, stream, kept, way_of, arrival_by, sent_off, carried, message_of, sent, acted, all_acted}
 use Rattle.drive_process.specs.Answers.{IsSoundAction, AreSoundActions, AreSoundAnswers}
-use Rattle.drive_process.specs.Driven.{Answers, heeded, driven}
+use Rattle.drive_process.specs.Driven.{Answers, heeded, timer_ended, left_by, crashed, restarted, reborn, driven}
 use Rattle.drive_process.specs.Fair.{IsWellMade}
 
 length_more : (rows : List Row) (row : Row) → length (rows ++ row ∷ []) ≡ length rows + 1
@@ -40,6 +45,19 @@ comes_later packet s from to now words = arrival_later s from to now words
 comes_later call s from to now words = call_later s from to now words
 comes_later stream s from to now words = answer_later s from to now words
 comes_later kept s from to now words = kept_later s from to now words
+
+no_sooner : (o : Option ℕ) (now departs d : ℕ) → now ≤ departs → IfSome o (λ at. departs + d ≤ at) → IfSome o (λ at. now + d ≤ at)
+no_sooner None now departs d h comes = tt
+no_sooner (Some at) now departs d h comes = omega (arith, h, comes)
+
+-- also where its sender or its receiver is blocked
+way_later : (profile : Profile) (way : Way) (s : Setup) (k : Key) (to : ℕ) (words : Words)
+    → IfSome (on_its_way profile s k to (arrival_by way s k.to to) words).0 (λ at. k.at + (link_between s k.to to).delay ≤ at)
+way_later profile way s k to words =
+    let departs = departs_by profile s k in
+    let drawn = (arrival_by way s k.to to departs words).0 in
+    through_later profile s to (k.at + (link_between s k.to to).delay) drawn
+    (no_sooner drawn k.at departs (link_between s k.to to).delay (departs_later profile s k) (comes_later way s k.to to departs words))
 
 module _ (s : Setup) (sound : IsSound s) (k : Key) (n : ℕ) where
   fair_begin : (p : Process) → p.next_number ≡ n → IsWellMade s k n (unchanged p)
@@ -117,32 +135,61 @@ module _ (s : Setup) (sound : IsSound s) (k : Key) (n : ℕ) where
 
   fair_sent : (x : declared.Send) (o : Effect) → x.to < member_count s → IsWellMade s k n o → IsWellMade s k n (sent s k x o)
   unfolding sent
-  fair_sent x o member fair = fair_carried x.what x.to x.value (message_of x) _ o (comes_later (way_of x.what x.stream) s k.to x.to k.at o.state.words) member fair
+  fair_sent x o member fair = fair_carried x.what x.to x.value (message_of x) _ o (way_later (profile_of s) (way_of x.what x.stream) s k x.to o.state.words) member fair
 
   fair_acted : (a : Action) (o : Effect) → IsSoundAction s k.to a → IsWellMade s k n o → IsWellMade s k n (acted s k a o)
   fair_acted (action.Send x) o is fair = fair_sent x o is.0 fair
   fair_acted (action.Timer t) o is fair = fair_event (k.at + t.after) k.to (Timer t.id) o (let h = is.0 in omega arith) (λ other. absurd (other refl)) (inl refl) fair
   fair_acted (action.Noted r) o is fair = fair_row r.what r.about r.value false o fair
   fair_acted (action.Used words) o is fair = fair_process _ o refl fair
+  fair_acted action.Exit o is fair = fair_row what.Exit None 0 false _ (fair_process _ o refl fair)
 
   fair_all : (actions : List Action) (o : Effect) → AreSoundActions s k.to actions → IsWellMade s k n o → IsWellMade s k n (all_acted s k actions o)
   unfolding all_acted
   fair_all [] o are fair = fair
   fair_all (a ∷ rest) o are fair = fair_all rest (acted s k a o) are.1 (fair_acted a o are.0 fair)
 
+  fair_choice : (b : Bool) (actions : List Action) (o : Effect) → AreSoundActions s k.to actions → IsWellMade s k n o → IsWellMade s k n (if b then o else all_acted s k actions o)
+  fair_choice true actions o are fair = fair
+  fair_choice false actions o are fair = fair_all actions o are fair
+
+  fair_timer : (actions : List Action) (o : Effect) → AreSoundActions s k.to actions → IsWellMade s k n o → IsWellMade s k n (timer_ended s k actions o)
+  unfolding timer_ended
+  fair_timer actions o are fair = fair_choice (nat_lt k.number o.state.birth) actions o are fair
+
+  fair_left : (profile : Profile) (actions : List Action) (o : Effect) → AreSoundActions s k.to actions → IsWellMade s k n o → IsWellMade s k n (left_by profile s k actions o)
+  fair_left Papers actions o are fair = let acted = fair_all actions _ are (fair_row what.Leave None 0 false o fair) in fair_process _ _ refl acted
+  fair_left Memberlist actions o are fair = let acted = fair_all actions _ are (fair_row what.Leave None 0 false o fair) in fair_process _ _ refl acted
+  fair_left Hashicorp actions o are fair = fair_all actions _ are (fair_row what.Leave None 0 false _ (fair_process _ o refl fair))
+
+  fair_crashed : (o : Effect) → IsWellMade s k n o → IsWellMade s k n (crashed k o)
+  fair_crashed o fair = fair_row what.Crash None 0 false _ (fair_process _ o refl fair)
+
+  fair_restarted : (actions : List Action) (o : Effect) → AreSoundActions s k.to actions → IsWellMade s k n o → IsWellMade s k n (restarted s k actions o)
+  unfolding reborn
+  fair_restarted actions o are fair = fair_all actions _ are (fair_row what.Restart None 0 false _ (fair_process _ o refl fair))
+
   fair_heeded : (content : Content) (phase : ProcessPhase) (actions : List Action) (o : Effect) → AreSoundActions s k.to actions → IsWellMade s k n o → IsWellMade s k n (heeded s k content phase actions o)
   unfolding heeded
   fair_heeded Start Waiting actions o are fair = fair_all actions _ are (fair_row what.Start None 0 false _ (fair_process _ o refl fair))
-  fair_heeded Crash Up actions o are fair = fair_row what.Crash None 0 false _ (fair_process _ o refl fair)
-  fair_heeded Leave Up actions o are fair =
-      let acted = fair_all actions _ are (fair_row what.Leave None 0 false o fair) in fair_process _ _ refl acted
-  fair_heeded (Timer id) Up actions o are fair = fair_all actions o are fair
+  fair_heeded Restart Up actions o are fair = fair_restarted actions o are fair
+  fair_heeded Restart Leaving actions o are fair = fair_restarted actions o are fair
+  fair_heeded Restart Down actions o are fair = fair_restarted actions o are fair
+  fair_heeded Crash Up actions o are fair = fair_crashed o fair
+  fair_heeded Crash Leaving actions o are fair = fair_crashed o fair
+  fair_heeded Leave Up actions o are fair = fair_left (profile_of s) actions o are fair
+  fair_heeded (Timer id) Up actions o are fair = fair_timer actions o are fair
+  fair_heeded (Timer id) Leaving actions o are fair = fair_timer actions o are fair
   fair_heeded (Message m) Up actions o are fair = fair_all actions o are fair
+  fair_heeded (Message m) Leaving actions o are fair = fair_all actions o are fair
   fair_heeded Start Up actions o are fair = fair
+  fair_heeded Start Leaving actions o are fair = fair
   fair_heeded Start Down actions o are fair = fair
+  fair_heeded Restart Waiting actions o are fair = fair
   fair_heeded Crash Waiting actions o are fair = fair
   fair_heeded Crash Down actions o are fair = fair
   fair_heeded Leave Waiting actions o are fair = fair
+  fair_heeded Leave Leaving actions o are fair = fair
   fair_heeded Leave Down actions o are fair = fair
   fair_heeded (Timer id) Waiting actions o are fair = fair
   fair_heeded (Timer id) Down actions o are fair = fair

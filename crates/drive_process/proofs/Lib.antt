@@ -1,3 +1,2 @@
 pub mod Fair
 pub mod Overflow
-pub mod Heeded

@@ -34,6 +34,7 @@ acted_grows s k (action.Send x) o = posted_grows s k x.what x.to x.value (messag
 acted_grows s k (action.Timer t) o = omega arith
 acted_grows s k (action.Noted r) o = omega arith
 acted_grows s k (action.Used words) o = omega arith
+acted_grows s k action.Exit o = omega arith
 
 all_grows : (s : Setup) (k : Key) (actions : List Action) (o : Effect) → o.state.next_number ≤ (all_acted s k actions o).state.next_number
 unfolding all_acted

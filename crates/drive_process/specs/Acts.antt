@@ -1,8 +1,9 @@
--- What an action does: a message over a link, a timer, a row, or words that are used.
+-- What an action does: a message over a link, a timer, a row, words that are used, or the end of the process.
 use Rattle.std.specs.Prelude.{ℕ, ◌+◌, Bool, true, false, List, [], ◌∷◌, Option, Some, None}
 use Rattle.std.specs.Option.{is_none}
 use Rattle.base.specs.declared.key.Key.{Key}
 use Rattle.scenario.specs.Setup.{Setup}
+use Rattle.scenario.specs.Profile.{profile_of}
 use Rattle.trace.specs.declared.row.What.{What}
 use Rattle.trace.specs.declared.row.What.TheVariants as what
 use Rattle.streams.specs.Draw.{Words, rest_after}
@@ -13,7 +14,9 @@ use Rattle.drive_events.specs.declared.content.Content.TheVariants.{Timer, Messa
 use Rattle.drive_answers.specs.declared.action.Action.{Action}
 use Rattle.drive_answers.specs.declared.action.Action.TheVariants as action
 use Rattle.drive_answers.specs.declared.action.Send as declared
-use Rattle.drive_process.specs.Process.{Effect, on_process, with_row, with_number, with_event}
+use Rattle.member.specs.Blocks.{on_its_way}
+use Rattle.drive_process.specs.declared.process.ProcessPhase.TheVariants.{Down}
+use Rattle.drive_process.specs.Process.{Effect, on_process, with_phase, with_row, with_number, with_event}
 
 -- how a message travels
 pub data Way : Type 0 where
@@ -58,8 +61,10 @@ carried s k tells to value content arrival o = posted s k tells to value content
 abbrev pub message_of : declared.Send → Content
 message_of x = Message (record { what = x.what; value = x.value; payload = x.payload })
 
+-- It departs when its sender isn't blocked, and gets through when its receiver isn't, as the messages of a member's step.
 unfoldable pub sent : Setup → Key → declared.Send → Effect → Effect
-sent s k x o = carried s k x.what x.to x.value (message_of x) (arrival_by (way_of x.what x.stream) s k.to x.to k.at o.state.words) o
+sent s k x o =
+    carried s k x.what x.to x.value (message_of x) (on_its_way (profile_of s) s k x.to (arrival_by (way_of x.what x.stream) s k.to x.to) o.state.words) o
 
 -- what one action does
 abbrev pub acted : Setup → Key → Action → Effect → Effect
@@ -67,6 +72,7 @@ acted s k (action.Send x) o = sent s k x o
 acted s k (action.Timer t) o = with_event s k (k.at + t.after) k.to (Timer t.id) o
 acted s k (action.Noted r) o = with_row k r.what r.about r.value false o
 acted s k (action.Used words) o = on_process (λ p. record p { words = rest_after words p.words }) o
+acted s k action.Exit o = with_row k what.Exit None 0 false (on_process (with_phase Down) o)
 
 -- actions one after the other
 unfoldable pub all_acted : Setup → Key → List Action → Effect → Effect

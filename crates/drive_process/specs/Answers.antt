@@ -13,6 +13,7 @@ IsSoundAction s m (action.Send x) = (x.to < member_count s) × (x.to ≢ m) × (
 IsSoundAction s m (action.Timer t) = (0 < t.after) × (t.after ≤ 2 ^ 40)
 IsSoundAction s m (action.Noted r) = IfSome r.about (λ a. a < member_count s) × (r.value < 2 ^ 63)
 IsSoundAction s m (action.Used words) = words ≤ 2 ^ 20
+IsSoundAction s m action.Exit = Unit {0}
 
 abbrev pub AreSoundActions : Setup → ℕ → List Action → Type 0
 AreSoundActions s m actions = AllByRecursion (IsSoundAction s m) actions

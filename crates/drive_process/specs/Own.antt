@@ -21,9 +21,9 @@ phase_of own_phases.Joining = Up
 phase_of own_phases.Running = Up
 phase_of own_phases.Down = Down
 
--- what the world keeps of a member
+-- what the world keeps of a member of versions 1 to 3, which has one process
 abbrev pub process_in : State → Process
-process_in t = record { phase = phase_of t.phase; next_number = t.next_number; words = t.words }
+process_in t = record { phase = phase_of t.phase; birth = 0; next_number = t.next_number; words = t.words }
 
 -- events as the world has them, by a way to write contents as payloads and timers
 abbrev pub written_by : (EventKind → Content) → List (Key × EventKind) → List (Key × Content)

@@ -3,16 +3,19 @@ use Rattle.std.specs.Prelude.{ℕ, ◌+◌, Bool, [], ◌∷◌, ◌++◌, lengt
 use Rattle.base.specs.declared.key.Key.{Key}
 use Rattle.base.specs.World.{Outcome}
 use Rattle.scenario.specs.Setup.{Setup, awake}
+use Rattle.scenario.specs.Profile.{profile_of}
 use Rattle.trace.specs.declared.row.Row.{Row}
 use Rattle.trace.specs.declared.row.What.{What}
 use Rattle.streams.specs.Draw.{Words, member_words}
-use Rattle.member.specs.Opening.{first_number}
+use Rattle.member.specs.Opening.{first_number_by}
 use Rattle.drive_events.specs.declared.content.Content.{Content}
 use Rattle.drive_process.specs.declared.process.ProcessPhase.{ProcessPhase}
 use Rattle.drive_process.specs.declared.process.ProcessPhase.TheVariants.{Waiting}
 
 pub record Process : Type 0 where
   pub phase : ProcessPhase
+  -- the number of the first event that its present process made, or would have made: timers with less are of former ones
+  pub birth : ℕ
   -- the number of the next event that it makes
   pub next_number : ℕ
   -- the words that are left of its stream
@@ -27,6 +30,9 @@ unchanged p = record { state = p; events = []; rows = [] }
 
 abbrev pub on_process : (Process → Process) → Effect → Effect
 on_process f o = record { state = f o.state; events = o.events; rows = o.rows }
+
+abbrev pub with_phase : ProcessPhase → Process → Process
+with_phase phase p = record p { phase = phase }
 
 -- The next row of the event: it carries the event's key, and its place among the rows of the event.
 unfoldable pub with_row : Key → What → Option ℕ → ℕ → Bool → Effect → Effect
@@ -52,4 +58,4 @@ with_event s k at to content o = record {
 
 -- a member before its start
 unfoldable pub opening_process : Setup → ℕ → Process
-opening_process s m = record { phase = Waiting; next_number = first_number s m; words = member_words s.seed m }
+opening_process s m = record { phase = Waiting; birth = 0; next_number = first_number_by (profile_of s) s m; words = member_words s.seed m }

@@ -9,7 +9,7 @@ use Rattle.drive_process.specs.declared.process.Process.{Process as Held}
 use Rattle.drive_process.specs.Process.{Process, Effect}
 
 abbrev pub process_of : Held → Process
-process_of p = record { phase = p.phase; next_number = p.next_number; words = words_of p.stream }
+process_of p = record { phase = p.phase; birth = p.birth; next_number = p.next_number; words = words_of p.stream }
 
 -- an event as the pair of its key and its content
 abbrev pub pair_of : ProcessEvent → Key × Content

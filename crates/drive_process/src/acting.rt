@@ -3,7 +3,8 @@ ghost use Rattle.std.specs.Prelude.{◌≡◌, ◌≤◌, ◌^◌, [], IfOk, IsE
 ghost use Rattle.member.specs.Here.{IsSoundSetting};
 ghost use Rattle.drive_process.specs.Acts.{acted, all_acted};
 ghost use Rattle.drive_process.specs.Answers.{IsSoundAction, AreSoundActions};
-ghost use Rattle.drive_process.specs.Driven.{heeded};
+ghost use Rattle.scenario.specs.Profile.{profile_of};
+ghost use Rattle.drive_process.specs.Driven.{heeded, timer_ended, left_by, crashed, restarted};
 ghost use Rattle.drive_process.specs.Process.{unchanged};
 ghost use Rattle.drive_process.specs.ProcessOf.{process_of, effect_of};
 ghost use Rattle.drive_process.specs.Makes.{IsOverflowed, Makes};
@@ -14,7 +15,7 @@ use crate::effects::{ProcessEffects, ProcessEvent};
 use crate::here::Here;
 use crate::process::{Process, ProcessPhase};
 use crate::words::pass_words;
-use base::Moment;
+use base::{Moment, Profile};
 use drive_answers::{Action, Noted, Timer};
 use drive_events::Content;
 use links::Links;
@@ -71,7 +72,8 @@ impl Process {
         match self.phase {
             ProcessPhase::Waiting => self.heed_waiting(effects, here, content, actions),
             ProcessPhase::Up => self.heed_up(effects, here, content, actions),
-            ProcessPhase::Down => Ok(()),
+            ProcessPhase::Leaving => self.heed_leaving(effects, here, content, actions),
+            ProcessPhase::Down => self.heed_down(effects, here, content, actions),
         }
     }
 
@@ -109,10 +111,52 @@ impl Process {
     {
         match content {
             Content::Start => Ok(()),
+            Content::Restart => self.restart(effects, here, actions),
             Content::Crash => self.crash(effects, here),
             Content::Leave => self.leave(effects, here, actions),
-            Content::Timer(_) => self.act_all(effects, here, actions),
+            Content::Timer(_) => self.end_timer(effects, here, actions),
             Content::Message(_) => self.act_all(effects, here, actions),
+        }
+    }
+
+    /// A member that leaves heeds the same, but no second leave.
+    #[tactic(auto, unfolding(crate::specs::Driven::heeded))]
+    fn heed_leaving(
+        &mut self,
+        effects: &mut ProcessEffects,
+        here: &Here,
+        content: &Content,
+        actions: Vec<Action>,
+    ) -> Result<(), StepError>
+        requires { AreSoundActions here.now.scenario.now here.now.key.to actions.items }
+        ensures { Makes result self.old effects.old self.new effects.new
+            (heeded here.now.scenario.now here.now.key content.now phases.Leaving actions.items) }
+    {
+        match content {
+            Content::Start | Content::Leave => Ok(()),
+            Content::Restart => self.restart(effects, here, actions),
+            Content::Crash => self.crash(effects, here),
+            Content::Timer(_) => self.end_timer(effects, here, actions),
+            Content::Message(_) => self.act_all(effects, here, actions),
+        }
+    }
+
+    /// A member that is down may start again.
+    #[tactic(auto, unfolding(crate::specs::Driven::heeded))]
+    fn heed_down(
+        &mut self,
+        effects: &mut ProcessEffects,
+        here: &Here,
+        content: &Content,
+        actions: Vec<Action>,
+    ) -> Result<(), StepError>
+        requires { AreSoundActions here.now.scenario.now here.now.key.to actions.items }
+        ensures { Makes result self.old effects.old self.new effects.new
+            (heeded here.now.scenario.now here.now.key content.now phases.Down actions.items) }
+    {
+        match content {
+            Content::Restart => self.restart(effects, here, actions),
+            _ => Ok(()),
         }
     }
 
@@ -133,18 +177,32 @@ impl Process {
         self.act_all(effects, here, actions)
     }
 
-    /// Crashes, for good.
-    #[tactic(auto, unfolding(crate::specs::Driven::heeded))]
+    /// Starts again, and does what was answered.
+    #[tactic(auto, unfolding(crate::specs::Driven::reborn))]
+    fn restart(
+        &mut self,
+        effects: &mut ProcessEffects,
+        here: &Here,
+        actions: Vec<Action>,
+    ) -> Result<(), StepError>
+        requires { AreSoundActions here.now.scenario.now here.now.key.to actions.items }
+        ensures { Makes result self.old effects.old self.new effects.new (restarted here.now.scenario.now here.now.key actions.items) }
+    {
+        self.phase = ProcessPhase::Up;
+        self.birth = self.next_number;
+        self.write_row(effects, here, What::Restart, None, 0, false)?;
+        self.act_all(effects, here, actions)
+    }
+
+    /// Crashes.
     fn crash(&mut self, effects: &mut ProcessEffects, here: &Here) -> Result<(), StepError>
-        ensures { Makes result self.old effects.old self.new effects.new
-            (heeded here.now.scenario.now here.now.key content.Crash phases.Up []) }
+        ensures { Makes result self.old effects.old self.new effects.new (crashed here.now.key) }
     {
         self.phase = ProcessPhase::Down;
         self.write_row(effects, here, What::Crash, None, 0, false)
     }
 
-    /// Does what was answered to its leave, and is down.
-    #[tactic(auto, unfolding(crate::specs::Driven::heeded))]
+    /// Leaves, by the rules of the profile.
     fn leave(
         &mut self,
         effects: &mut ProcessEffects,
@@ -153,12 +211,63 @@ impl Process {
     ) -> Result<(), StepError>
         requires { AreSoundActions here.now.scenario.now here.now.key.to actions.items }
         ensures { Makes result self.old effects.old self.new effects.new
-            (heeded here.now.scenario.now here.now.key content.Leave phases.Up actions.items) }
+            (left_by (profile_of here.now.scenario.now) here.now.scenario.now here.now.key actions.items) }
+    {
+        match here.scenario.profile() {
+            Profile::Papers | Profile::Memberlist => self.leave_at_once(effects, here, actions),
+            Profile::Hashicorp => self.begin_leave(effects, here, actions),
+        }
+    }
+
+    /// Does what was answered to its leave, and is down.
+    fn leave_at_once(
+        &mut self,
+        effects: &mut ProcessEffects,
+        here: &Here,
+        actions: Vec<Action>,
+    ) -> Result<(), StepError>
+        requires { AreSoundActions here.now.scenario.now here.now.key.to actions.items }
+        ensures { Makes result self.old effects.old self.new effects.new
+            (left_by Profile.Papers here.now.scenario.now here.now.key actions.items) }
     {
         self.write_row(effects, here, What::Leave, None, 0, false)?;
         self.act_all(effects, here, actions)?;
         self.phase = ProcessPhase::Down;
         Ok(())
+    }
+
+    /// Does what was answered to its leave, and goes on until it exits.
+    fn begin_leave(
+        &mut self,
+        effects: &mut ProcessEffects,
+        here: &Here,
+        actions: Vec<Action>,
+    ) -> Result<(), StepError>
+        requires { AreSoundActions here.now.scenario.now here.now.key.to actions.items }
+        ensures { Makes result self.old effects.old self.new effects.new
+            (left_by Profile.Hashicorp here.now.scenario.now here.now.key actions.items) }
+    {
+        self.phase = ProcessPhase::Leaving;
+        self.write_row(effects, here, What::Leave, None, 0, false)?;
+        self.act_all(effects, here, actions)
+    }
+
+    /// Does what was answered to a timer. One of a former process has no effect.
+    #[tactic(auto, unfolding(crate::specs::Driven::timer_ended))]
+    fn end_timer(
+        &mut self,
+        effects: &mut ProcessEffects,
+        here: &Here,
+        actions: Vec<Action>,
+    ) -> Result<(), StepError>
+        requires { AreSoundActions here.now.scenario.now here.now.key.to actions.items }
+        ensures { Makes result self.old effects.old self.new effects.new
+            (timer_ended here.now.scenario.now here.now.key actions.items) }
+    {
+        if here.key.number < self.birth {
+            return Ok(());
+        }
+        self.act_all(effects, here, actions)
     }
 
     /// Does one thing after the other.
@@ -196,7 +305,16 @@ impl Process {
                 pass_words(&mut self.stream, words);
                 Ok(())
             }
+            Action::Exit => self.exit(effects, here),
         }
+    }
+
+    /// Exits.
+    fn exit(&mut self, effects: &mut ProcessEffects, here: &Here) -> Result<(), StepError>
+        ensures { Makes result self.old effects.old self.new effects.new (acted here.now.scenario.now here.now.key Action.Exit) }
+    {
+        self.phase = ProcessPhase::Down;
+        self.write_row(effects, here, What::Exit, None, 0, false)
     }
 
     /// Writes a row.

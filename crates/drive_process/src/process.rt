@@ -1,9 +1,10 @@
 //! What the world keeps of a member: whether it runs, the number of its next event, and its stream of draws.
 ghost use Rattle.std.specs.Prelude.{◌≡◌, ◌<◌, ◌≤◌, ◌^◌};
 ghost use Rattle.scenario.specs.Setup.{member_count};
-ghost use Rattle.member.specs.Opening.{first_number};
+ghost use Rattle.scenario.specs.Profile.{profile_of};
+ghost use Rattle.member.specs.Opening.{first_number, first_number_by};
 
-use base::MemberId;
+use base::{MemberId, Profile};
 use scenario::Scenario;
 use streams::Stream;
 
@@ -14,7 +15,9 @@ pub enum ProcessPhase {
     Waiting,
     /// It has started.
     Up,
-    /// It has crashed or left.
+    /// It was told to leave, and goes on until it exits, as in version 4 of the format.
+    Leaving,
+    /// It has crashed, left or exited.
     Down,
 }
 
@@ -22,6 +25,8 @@ pub enum ProcessPhase {
 #[derive(Drop)]
 pub struct Process {
     pub(crate) phase: ProcessPhase,
+    /// The number of the first event that its present process made, or would have made.
+    pub(crate) birth: u64,
     /// The number of the next event that it makes.
     pub(crate) next_number: u64,
     pub(crate) stream: Stream,
@@ -41,26 +46,47 @@ impl Process {
     {
         Process {
             phase: ProcessPhase::Waiting,
-            next_number: first_number(scenario, member),
+            birth: 0,
+            next_number: first_number_by(scenario, member),
             stream: Stream::of(scenario.seed(), member),
         }
     }
 
-    /// Whether it has not started, runs or is down.
+    /// Whether it has not started, runs, leaves or is down.
     pub fn phase(&self) -> ProcessPhase
         ensures { result ≡ self.now.phase }
     {
         self.phase
+    }
+
+    /// The number of the first event that its present process made, or would have made: timers with less are of former ones.
+    pub fn birth(&self) -> u64
+        ensures { result ≡ self.now.birth }
+    {
+        self.birth
     }
 }
 
 /// The first number that a member uses: its start has number 0, its crash or leave, if it has one, number 1.
 fn first_number(scenario: &Scenario, member: MemberId) -> u64
     requires { member < member_count scenario.now }
-    ensures { result ≡ first_number scenario.now member }
+    ensures value { result ≡ first_number scenario.now member }
+    ensures few { result ≤ 2 }
 {
     match scenario.crash(member).or(scenario.leave(member)) {
         Some(_) => 2,
         None => 1,
+    }
+}
+
+/// The same by the rules of the profile: in version 4 of the format each event of its script has a number.
+fn first_number_by(scenario: &Scenario, member: MemberId) -> u64
+    requires { member < member_count scenario.now }
+    ensures value { result ≡ first_number_by (profile_of scenario.now) scenario.now member }
+    ensures within { result ≤ 2 ^ 63 }
+{
+    match scenario.profile() {
+        Profile::Papers | Profile::Memberlist => first_number(scenario, member),
+        Profile::Hashicorp => 1 + scenario.script(member).len() as u64,
     }
 }

@@ -1,6 +1,8 @@
 //! How actions make events and rows: an event takes the next of its member's numbers, or ends the handling by a counter
 //! overflow.
-ghost use Rattle.std.specs.Prelude.{◌≡◌, OnOk, IsErrOf};
+ghost use Rattle.std.specs.Prelude.{◌≡◌, ◌≤◌, ◌^◌, OnOk, IsErrOf};
+ghost use Rattle.scenario.specs.Profile.{profile_of};
+ghost use Rattle.member.specs.Blocks.{on_its_way, departs_by, got_through_by};
 ghost use Rattle.drive_process.specs.Process.{with_row, with_number, with_event};
 ghost use Rattle.drive_process.specs.Acts.{stream, way_of, arrival_by, sent_off, posted, carried, sent};
 ghost use Rattle.drive_process.specs.ProcessOf.{process_of, effect_of};
@@ -10,7 +12,7 @@ use crate::effects::{ProcessEffects, ProcessEvent};
 use crate::here::Here;
 use crate::process::Process;
 use base::limits::COUNTER_LIMIT;
-use base::{Key, MemberId, Moment};
+use base::{Key, MemberId, Moment, Profile};
 use drive_answers::Send;
 use drive_events::{Content, Message};
 use member::StepError;
@@ -92,22 +94,46 @@ impl Process {
         Ok(())
     }
 
-    /// When a message to a member arrives, if it does.
+    /// When a message that departs at a moment is there, if it comes.
     #[tactic(auto, unfolding(crate::specs::Acts::arrival_by))]
+    fn draw_arrival(
+        &mut self,
+        here: &Here,
+        what: What,
+        stream: bool,
+        to: MemberId,
+        departs: Moment,
+    ) -> Option<Moment>
+        requires to { IsMember here.now to }
+        requires early { departs ≤ 2 ^ 40 }
+        ensures drawn { (result, (process_of self.new).words)
+            ≡ arrival_by (way_of what stream) here.now.scenario.now here.now.key.to to departs (process_of self.old).words }
+        ensures phase { self.new.phase ≡ self.old.phase }
+        ensures birth { self.new.birth ≡ self.old.birth }
+        ensures number { self.new.next_number ≡ self.old.next_number }
+    {
+        let from = here.key.to;
+        match what {
+            What::Push | What::Pull => here.links.kept_arrival(from, to, departs, &mut self.stream),
+            What::Call if stream => here.links.call(from, to, departs, &mut self.stream),
+            _ if stream => here.links.answer(from, to, departs, &mut self.stream),
+            _ => here.links.arrival(from, to, departs, &mut self.stream),
+        }
+    }
+
+    /// When a message gets through to a member, if it comes: both may be blocked.
     fn arrival(&mut self, here: &Here, what: What, stream: bool, to: MemberId) -> Option<Moment>
         requires { IsMember here.now to }
         ensures drawn { (result, (process_of self.new).words)
-            ≡ arrival_by (way_of what stream) here.now.scenario.now here.now.key.to to here.now.key.at (process_of self.old).words }
+            ≡ on_its_way (profile_of here.now.scenario.now) here.now.scenario.now here.now.key to
+            (arrival_by (way_of what stream) here.now.scenario.now here.now.key.to to) (process_of self.old).words }
         ensures phase { self.new.phase ≡ self.old.phase }
+        ensures birth { self.new.birth ≡ self.old.birth }
         ensures number { self.new.next_number ≡ self.old.next_number }
     {
-        let (from, now) = (here.key.to, here.key.at);
-        match what {
-            What::Push | What::Pull => here.links.kept_arrival(from, to, now, &mut self.stream),
-            What::Call if stream => here.links.call(from, to, now, &mut self.stream),
-            _ if stream => here.links.answer(from, to, now, &mut self.stream),
-            _ => here.links.arrival(from, to, now, &mut self.stream),
-        }
+        let departs = departs_by(here);
+        let drawn = self.draw_arrival(here, what, stream, to, departs);
+        got_through_by(here, to, drawn)
     }
 
     /// A message arrives, or is lost.
@@ -171,5 +197,30 @@ impl Process {
             payload,
         });
         self.post(effects, here, what, to, value, content, arrival)
+    }
+}
+
+/// When what the receiver of the event sends now departs, by the rules of the profile: now, or at the end of a block.
+fn departs_by(here: &Here) -> Moment
+    ensures value { result ≡ departs_by (profile_of here.now.scenario.now) here.now.scenario.now here.now.key }
+    ensures early { result ≤ 2 ^ 40 }
+{
+    match here.scenario.profile() {
+        Profile::Papers | Profile::Memberlist => here.key.at,
+        Profile::Hashicorp => here.scenario.free(here.key.to, here.key.at),
+    }
+}
+
+/// When a message gets through to a member, if it comes, by the rules of the profile.
+fn got_through_by(here: &Here, to: MemberId, arrival: Option<Moment>) -> Option<Moment>
+    requires { IsMember here.now to }
+    ensures { result ≡ got_through_by (profile_of here.now.scenario.now) here.now.scenario.now to arrival }
+{
+    match here.scenario.profile() {
+        Profile::Papers | Profile::Memberlist => arrival,
+        Profile::Hashicorp => {
+            let at = arrival?;
+            Some(here.scenario.free(to, at))
+        }
     }
 }

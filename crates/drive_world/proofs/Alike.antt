@@ -10,14 +10,10 @@ use Rattle.base.specs.Order.{key_cmp, key_total}
 use Rattle.base.specs.Run.{tells}
 use Rattle.base.specs.Rising.{IsRising}
 use Rattle.base.specs.World.{with_events}
-use Rattle.schema.specs.declared.schema.Version.{Version}
-use Rattle.schema.specs.declared.schema.Version.TheVariants.{One, Two, Three, Four}
-use Rattle.std.proofs.lemmas.Bool.{false≢true}
-use Rattle.scenario.specs.Setup.{Setup, is_fourth}
-use Rattle.scenario.specs.Profile.{profile_of_version, profile_of}
+use Rattle.scenario.specs.Setup.{Setup}
 use Rattle.member.specs.declared.event_kind.EventKind.{EventKind}
 use Rattle.member.specs.State.{State}
-use Rattle.member.specs.Opening.{opening_state, first_number, first_number_by}
+use Rattle.member.specs.Opening.{opening_state}
 use Rattle.drive_events.specs.declared.content.Content.{Content}
 use Rattle.drive_process.specs.Own.{process_in, written_by, AreWithIdle}
 use Rattle.drive_process.specs.Process.{Process, opening_process}
@@ -110,19 +106,12 @@ with_process w v m t all n =
     get-insert nat_cmp_total v m (process_in t) n ∙ ap (cond (eq_by_cmp nat_cmp n m) (Some (process_in t))) (all n)
     ∙ process_put t (get w n) (eq_by_cmp nat_cmp n m) ∙ ap (option_map process_in) (sym (get-insert nat_cmp_total w m t n))
 
--- versions 1 to 3 have one first number
-earlier_first : (v : Version) (s : Setup) (m : ℕ) → is_fourth v ≡ false → first_number_by (profile_of_version v) s m ≡ first_number s m
-earlier_first One s m is = refl
-earlier_first Two s m is = refl
-earlier_first Three s m is = refl
-earlier_first Four s m is = absurd (false≢true (sym is))
-
-opened_process : (s : Setup) (m : ℕ) → is_fourth s.version ≡ false → process_in (opening_state s m) ≡ opening_process s m
+opened_process : (s : Setup) (m : ℕ) → process_in (opening_state s m) ≡ opening_process s m
 unfolding opening_state opening_process
-opened_process s m earlier = λ i. record (opening_process s m) { next_number = earlier_first s.version s m earlier i }
+opened_process s m = refl
 
-pub opened_processes : (s : Setup) → is_fourth s.version ≡ false → (members : List ℕ) → HasProcesses (from_entries (map (λ m. (m, opening_state s m)) members)) (from_entries (map (λ m. (m, opening_process s m)) members))
-opened_processes s earlier [] n = get-empty nat_cmp n ∙ ap (option_map process_in) (sym (get-empty nat_cmp n))
-opened_processes s earlier (m ∷ members) n =
-    ap (λ p. get {R = nat_cmp} (insert (from_entries (map (λ i. (i, opening_process s i)) members)) m p) n) (sym (opened_process s m earlier))
-    ∙ with_process (from_entries (map (λ i. (i, opening_state s i)) members)) (from_entries (map (λ i. (i, opening_process s i)) members)) m (opening_state s m) (opened_processes s earlier members) n
+pub opened_processes : (s : Setup) (members : List ℕ) → HasProcesses (from_entries (map (λ m. (m, opening_state s m)) members)) (from_entries (map (λ m. (m, opening_process s m)) members))
+opened_processes s [] n = get-empty nat_cmp n ∙ ap (option_map process_in) (sym (get-empty nat_cmp n))
+opened_processes s (m ∷ members) n =
+    ap (λ p. get {R = nat_cmp} (insert (from_entries (map (λ i. (i, opening_process s i)) members)) m p) n) (sym (opened_process s m))
+    ∙ with_process (from_entries (map (λ i. (i, opening_state s i)) members)) (from_entries (map (λ i. (i, opening_process s i)) members)) m (opening_state s m) (opened_processes s members) n

@@ -81,7 +81,7 @@ module _ (s : Setup) (sound : IsSound s) where
       subst (λ (x : Move). IsMoved s d.world x.after.world x.rows) (sym tells.move) (fate_moved d tells.key tells.content _ people tells.here)
   moved least_delay d m people (inr takes) =
       subst (λ (x : Move). IsMoved s d.world x.after.world x.rows) (sym takes.move)
-      (over_moved d.world takes.key takes.content takes.actions (sound_answer s takes.key.to takes.line takes.actions takes.answer) people takes.here)
+      (over_moved d.world takes.key takes.content takes.actions (sound_answer s takes.key.to _ takes.line takes.actions takes.answer) people takes.here)
 
 -- ---- rows by a key
 

@@ -1,5 +1,5 @@
 -- Our own members over the protocol write the rows of the run.
-use Rattle.std.proofs.Common.{◌≡◌, ℕ, ◌≤◌, Bool, true, false, cond, List, [], ◌∷◌, ◌++◌, flat_map, Option, Some, None, ap, ◌∙◌, sym, subst, refl}
+use Rattle.std.proofs.Common.{◌≡◌, ℕ, ◌≤◌, Bool, true, false, cond, nat_lt, if◌then◌else◌, List, [], ◌∷◌, ◌++◌, flat_map, Option, Some, None, ap, ◌∙◌, sym, subst, refl}
 use Rattle.std.specs.Option.{option_map, is_some}
 use Rattle.std.specs.List.{AllByRecursion}
 use Rattle.std.specs.Ordering.{nat_cmp, eq_by_cmp}
@@ -29,10 +29,10 @@ use Rattle.member_laws.proofs.Opened.{opening_numbered}
 use Rattle.drive_events.specs.declared.content.Content.{Content}
 use Rattle.drive_events.specs.declared.content.Content.TheVariants as content
 use Rattle.drive_process.specs.declared.process.ProcessPhase.{ProcessPhase}
-use Rattle.drive_process.specs.declared.process.ProcessPhase.TheVariants.{Waiting, Up, Down}
+use Rattle.drive_process.specs.declared.process.ProcessPhase.TheVariants.{Waiting, Up, Leaving, Down}
 use Rattle.drive_process.specs.Acts.{all_acted}
 use Rattle.drive_process.specs.Answers.{AreSoundAnswers}
-use Rattle.drive_process.specs.Driven.{Answers, driven, heeded, opening, script_of, ending}
+use Rattle.drive_process.specs.Driven.{Answers, driven, heeded, timer_ended, opening, script_by, endings_of, ending}
 use Rattle.drive_process.specs.Own.{process_in, written_by, Says}
 use Rattle.drive_process.specs.Process.{Process, Effect, unchanged}
 use Rattle.drive_process.proofs.Fair.{driven_later, driven_numbered}
@@ -42,16 +42,23 @@ use Rattle.drive_world.proofs.Alike.{IsLike, AreLike, like_removed, like_without
 -- ---- nothing is done
 
 -- an event that isn't of the script, and is answered by nothing, changes nothing
+as_it_was : (b : Bool) (o : Effect) → (if b then o else o) ≡ o
+as_it_was true o = refl
+as_it_was false o = refl
+
 quiet : (s : Setup) (k : Key) (d : Content) (phase : ProcessPhase) (o : Effect) → is_script_content d ≡ false → heeded s k d phase [] o ≡ o
-unfolding heeded all_acted
+unfolding heeded timer_ended all_acted
 quiet s k content.Start phase o is = absurd (false≢true (sym is))
+quiet s k content.Restart phase o is = absurd (false≢true (sym is))
 quiet s k content.Crash phase o is = absurd (false≢true (sym is))
 quiet s k content.Leave phase o is = absurd (false≢true (sym is))
 quiet s k (content.Timer id) Waiting o is = refl
-quiet s k (content.Timer id) Up o is = refl
+quiet s k (content.Timer id) Up o is = as_it_was (nat_lt k.number o.state.birth) o
+quiet s k (content.Timer id) Leaving o is = as_it_was (nat_lt k.number o.state.birth) o
 quiet s k (content.Timer id) Down o is = refl
 quiet s k (content.Message m) Waiting o is = refl
 quiet s k (content.Message m) Up o is = refl
+quiet s k (content.Message m) Leaving o is = refl
 quiet s k (content.Message m) Down o is = refl
 
 quiet_by : (s : Setup) (answers : Answers) (k : Key) (d : Content) (held : Option Process) → is_script_content d ≡ false → answers k ≡ []
@@ -193,30 +200,29 @@ module _ (s : Setup) (sound : IsSound s) (encode : EventKind → Content) (Idle 
 
 -- ---- where both begin
 
--- versions 1 to 3 have one script
-earlier_script : (v : Version) (s : Setup) (m : ℕ) → is_fourth v ≡ false → own_opening.script_by (profile_of_version v) s m ≡ own_opening.script_of s m
-earlier_script One s m is = refl
-earlier_script Two s m is = refl
-earlier_script Three s m is = refl
-earlier_script Four s m is = absurd (false≢true (sym is))
-
 module _ (s : Setup) (earlier : is_fourth s.version ≡ false) (encode : EventKind → Content) (code : IsEncoding encode) where
   written_ending : (c : EventKind) (d : Content) (m : ℕ) (at : Option ℕ) → encode c ≡ d → written_by encode (own_opening.ending_event c m at) ≡ ending d m at
   written_ending c d m None is = refl
   written_ending c d m (Some at) is = ap (λ x. (own_opening.script_key m at 1, x) ∷ []) is
 
-  written_script : (m : ℕ) → written_by encode (own_opening.script_of s m) ≡ script_of s m
+  written_script : (m : ℕ) → written_by encode (own_opening.script_of s m) ≡ (own_opening.script_key m (start_of s m) 0, content.Start) ∷ endings_of s m
   written_script m =
       let crash = written_ending own.Crash content.Crash m (crash_of s m) code.crash in
       let leave = written_ending own.Leave content.Leave m (leave_of s m) code.leave in
       (λ i. (own_opening.script_key m (start_of s m) 0, code.start i) ∷ map-append (λ (e : Key × EventKind). (e.0, encode e.1)) (own_opening.ending_event own.Crash m (crash_of s m)) (own_opening.ending_event own.Leave m (leave_of s m)) i)
       ∙ (λ i. (own_opening.script_key m (start_of s m) 0, content.Start) ∷ (crash i ++ leave i))
 
-  -- the script of its version
-  written_own : (m : ℕ) → written_by encode (own_opening.script_by (profile_of s) s m) ≡ script_of s m
-  written_own m = ap (written_by encode) (earlier_script s.version s m earlier) ∙ written_script m
+  -- versions 1 to 3 have one script
+  written_by_version : (v : Version) (m : ℕ) → is_fourth v ≡ false → written_by encode (own_opening.script_by (profile_of_version v) s m) ≡ script_by (profile_of_version v) s m
+  written_by_version One m is = written_script m
+  written_by_version Two m is = written_script m
+  written_by_version Three m is = written_script m
+  written_by_version Four m is = absurd (false≢true (sym is))
 
-  written_scripts : (members : List ℕ) → written_by encode (flat_map (own_opening.script_by (profile_of s) s) members) ≡ flat_map (script_of s) members
+  written_own : (m : ℕ) → written_by encode (own_opening.script_by (profile_of s) s m) ≡ script_by (profile_of s) s m
+  written_own m = written_by_version s.version m earlier
+
+  written_scripts : (members : List ℕ) → written_by encode (flat_map (own_opening.script_by (profile_of s) s) members) ≡ flat_map (script_by (profile_of s) s) members
   written_scripts [] = refl
   written_scripts (m ∷ members) =
       map-append (λ (e : Key × EventKind). (e.0, encode e.1)) (own_opening.script_by (profile_of s) s m) (flat_map (own_opening.script_by (profile_of s) s) members)
@@ -232,7 +238,7 @@ module _ (s : Setup) (earlier : is_fourth s.version ≡ false) (encode : EventKi
 
   pub alike_at_first : (Idle : Key → Content → Type 0) → AreAlike encode Idle (own_opening.opening s) (opening s)
   alike_at_first Idle = record {
-    members = opened_processes s earlier (own_opening.numbers s);
+    members = opened_processes s (own_opening.numbers s);
     pending = subst (λ es. AreLike encode Idle (with_events empty (flat_map (own_opening.script_by (profile_of s) s) (own_opening.numbers s))) (with_events empty es)) (written_scripts (own_opening.numbers s))
         (like_written Idle (flat_map (own_opening.script_by (profile_of s) s) (own_opening.numbers s)) empty empty (like_empty Idle));
   }

@@ -9,17 +9,22 @@ use Rattle.base.specs.Order.{key_cmp}
 use Rattle.base.specs.World.{World, IsPending, events_of, outcome}
 use Rattle.base.specs.Run.{holds-with_events}
 use Rattle.base.proofs.Rising.{all_append, all_weaker}
-use Rattle.scenario.specs.Setup.{Setup, IsSound, link_between, member_count, crash_of, leave_of}
+use Rattle.base.specs.declared.profile.Profile.{Profile}
+use Rattle.base.specs.declared.profile.Profile.TheVariants.{Papers, Memberlist, Hashicorp}
+use Rattle.scenario.specs.Setup as setup
+use Rattle.scenario.specs.Setup.{Setup, IsSound, link_between, member_count, start_of, crash_of, leave_of}
+use Rattle.scenario.specs.Profile.{profile_of}
+use Rattle.scenario.specs.declared.script.ScriptEvent.{ScriptEvent}
 use Rattle.windows.specs.Cluster.{IsLeastDelay}
 use Rattle.windows.specs.Delays.{ComesFar, KeepsFar}
 use Rattle.windows.proofs.Early.{made_all}
 use Rattle.windows.proofs.Far.{all_both}
 use Rattle.windows.proofs.Safety.{holds_made}
-use Rattle.member.specs.Opening.{numbers}
+use Rattle.member.specs.Opening.{numbers, script_key}
 use Rattle.drive_events.specs.declared.content.Content.{Content}
 use Rattle.drive_events.specs.declared.content.Content.TheVariants.{Crash, Leave}
 use Rattle.drive_process.specs.Answers.{AreSoundAnswers}
-use Rattle.drive_process.specs.Driven.{Answers, driven, opening, script_of, ending}
+use Rattle.drive_process.specs.Driven.{Answers, driven, opening, script_by, endings_of, ending, numbered_from}
 use Rattle.drive_process.specs.Process.{Process}
 use Rattle.drive_process.proofs.Fair.{driven_linked, driven_peopled}
 
@@ -61,19 +66,29 @@ module _ (s : Setup) (sound : IsSound s) (answers : Answers) (are : AreSoundAnsw
 
 -- ---- where a drive begins
 
-ending_people : (s : Setup) (content : Content) (m : ℕ) (at : Option ℕ) → m < member_count s → AllByRecursion (λ e. e.0.to < member_count s) (ending content m at)
-ending_people s content m None here = tt
-ending_people s content m (Some at) here = (here, tt)
+-- what holds of each key of a member's script holds of its events
+module _ (P : Key → Type 0) (s : Setup) (m : ℕ) (scripted : (at number : ℕ) → P (script_key m at number)) where
+  ending_holds : (content : Content) (at : Option ℕ) → AllByRecursion (λ e. P e.0) (ending content m at)
+  ending_holds content None = tt
+  ending_holds content (Some at) = (scripted at 1, tt)
 
-script_people : (s : Setup) (m : ℕ) → m < member_count s → AllByRecursion (λ e. e.0.to < member_count s) (script_of s m)
-script_people s m here = (
-  here,
-  all_append (λ e. e.0.to < member_count s) (ending Crash m (crash_of s m)) (ending Leave m (leave_of s m)) (ending_people s Crash m (crash_of s m) here) (ending_people s Leave m (leave_of s m) here),
-)
+  endings_hold : AllByRecursion (λ e. P e.0) (endings_of s m)
+  endings_hold = all_append (λ e. P e.0) (ending Crash m (crash_of s m)) (ending Leave m (leave_of s m)) (ending_holds Crash (crash_of s m)) (ending_holds Leave (leave_of s m))
 
-scripts_people : (s : Setup) (members : List ℕ) → AllByRecursion (λ m. m < member_count s) members → AllByRecursion (λ e. e.0.to < member_count s) (flat_map (script_of s) members)
-scripts_people s [] all = tt
-scripts_people s (m ∷ members) all = all_append (λ e. e.0.to < member_count s) (script_of s m) (flat_map (script_of s) members) (script_people s m all.0) (scripts_people s members all.1)
+  numbered_hold : (number : ℕ) (events : List ScriptEvent) → AllByRecursion (λ e. P e.0) (numbered_from m number events)
+  numbered_hold number [] = tt
+  numbered_hold number (e ∷ es) = (scripted e.at number, numbered_hold (number + 1) es)
+
+  pub script_holds : (profile : Profile) → AllByRecursion (λ e. P e.0) (script_by profile s m)
+  script_holds Papers = (scripted (start_of s m) 0, endings_hold)
+  script_holds Memberlist = (scripted (start_of s m) 0, endings_hold)
+  script_holds Hashicorp = (scripted (start_of s m) 0, numbered_hold 1 (setup.script_of s m))
+
+pub scripts_hold : (P : Key → Type 0) (s : Setup) (members : List ℕ) → AllByRecursion (λ m. (at number : ℕ) → P (script_key m at number)) members
+    → AllByRecursion (λ e. P e.0) (flat_map (script_by (profile_of s) s) members)
+scripts_hold P s [] all = tt
+scripts_hold P s (m ∷ members) all =
+    all_append (λ e. P e.0) (script_by (profile_of s) s m) (flat_map (script_by (profile_of s) s) members) (script_holds P s m all.0 (profile_of s)) (scripts_hold P s members all.1)
 
 below : (from count n : ℕ) → from + count ≤ n → AllByRecursion (λ m. m < n) (range_with_len from count)
 below from zero n h = tt
@@ -82,7 +97,16 @@ below from (suc count) n h = (omega (arith, h), below (from + 1) count n (omega 
 none_there : (pending : FinMap key_cmp Content) (q : Key) → pending ≡ empty → contains_key pending q ≡ true → ⊥
 none_there pending q is here = false≢true (sym (ap is_some (ap (λ (m : FinMap key_cmp Content). get m q) is ∙ get-empty key_cmp q)) ∙ here)
 
+-- the events of a member's script are for it, and of it
+pub opening_holds : (P : Key → Type 0) (s : Setup) → ((m at number : ℕ) → m < member_count s → P (script_key m at number)) → (q : Key) → IsPending (opening s) q → P q
+opening_holds P s scripted =
+    holds-with_events P (flat_map (script_by (profile_of s) s) (numbers s)) empty (λ q here. absurd (none_there empty q refl here))
+    (scripts_hold P s (numbers s)
+    (all_weaker (λ m. m < member_count s) (λ m. (at number : ℕ) → P (script_key m at number)) (λ m low at number. scripted m at number low) (numbers s)
+    (below 0 (member_count s) (member_count s) (omega arith))))
+
 pub opening_people : (s : Setup) → IsForMembers s (opening s)
-opening_people s =
-    holds-with_events (λ q. q.to < member_count s) (flat_map (script_of s) (numbers s)) empty (λ q here. absurd (none_there empty q refl here))
-    (scripts_people s (numbers s) (below 0 (member_count s) (member_count s) (omega arith)))
+opening_people s = opening_holds (λ q. q.to < member_count s) s (λ m at number low. low)
+
+pub opening_senders : (s : Setup) (q : Key) → IsPending (opening s) q → q.from < member_count s
+opening_senders s = opening_holds (λ q. q.from < member_count s) s (λ m at number low. low)

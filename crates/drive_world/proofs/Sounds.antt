@@ -20,6 +20,7 @@ sound_action s m j ps (action.Send x) says = (says.1, says.2, small _ _ j x.valu
 sound_action s m j ps (action.Timer t) says = (let least = says.says_after.no_less in omega (arith, least), says.says_after.no_more)
 sound_action s m j ps (action.Noted r) says = (says.1, small _ _ j r.value says.0.says_value)
 sound_action s m j ps (action.Used words) says = says.says_words.no_more
+sound_action s m j ps action.Exit says = tt
 
 pub sound_actions : (s : Setup) (m : ℕ) (items : Items) (ps : List Piece) (actions : List Action) → SaysActions s m items ps actions → AreSoundActions s m actions
 sound_actions s m no_items ps [] says = tt
@@ -27,5 +28,5 @@ sound_actions s m no_items ps (a ∷ rest) says = absurd says
 sound_actions s m (item j js) ps [] says = absurd says
 sound_actions s m (item j js) ps (a ∷ rest) says = (sound_action s m j ps a says.0, sound_actions s m js (behind j ps) rest says.1)
 
-pub sound_answer : (s : Setup) (m : ℕ) (line : List ℕ) (actions : List Action) → IsAnswer s m line actions → AreSoundActions s m actions
-sound_answer s m line actions is = sound_actions s m is.items _ actions is.says
+pub sound_answer : (s : Setup) (m : ℕ) (exits : Bool) (line : List ℕ) (actions : List Action) → IsAnswer s m exits line actions → AreSoundActions s m actions
+sound_answer s m exits line actions is = sound_actions s m is.items _ actions is.says

@@ -20,7 +20,7 @@ use Rattle.drive_process.specs.Process.{Process}
 use Rattle.drive_world.specs.declared.fate.Fate.{Fate}
 use Rattle.drive_world.specs.declared.fate.Fate.TheVariants.{Untold, Told, Asked}
 use Rattle.drive_world.specs.declared.world.World.{World as Held}
-use Rattle.drive_world.specs.Telling.{Drive, fate_of, IsNext, NoneMay}
+use Rattle.drive_world.specs.Telling.{Drive, fate_of, exits_in, IsNext, NoneMay}
 use Rattle.drive_world.specs.Courses.{move_by, take as take_move}
 use Rattle.drive_world.specs.WorldOf.{events_in}
 use Rattle.drive_world.specs.DriveOf.{drive_of, world_of, Settles}
@@ -103,7 +103,7 @@ module _ (s : Setup) (least_delay : Option ℕ) (k : Key) (content : Content) (o
 
   -- the first that waits takes the next answer
   pub taken_turn : NoneMay s least_delay (drive_of old) → (others : List Key) → old.waiting.keys.items ≡ k ∷ others → get (events_in old.pending) k ≡ Some content → (line : List ℕ) (actions : List Action)
-      → IsAnswer s k.to line actions → Settles s k content actions old new → new.waiting.keys.items ≡ others → new.begun ≡ old.begun → new.answers ≡ min (old.answers + 1) (2 ^ 64 - 1) → told_new ≡ told → gave_new ≡ gave ++ line ∷ []
+      → IsAnswer s k.to (exits_in s (world_of old) k content) line actions → Settles s k content actions old new → new.waiting.keys.items ≡ others → new.begun ≡ old.begun → new.answers ≡ min (old.answers + 1) (2 ^ 64 - 1) → told_new ≡ told → gave_new ≡ gave ++ line ∷ []
       → Turns s least_delay old new told told_new gave gave_new
   taken_turn none others first here line actions answer settles waiting begun answers lines read = record {
     move = take_move s (drive_of old) k content others line actions;
@@ -193,7 +193,7 @@ module _ (s : Setup) (least_delay : Option ℕ) (w : Held) (k : Key) (others : L
   is_halted : IsHalted s least_delay w w told_old told_new gave_old gave_new
   is_halted = record { none = none; same = refl; told = told; behind = behind; gave = gave }
 
-  unanswered : (at : ℕ) (cause said : Stop) (event : List ℕ) → at ≡ place → said ≡ cause → event ++ 10 ∷ [] ≡ line_of s (nat_eq place 1) k content → IsCauseIn s k.to behind cause
+  unanswered : (at : ℕ) (cause said : Stop) (event : List ℕ) → at ≡ place → said ≡ cause → event ++ 10 ∷ [] ≡ line_of s (nat_eq place 1) k content → IsCauseIn s k.to (exits_in s (world_of w) k content) behind cause
       → w.answers ≡ counted (length gave_old) → IsUnanswered s (drive_of w) gave_old behind at said event
   unanswered at cause said event same_place same_cause line why counts = record {
     key = k;
@@ -203,10 +203,10 @@ module _ (s : Setup) (least_delay : Option ℕ) (w : Held) (k : Key) (others : L
     here = here;
     nth = same_place ∙ next ∙ counted_next w.answers (length gave_old) counts;
     line = line ∙ ap (λ n. line_of s (nat_eq n 1) k content) (sym same_place);
-    cause = subst (IsCauseIn s k.to behind) (sym same_cause) why;
+    cause = subst (IsCauseIn s k.to (exits_in s (world_of w) k content) behind) (sym same_cause) why;
   }
 
-  pub stops_with : (halt : Option Halt) (cause : Stop) → StopsWith s w k place cause halt → IsCauseIn s k.to behind cause → ComesTo s least_delay halt w w told_old told_new gave_old gave_new
+  pub stops_with : (halt : Option Halt) (cause : Stop) → StopsWith s w k place cause halt → IsCauseIn s k.to (exits_in s (world_of w) k content) behind cause → ComesTo s least_delay halt w w told_old told_new gave_old gave_new
   unfolding is_halted
   stops_with None cause stops why = absurd stops
   stops_with (Some Closed) cause stops why = absurd stops

@@ -14,7 +14,7 @@ use Rattle.drive_process.specs.Process.{Process, unchanged}
 use Rattle.drive_process.specs.Driven.{heeded, opening}
 use Rattle.drive_world.specs.declared.fate.Fate.{Fate}
 use Rattle.drive_world.specs.declared.fate.Fate.TheVariants.{Untold, Told, Asked}
-use Rattle.drive_world.specs.Telling.{Drive, fate_of, IsNext, NoneMay}
+use Rattle.drive_world.specs.Telling.{Drive, fate_of, exits_in, IsNext, NoneMay}
 
 -- what an event comes to in a world, by these actions
 abbrev pub outcome_by : Setup → List Action → World Process Content → Key → Content → Option (Outcome Process Content Row)
@@ -93,7 +93,7 @@ pub record Takes (s : Setup) (least_delay : Option ℕ) (d : Drive) (m : Move) :
   pub here : get d.world.pending key ≡ Some content
   pub line : List ℕ
   pub actions : List Action
-  pub answer : IsAnswer s key.to line actions
+  pub answer : IsAnswer s key.to (exits_in s d.world key content) line actions
   pub move : m ≡ take s d key content others line actions
 
 abbrev pub Moves : Setup → Option ℕ → Drive → Move → Type 0

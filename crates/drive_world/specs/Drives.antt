@@ -25,7 +25,7 @@ use Rattle.drive_process.specs.Driven.{Answers, driven, opening}
 use Rattle.drive_process.specs.Own.{Says}
 use Rattle.drive_world.specs.Courses.{Course, IsCourse}
 use Rattle.drive_world.specs.Next.{has_one_for}
-use Rattle.drive_world.specs.Telling.{Drive}
+use Rattle.drive_world.specs.Telling.{Drive, exits_in}
 use Rattle.drive_world.specs.Turns.{counted}
 use Rattle.drive_world.specs.declared.ends.Stop.{Stop}
 use Rattle.drive_world.specs.declared.ends.Stop.TheVariants.{Long, Ended, Answer}
@@ -84,10 +84,11 @@ pub record DrivesUpTo (s : Setup) (came_in : List (List ℕ)) (told : List ℕ) 
   pub run : (answers : Answers) → AreSoundAnswers s answers → Agree answers course.asked course.taken → RunsBefore s answers key rows
 
 -- What came in behind the answers, by the cause: no line, or one that is no answer for this cause.
-abbrev pub IsCauseIn : Setup → ℕ → List (List ℕ) → Stop → Type 0
-IsCauseIn s m behind Long = behind ≡ []
-IsCauseIn s m behind Ended = behind ≡ []
-IsCauseIn s m behind (Answer cause) = (line : List ℕ) × (behind ≡ line ∷ []) × (cause ≢ Memory) × IsCause (IsNoJson line) (IsNoList line) (IsNobodys s m line) cause
+abbrev pub IsCauseIn : Setup → ℕ → Bool → List (List ℕ) → Stop → Type 0
+IsCauseIn s m exits behind Long = behind ≡ []
+IsCauseIn s m exits behind Ended = behind ≡ []
+IsCauseIn s m exits behind (Answer cause) =
+    (line : List ℕ) × (behind ≡ line ∷ []) × (cause ≢ Memory) × IsCause (IsNoJson line) (IsNoList exits line) (IsNobodys s m exits line) cause
 
 -- The first event that waits has no answer. Its place is that of its answer, from 1, and `event` is its line without the line feed.
 pub record IsUnanswered (s : Setup) (d : Drive) (answers behind : List (List ℕ)) (place : ℕ) (stop : Stop) (event : List ℕ) : Type 0 where
@@ -98,7 +99,7 @@ pub record IsUnanswered (s : Setup) (d : Drive) (answers behind : List (List ℕ
   pub here : get d.world.pending key ≡ Some content
   pub nth : place ≡ counted (length answers + 1)
   pub line : event ++ 10 ∷ [] ≡ line_of s (nat_eq place 1) key content
-  pub cause : IsCauseIn s key.to behind stop
+  pub cause : IsCauseIn s key.to (exits_in s d.world key content) behind stop
 
 -- The beginning of the trace where an answer is none: the place, the cause and the event are those of the first event that waits.
 pub record StopsAt (s : Setup) (place : ℕ) (stop : Stop) (event : List ℕ) (came_in : List (List ℕ)) (told : List ℕ) (rows : List Row) : Type 0 where
@@ -116,6 +117,7 @@ is_script _ = false
 
 abbrev pub is_script_content : Content → Bool
 is_script_content content.Start = true
+is_script_content content.Restart = true
 is_script_content content.Crash = true
 is_script_content content.Leave = true
 is_script_content _ = false

@@ -45,7 +45,8 @@ pub fn the_course_is_one()
 {}
 
 /// Our own members over the protocol write the rows of the run, in versions 1 to 3 of the format: where each answer says what
-/// the member's step does.
+/// the member's step does. In version 4 they open connections, whose ends they draw themselves and for which the protocol has
+/// no action.
 pub fn own_members_write_the_run()
     ensures { (s : Setup) (encode : EventKind → Content) (idle : Key → Content → Bool) (answers : Answers) (rows : List Row)
         → IsSound s → is_fourth s.version ≡ false → AreSoundAnswers s answers → IsEncoding encode → SaysAll s encode (IsIdle idle) answers → IsRunOf s rows

@@ -5,11 +5,15 @@ ghost use Rattle.std.specs.FinMap.{get};
 ghost use Rattle.member.specs.Here.{IsSoundSetting};
 ghost use Rattle.drive_process.specs.Answers.{AreSoundActions};
 ghost use Rattle.drive_process.specs.Driven.{opening};
+ghost use Rattle.drive_process.specs.ProcessOf.{process_of};
+ghost use Rattle.drive_world.specs.Telling.{fate_by, exits_by};
 ghost use Rattle.drive_world.specs.WorldOf.{members_of, Heeds};
 
-use base::{MemberId, Memory};
+use crate::fate::{Fate, exits_at, fate_at};
+use base::{Key, MemberId, Memory, Profile};
 use drive_answers::Action;
-use drive_process::{Process, ProcessEffects, ProcessEvent, ProcessPhase, heed};
+use drive_events::Content;
+use drive_process::{Process, ProcessEffects, ProcessEvent, heed};
 use links::Links;
 use member::StepError;
 use scenario::Scenario;
@@ -33,15 +37,35 @@ impl Processes {
         Ok(Processes { list })
     }
 
-    /// Whether a member has started, runs or is down: `None` where it is none of the scenario.
-    pub(crate) fn phase(&self, member: &MemberId) -> Option<ProcessPhase>
-        ensures { result ≡ option_map (λ p. p.phase) (get (members_of self.now) member.now) }
+    /// The process of a member: `None` where it is none of the scenario.
+    fn get(&self, member: &MemberId) -> Option<&Process>
+        ensures { option_map (λ p. process_of p.now) result ≡ get (members_of self.now) member.now }
     {
         let place = member.index();
         if place < self.list.len() {
-            Some(self.list[place].phase())
+            Some(&self.list[place])
         } else {
             None
+        }
+    }
+
+    /// What becomes of an event that pends, if it may be sent: one for nobody isn't.
+    pub(crate) fn fate(&self, key: &Key, content: &Content) -> Fate
+        ensures { result ≡ fate_by key.now content.now (get (members_of self.now) key.now.to) }
+    {
+        match self.get(&key.to) {
+            Some(process) => fate_at(key, content, process.phase(), process.birth()),
+            None => Fate::Untold,
+        }
+    }
+
+    /// Whether the process that answers an event may exit.
+    pub(crate) fn exits(&self, profile: Profile, key: &Key, content: &Content) -> bool
+        ensures { result ≡ exits_by profile content.now (get (members_of self.now) key.now.to) }
+    {
+        match self.get(&key.to) {
+            Some(process) => exits_at(profile, content, process.phase()),
+            None => false,
         }
     }
 

@@ -153,7 +153,8 @@ fn take<H: Harness>(
         Ok(line) => line,
         Err(none) => return no_line(alloc, world, setting.scenario, &key, none, place),
     };
-    let actions = match read_answer(alloc, setting.scenario, key.to, line.as_slice()) {
+    let exits = world.exits(setting.scenario, &key);
+    let actions = match read_answer(alloc, setting.scenario, key.to, exits, line.as_slice()) {
         Ok(actions) => actions,
         Err(error) => return no_answer(alloc, world, setting.scenario, &key, error, place),
     };

@@ -4,7 +4,7 @@ ghost use Rattle.std.specs.FinMap.{get};
 ghost use Rattle.scenario.specs.Setup.{member_count};
 ghost use Rattle.drive_events.specs.declared.content.Content.{Content as AContent};
 ghost use Rattle.drive_process.specs.Answers.{AreSoundActions};
-ghost use Rattle.drive_world.specs.Telling.{fate_at};
+ghost use Rattle.drive_world.specs.Telling.{exits_in};
 ghost use Rattle.drive_world.specs.WorldOf.{events_in};
 ghost use Rattle.base.specs.World.{IsOver};
 ghost use Rattle.worker_queue.specs.Queue.{IsLeastKey};
@@ -19,9 +19,9 @@ use crate::setting::Setting;
 use crate::waiting::Waiting;
 use base::{Key, Memory, Moment};
 use drive_answers::Action;
-use drive_events::Content;
-use drive_process::{ProcessEffects, ProcessEvent, ProcessPhase};
+use drive_process::{ProcessEffects, ProcessEvent};
 use member::StepError;
+use scenario::Scenario;
 use std::alloc::Global;
 use std::mem::replace;
 use trace::Row;
@@ -52,9 +52,17 @@ impl World {
         ensures none { IfNone result (get (events_in self.now.pending) key.now ≡ None) }
     {
         let content = self.pending.content(key)?;
-        match self.processes.phase(&key.to) {
-            Some(phase) => Some(fate_at(content, phase)),
-            None => Some(Fate::Untold),
+        Some(self.processes.fate(key, content))
+    }
+
+    /// Whether the process that answers an event that pends may exit.
+    pub(crate) fn exits(&self, scenario: &Scenario, key: &Key) -> bool
+        ensures { (content : AContent) → get (events_in self.now.pending) key.now ≡ Some content
+            → result ≡ exits_in scenario.now (world_of self.now) key.now content }
+    {
+        match self.pending.content(key) {
+            Some(content) => self.processes.exits(scenario.profile(), key, content),
+            None => false,
         }
     }
 
@@ -149,22 +157,5 @@ impl World {
         self.pending.push_all(events)?;
         self.rows.append(&mut rows)?;
         Ok(())
-    }
-}
-
-/// What becomes of an event of a member of this phase.
-fn fate_at(content: &Content, phase: ProcessPhase) -> Fate
-    ensures { result ≡ fate_at content.now phase }
-{
-    match phase {
-        ProcessPhase::Waiting => match content {
-            Content::Start => Fate::Asked,
-            _ => Fate::Untold,
-        },
-        ProcessPhase::Up => match content {
-            Content::Crash => Fate::Told,
-            _ => Fate::Asked,
-        },
-        ProcessPhase::Down => Fate::Untold,
     }
 }

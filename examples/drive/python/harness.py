@@ -4,7 +4,7 @@
     examples/drive/python/harness.py FILE swimsim drive FILE --trace T
 
 It starts the words behind FILE as a child, and answers its events. In versions 1 to 3 of the format T is byte for byte
-what `swimsim run FILE --trace T` writes.
+what `swimsim run FILE --trace T` writes. In version 4 it lacks the rows of dials, for which there is no action.
 """
 
 import subprocess

@@ -8,3 +8,6 @@ returns-in-Timer-clause-said c = subst (Says (value_view c.args.item.now)) c.in-
 
 pub returns-in-Used-clause-said : goal.returns-in-Used-clause-said
 returns-in-Used-clause-said c = subst (Says (value_view c.args.item.now)) c.in-Used.is c.requires.said
+
+pub returns-in-Exit-clause-said : goal.returns-in-Exit-clause-said
+returns-in-Exit-clause-said c = subst (Says (value_view c.args.item.now)) c.in-Exit.is c.requires.said

@@ -23,7 +23,7 @@ returns-in_default-clause-comes g c =
 
 pub settle-requires-clause-sound : goal.settle-requires-clause-sound
 settle-requires-clause-sound g c =
-    sound_answer c.args.setting.now.scenario.now c.in-Some.key.to c.as_slice.result.now c.in-Ok-read_answer.actions.items c.in-Ok-read_answer.ensures.said
+    sound_answer c.args.setting.now.scenario.now c.in-Some.key.to c.exits-exits.result c.as_slice.result.now c.in-Ok-read_answer.actions.items c.in-Ok-read_answer.ensures.said
 
 pub returns-clause-comes : goal.returns-clause-comes
 returns-clause-comes g c =
@@ -37,7 +37,7 @@ returns-clause-comes g c =
     let there = c.in_ok-settle.ensures.settles asks.0 asks.1 in
     let settles : Settles s k asks.0 actions w new = record { world = there.world; rows = there.rows } in
     taken_turn s c.args.setting.now.least_delay k asks.0 w new _ _ _ _ c.requires.none c.in-Some.ensures.first.0 c.in-Some.ensures.first.1 asks.1 c.in-Ok.line.items actions
-    (subst (λ l. IsAnswer s k.to l actions) c.as_slice.ensures.value c.in-Ok-read_answer.ensures.said) settles
+    (subst (λ e. IsAnswer s k.to e c.in-Ok.line.items actions) (c.exits-exits.ensures asks.0 asks.1) (subst (λ l. IsAnswer s k.to c.exits-exits.result l actions) c.as_slice.ensures.value c.in-Ok-read_answer.ensures.said)) settles
     (ap (λ (x : Waiting). x.keys.items) c.in_ok-settle.ensures.waiting
     ∙ popped_rest c.pop.result w.waiting.keys.items c.in-Some.ensures.first.0 c.pop.new.self.keys.items k c.in-Some.ensures.first.1 c.pop.ensures.first c.pop.ensures.none)
     c.in_ok-settle.ensures.begun (c.settle.ensures.answers ∙ c.saturating_add-place.ensures) c.in-Ok.ensures.told c.in-Ok.ensures.gave
@@ -57,7 +57,7 @@ returns-clause-way g c =
     let agrees = subst (Agrees w.waiting.busy.items) c.in-Some.ensures.first.1 w.waiting.agrees in
     let apart = ap are_of_different (sym c.in-Some.ensures.first.1) ∙ w.waiting.apart in
     way_settled s c.requires.setting.sound w new k asks.0 actions
-    (sound_answer s k.to c.as_slice.result.now actions c.in-Ok-read_answer.ensures.said) c.requires.way waits.0.0 settles others
+    (sound_answer s k.to c.exits-exits.result c.as_slice.result.now actions c.in-Ok-read_answer.ensures.said) c.requires.way waits.0.0 settles others
     (ap (λ (x : Waiting). x.keys.items) c.in_ok-settle.ensures.waiting
     ∙ popped_rest c.pop.result w.waiting.keys.items others c.pop.new.self.keys.items k c.in-Some.ensures.first.1 c.pop.ensures.first c.pop.ensures.none)
     (ap (λ (x : Waiting). length x.busy.items) c.in_ok-settle.ensures.waiting ∙ c.pop.ensures.members)
@@ -85,7 +85,8 @@ returns-in-Err-read_answer-clause-comes g c =
     let waits = subst (AllByRecursion (Waits s.end (world_of w))) c.in-Some.ensures.first.1 c.requires.way.waits in
     let asks = there_is (get (events_in w.pending) k) waits.0.0 in
     let error = c.in-Err-read_answer.error in
-    let refused = subst (λ l. IsCause (IsNoJson l) (IsNoList l) (IsNobodys s k.to l) error) c.as_slice.ensures.value c.in-Err-read_answer.ensures.refused in
+    let refused_by = subst (λ l. IsCause (IsNoJson l) (IsNoList c.exits-exits.result l) (IsNobodys s k.to c.exits-exits.result l) error) c.as_slice.ensures.value c.in-Err-read_answer.ensures.refused in
+    let refused = subst (λ e. IsCause (IsNoJson line) (IsNoList e line) (IsNobodys s k.to e line) error) (c.exits-exits.ensures asks.0 asks.1) refused_by in
     IfOk-weaker c.no_answer.result _ _
     (λ halt stops.
     stops_with s c.args.setting.now.least_delay w k c.in-Some.ensures.first.0 asks.0 c.saturating_add-place.result c.in-Some.ensures.first.1 asks.1 c.saturating_add-place.ensures c.requires.none _ _

@@ -1,11 +1,9 @@
-use Rattle.std.proofs.Common.{◌<◌, length, Some, ap, ◌∙◌, sym, refl, arith}
-use Rattle.std.specs.Option.{option_map}
+use Rattle.std.proofs.Common.{◌<◌, length, ap, ◌∙◌, sym, refl, arith}
 use Rattle.std.specs.FinMap.{get}
 use Rattle.std.proofs.lemmas.Option.{slice_get_read}
-use Rattle.drive_process.specs.Process.{Process}
 use Rattle.drive_world.specs.WorldOf.{by_member}
 use Rattle.drive_world.proofs.ByMember.{nobody_past, receiver_at}
-use Rattle.drive_world.proofs.processes.Processes.phase.Goals as goal
+use Rattle.drive_world.proofs.processes.Processes.get.Goals as goal
 
 pub returns-then-place-len : goal.returns-then-place-len
 returns-then-place-len c =
@@ -14,10 +12,7 @@ returns-then-place-len c =
     let low = c.if-place-len.true in
     let count = c.len.ensures in
     let within : i < length ps = omega (arith, low, count) in
-    sym
-    (ap (option_map (λ (p : Process). p.phase))
-    (ap (get (by_member ps)) (sym c.index-place.ensures) ∙ receiver_at ps i c.index.result.now (slice_get_read ps (length ps) i c.index.result.now refl within c.index.ensures))
-    ∙ ap Some (sym c.phase.ensures))
+    sym (ap (get (by_member ps)) (sym c.index-place.ensures) ∙ receiver_at ps i c.index.result.now (slice_get_read ps (length ps) i c.index.result.now refl within c.index.ensures))
 
 pub returns-else-place-len : goal.returns-else-place-len
 returns-else-place-len c =
@@ -25,4 +20,4 @@ returns-else-place-len c =
     let past = c.if-place-len.false in
     let count = c.len.ensures in
     let place = c.index-place.ensures in
-    sym (ap (option_map (λ (p : Process). p.phase)) (nobody_past ps c.args.member.now (omega (arith, past, count, place))))
+    sym (nobody_past ps c.args.member.now (omega (arith, past, count, place)))
