@@ -16,7 +16,7 @@ from test_model_drive import rows_but_dials
 from worked import scenario_of
 
 HEAD = b'moment,member,from,number,what,about,value,lost\n'
-RUNS = 20
+RUNS = 300
 SEED = 20261130
 SECONDS = 60
 ANSWERS = 40
