@@ -1,14 +1,16 @@
 #!/usr/bin/env python3
 """Measures the program on quiet and busy clusters of growing size.
 
-    bench/run.py [--program FILE] [--seconds S] [--sizes 64,256,512,1024] [--counts | --entries N] [-- WORDS]
+    bench/run.py [--program FILE] [--seconds S] [--sizes 64,256,512,1024] [--counts | --entries N [--version V]] [-- WORDS]
 
 The program is the one that ./swimsim has built, or FILE; nothing is built here. Each scenario simulates S seconds
 (10 without it), a tick being a millisecond. WORDS, such as --workers 4, are handed on to the program.
-With --entries each line is a quiet cluster of 300 members with N entries of one kind: pauses, slow times, or cuts. They lie past
-the end, or each is met. A pause of 24,000 entries that touch follows; then 100 groups of three members with a path for each of
-9,900 pairs, 4,096 members that crash or leave past the end, and 4,096 groups of one member up to moment 0. Each is compared
-with the same cluster without the entries, by the least processor time of nine runs, by turns.
+With --entries each line is a cluster of 300 members with memberlist's LAN defaults, of whose messages two of a hundred are
+lost, and N entries of one kind: pauses, slow times, or cuts. They lie past the end, or each is met; with --version 4 there are
+blocks, too, and restarts of members that run, past the end. A pause of 24,000 entries that touch follows; then 100 groups of
+three members with a path for each of 9,900 pairs, 4,096 members that crash or leave past the end, and 4,096 groups of one
+member up to moment 0. Each is compared with the same cluster without the entries, by the least processor time of nine runs, by
+turns; also per row, where the entries change what happens.
 
 A new process begins as a copy of this script, so peak memory below the script's own isn't seen, and is printed as <14 or so.
 
@@ -64,45 +66,48 @@ def busy_cluster(members, end):
     return text
 
 
+def lan_cluster(groups, members, end, version):
+    """So many groups of so many members with memberlist's LAN defaults; two of a hundred messages are lost."""
+    text = head(end, version, timeout=500, helpers=3, fallback=True, carry=20, lambda_=4, spread=1000)
+    text += table('suspicion', alpha=4, beta=6) + table('gossip', interval=200, nodes=3, dead=30_000, push=30_000)
+    text += table('lifeguard', probe=True, suspicion=True, buddy=True, ceiling=7, confirmations=2, nack_percent=100)
+    text += table('stream', connect=1000, again=200) + table('link', delay=1, jitter=1, loss=20_000)
+    return text + ''.join(item('group', name=f'n{number}', count=members) for number in range(groups))
+
+
 # what a text may name many times: of each member in turn, for a tick
 ENTRIES = {
-    'pause': '[[pause]]\nmember = "n-{member}"\nfrom = {at}\nuntil = {over}\n',
-    'slow': '[[slow]]\nmember = "n-{member}"\nfrom = {at}\nuntil = {over}\nextra = 1\n',
-    'cut': '[[cut]]\nfrom = "n"\nto = "n"\nat = {at}\nuntil = {over}\n',
+    'pause': '[[pause]]\nmember = "n0-{member}"\nfrom = {at}\nuntil = {over}\n',
+    'slow': '[[slow]]\nmember = "n0-{member}"\nfrom = {at}\nuntil = {over}\nextra = 1\n',
+    'cut': '[[cut]]\nfrom = "n0"\nto = "n0"\nat = {at}\nuntil = {over}\n',
+    'block': '[[block]]\nmember = "n0-{member}"\nfrom = {at}\nuntil = {over}\n',
+    'restart': '[[restart]]\nmember = "n0-{member}"\nat = {at}\n',
 }
+# those that versions 1 to 3 have, and those of which each that is met changes what happens from then on
+EARLIER, LATE_ALONE = ('pause', 'slow', 'cut'), ('restart',)
 
 
-def with_entries(kind, entries, first, step, end):
-    """A quiet cluster of 300 members with so many entries of a kind, the first at a moment, and each so many ticks after the last."""
-    text = quiet_cluster(300, end).replace('version = 1', 'version = 3')
-    for number in range(entries):
-        at = first + number * step
-        text += ENTRIES[kind].format(member=number % 300, at=at, over=at + 1)
-    return text
+def with_entries(kind, entries, first, step, plain):
+    """A cluster with so many entries of a kind, the first at a moment, and each so many ticks after the last."""
+    moments = (first + number * step for number in range(entries))
+    return plain + ''.join(ENTRIES[kind].format(member=number % 300, at=at, over=at + 1) for number, at in enumerate(moments))
 
 
-def touching_pauses(entries, end):
+def touching_pauses(entries, plain):
     """The same with one pause, in so many entries of which each begins when the one before is over."""
-    text = quiet_cluster(300, end).replace('version = 1', 'version = 3')
-    return text + ''.join(ENTRIES['pause'].format(member=0, at=at, over=at + 1) for at in range(1, entries + 1))
+    return plain + ''.join(ENTRIES['pause'].format(member=0, at=at, over=at + 1) for at in range(1, entries + 1))
 
 
-def groups_of(groups, members, end):
-    """So many groups of so many members."""
-    text = quiet_cluster(members, end).replace('version = 1', 'version = 3')
-    return text + ''.join(item('group', name=f'g{number}', count=members) for number in range(1, groups))
-
-
-def with_paths(groups, members, end):
+def with_paths(groups, plain):
     """The same, with a path like the link for each two groups."""
-    names = ['n'] + [f'g{number}' for number in range(1, groups)]
-    paths = (item('path', from_=one, to=other, delay=1, jitter=4) for one in names for other in names if one != other)
-    return groups_of(groups, members, end) + ''.join(paths)
+    names = [f'n{number}' for number in range(groups)]
+    paths = (item('path', from_=one, to=other, delay=1, jitter=1, loss=20_000) for one in names for other in names if one != other)
+    return plain + ''.join(paths)
 
 
-def with_ends(kind, members, end):
+def with_ends(kind, members, end, plain):
     """One group in which each member crashes or leaves past the end."""
-    return groups_of(1, members, end) + ''.join(item(kind, member=f'n-{number}', at=end + 1) for number in range(members))
+    return plain + ''.join(item(kind, member=f'n0-{number}', at=end + 1) for number in range(members))
 
 
 # what cachegrind simulates: else it takes the sizes of this machine's caches
@@ -218,29 +223,39 @@ def least_times(program, words, texts, folder):
     return found
 
 
-def entries_of(entries, end):
+def timed_entries(entries, end, plain, version):
+    """The cluster with entries of each kind that the version has, past the end and met."""
+    for kind in ENTRIES if version == 4 else EARLIER:
+        yield f'{kind}, late', entries, with_entries(kind, entries, end + 1, 2, plain)
+        if kind not in LATE_ALONE:
+            yield f'{kind}, met', entries, with_entries(kind, entries, 1, max(2, end // max(1, entries)), plain)
+    yield 'touching pauses', 24000, touching_pauses(24000, plain)
+
+
+def entries_of(entries, end, version):
     """Each cluster without entries, and what it has with them: a name, how many entries, and the text."""
-    timed = [(f'{kind}, {when}', entries, with_entries(kind, entries, first, step, end))
-             for kind in ENTRIES
-             for when, first, step in (('late', end + 1, 2), ('met', 1, max(2, end // max(1, entries))))]
-    timed.append(('touching pauses', 24000, touching_pauses(24000, end)))
-    yield 'none, 300', with_entries('pause', 0, 0, 0, end), timed
-    yield 'none, 100 groups', groups_of(100, 3, end), [('paths', 9900, with_paths(100, 3, end))]
-    ends = [(f'{kind}, late', 4096, with_ends(kind, 4096, end // 10)) for kind in ('crash', 'leave')]
-    yield 'none, 4096', groups_of(1, 4096, end // 10), ends
-    yield 'none, moment 0', groups_of(1, 4096, 0), [('groups', 4096, groups_of(4096, 1, 0))]
+    sites, large = lan_cluster(100, 3, end, version), lan_cluster(1, 4096, end // 10, version)
+    plain = lan_cluster(1, 300, end, version)
+    yield 'none, 300', plain, list(timed_entries(entries, end, plain, version))
+    yield 'none, 100 groups', sites, [('paths', 9900, with_paths(100, sites))]
+    ends = [(f'{kind}, late', 4096, with_ends(kind, 4096, end // 10, large)) for kind in ('crash', 'leave')]
+    yield 'none, 4096', large, ends
+    yield 'none, moment 0', lan_cluster(1, 4096, 0, version), [('groups', 4096, lan_cluster(4096, 1, 0, version))]
 
 
-def print_entries(program, words, entries, end, folder):
-    print(f'quiet clusters, {end // 1000} s simulated (a tenth of it with 4096 members)')
+def print_entries(program, words, options, folder):
+    end = options.seconds * 1000
+    print(f'clusters with losses, {end // 1000} s simulated (a tenth of it with 4096 members)')
     print(f'{"entries":>16}{"number":>8}{"rows":>11}{"seconds":>10}   of those with none')
-    for plain_name, plain, entered in entries_of(entries, end):
+    for plain_name, plain, entered in entries_of(options.entries, end, options.version):
         lines = [(plain_name, 0, plain), *entered]
         found = least_times(program, words, [text for _, _, text in lines], folder)
-        none = found[0][1]
+        none_rows, none = found[0]
         for (name, number, _), (rows, seconds) in zip(lines, found):
-            ratio = f'   x{seconds / none:.2f}' if number else ''
-            print(f'{name:>16}{number:>8}{rows:>11}{seconds:>10.2f}{ratio}', flush=True)
+            told = f'   x{seconds / none:.2f}' if number else ''
+            if rows != none_rows:
+                told += f', x{seconds * none_rows / none / rows:.2f} per row'
+            print(f'{name:>16}{number:>8}{rows:>11}{seconds:>10.2f}{told}', flush=True)
 
 
 def main():
@@ -254,6 +269,7 @@ def main():
     parser.add_argument('--sizes', default='64,256,512,1024')
     parser.add_argument('--counts', action='store_true')
     parser.add_argument('--entries', type=int)
+    parser.add_argument('--version', type=int, choices=(3, 4), default=3)
     options = parser.parse_args(own)
     program = shutil.which(options.program)
     if program is None:
@@ -264,7 +280,7 @@ def main():
     sizes = [int(size) for size in options.sizes.split(',')]
     with tempfile.TemporaryDirectory() as folder:
         if options.entries is not None:
-            print_entries(program, words, options.entries, options.seconds * 1000, Path(folder))
+            print_entries(program, words, options, Path(folder))
             return
         for name in CLUSTERS:
             show(name, program, words, sizes, options.seconds * 1000, Path(folder))

@@ -13,3 +13,5 @@ mod Troubles
 mod Deciding
 mod Living
 mod Listing
+pub mod Telling
+mod Passing

@@ -11,3 +11,4 @@ pub mod Observed
 pub mod Cluster
 pub mod OpenPlaces
 pub mod Lines
+pub mod Telling

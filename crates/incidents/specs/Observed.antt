@@ -1,5 +1,5 @@
 -- What the observer keeps of the rows so far.
-use Rattle.std.specs.Prelude.{◌≤◌, ◌^◌, List}
+use Rattle.std.specs.Prelude.{◌+◌, ◌≤◌, ◌^◌, false, List}
 use Rattle.trace.specs.declared.row.Row.{Row}
 use Rattle.incidents.specs.declared.incidents.Incidents.{Incidents}
 use Rattle.incidents.specs.Kept.{count_of, AreLivesOf, AreDoubtsOf, AreCountsOf}
@@ -14,3 +14,10 @@ pub record AreIncidentsOf (incidents : Incidents) (rows : List Row) : Type 0 whe
   pub counts : AreCountsOf incidents.counts incidents.cluster rows
   pub whole : IsWholenessOf incidents.whole incidents.cluster rows
   pub lines : AreLinesOf incidents.lines (count_of incidents.cluster) rows
+
+-- what is kept, with one row more that tells nothing
+abbrev pub passed : Incidents → Incidents
+passed incidents = record incidents {
+  counts = record incidents.counts { rows = incidents.counts.rows + 1 };
+  whole = record incidents.whole { is_beginning = false };
+}

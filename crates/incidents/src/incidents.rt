@@ -7,7 +7,7 @@ ghost use Rattle.incidents.specs.Whole.{whole_since};
 ghost use Rattle.incidents.specs.Returns.{returns_of};
 ghost use Rattle.incidents.specs.Kept.{count_of, placed, IsToldOf};
 ghost use Rattle.incidents.specs.Cluster.{IsSameCluster};
-ghost use Rattle.incidents.specs.Observed.{AreIncidentsOf};
+ghost use Rattle.incidents.specs.Observed.{passed, AreIncidentsOf};
 
 use crate::cluster::Cluster;
 use crate::counts::{Counts, Told, dies_well};
@@ -15,7 +15,7 @@ use crate::doubts::Doubts;
 use crate::lines::Lines;
 use crate::lives::Lives;
 use crate::returns::Return;
-use crate::rows::{both, is_doubt};
+use crate::rows::{both, is_doubt, reports_nothing};
 use crate::wholeness::Wholeness;
 use base::limits::COUNTER_LIMIT;
 use base::{Fault, MemberId, Memory, Moment};
@@ -64,6 +64,7 @@ impl Incidents {
     /// Takes in the next row, which names members of the cluster alone.
     ///
     /// Faults: `Memory`; `CounterOverflow` where there are 2^63 rows already.
+    #[inline(always)]
     pub fn add(&mut self, row: &Row) -> Result<(), Fault>
         requires kept { (rows : List AnyRow) × AreIncidentsOf self.old rows }
         requires member { row.now.member < count_of self.old.cluster }
@@ -77,6 +78,33 @@ impl Incidents {
         if self.counts.rows >= COUNTER_LIMIT {
             return Err(Fault::CounterOverflow);
         }
+        if reports_nothing(row) {
+            self.pass();
+            return Ok(());
+        }
+        self.take_in(row)?;
+        Ok(())
+    }
+
+    /// Counts a row that tells nothing.
+    #[inline(always)]
+    fn pass(&mut self)
+        requires { self.old.counts.rows < 2 ^ 63 }
+        ensures { self.new ≡ passed self.old }
+    {
+        self.counts.rows += 1;
+        self.whole.is_beginning = false;
+    }
+
+    /// Takes in what the next row tells.
+    fn take_in(&mut self, row: &Row) -> Result<(), Memory>
+        requires kept { (rows : List AnyRow) × AreIncidentsOf self.old rows }
+        requires member { row.now.member < count_of self.old.cluster }
+        requires about { IfSome row.now.about (λ j. j < count_of self.old.cluster) }
+        requires rows { self.old.counts.rows < 2 ^ 63 }
+        ensures ok { OnOk result ((rows : List AnyRow) → AreIncidentsOf self.old rows → AreIncidentsOf self.new (rows ++ row.now ∷ [])) }
+        ensures cluster { self.new.cluster ≡ self.old.cluster }
+    {
         let told = self.told(row);
         self.doubts.follow(&self.lives, row)?;
         self.whole.follow(&self.cluster, &mut self.lives, row)?;
@@ -86,6 +114,7 @@ impl Incidents {
     }
 
     /// Whether a row names members of the cluster alone, so that it may be added.
+    #[inline(always)]
     pub fn has_members_of(&self, row: &Row) -> bool
         ensures member { result ≡ true → row.now.member < count_of self.now.cluster }
         ensures about { result ≡ true → IfSome row.now.about (λ j. j < count_of self.now.cluster) }

@@ -16,3 +16,4 @@ mod wholeness;
 pub use cluster::{Cluster, Trouble};
 pub use incidents::Incidents;
 pub use returns::Return;
+pub use rows::reports_nothing;

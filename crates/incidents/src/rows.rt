@@ -3,6 +3,7 @@ ghost use Rattle.std.specs.Prelude.{◌≡◌, ◌&&◌, ◌||◌, ◌≤◌};
 ghost use Rattle.trace_rows.specs.Rows.{has_kind};
 ghost use Rattle.incidents.specs.Lives.{weight, begins, ends, is_turn};
 ghost use Rattle.incidents.specs.Views.{views, claims, is_one_of};
+ghost use Rattle.incidents.specs.Telling.{reports_nothing};
 
 use trace::{Row, What};
 use trace_rows::has_kind;
@@ -52,6 +53,27 @@ pub(crate) fn is_claim(row: &Row) -> bool
     matches!(
         row.what,
         What::Alive | What::Confirm | What::Left | What::Forget
+    )
+}
+
+/// Whether a row begins or ends no life, says nothing of another member, and isn't one of a first
+/// table. Then incidents and returns are as before.
+#[inline(always)]
+pub fn reports_nothing(row: &Row) -> bool
+    ensures { result ≡ reports_nothing row.now }
+{
+    !matches!(
+        row.what,
+        What::Start
+            | What::Restart
+            | What::Crash
+            | What::Leave
+            | What::Joined
+            | What::Alive
+            | What::Suspect
+            | What::Confirm
+            | What::Left
+            | What::Forget
     )
 }
 

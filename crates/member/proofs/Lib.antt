@@ -13,6 +13,7 @@ pub mod Tries
 pub mod Tables
 pub mod Ways
 pub mod Ridings
+mod KnownOnes
 pub mod Names
 pub mod FittingOnes
 pub mod Fair

@@ -1,17 +1,21 @@
 -- What rides on a message behind what was taken before: the claims leave the intents as they were.
-use Rattle.std.proofs.Common.{◌≡◌, ℕ, List, [], ◌∷◌, ◌++◌, length, take, Option, Some, None, refl, sym, ap, ◌∙◌}
-use Rattle.std.specs.FinMap.{empty}
+use Rattle.std.proofs.Common.{◌≡◌, ℕ, Bool, true, false, ◌&&◌, nat_eq, List, [], ◌∷◌, ◌++◌, length, map, take, Option, Some, None, refl, sym, ap, ◌∙◌, arith}
+use Rattle.std.specs.FinMap.{empty, len, empty_of_len}
+use Rattle.std.proofs.lemmas.Bool.{eqb-true, false≢true}
 use Rattle.scenario.specs.Setup.{Setup}
 use Rattle.scenario.specs.declared.settings.Queue.{Queue}
 use Rattle.incarnation.specs.declared.Update.{Update}
-use Rattle.piggyback.specs.Picked.{HeldUpdates, waiting}
+use Rattle.piggyback.specs.Picked.{HeldUpdates, picked, waiting}
 use Rattle.piggyback.proofs.Holding.{picked-empty, left-empty}
+use Rattle.broadcast_queue.specs.Broadcasts.{Queue as Broadcasts, after_pick}
+use Rattle.broadcast_queue.specs.Items.{those_that_fit}
+use Rattle.broadcast_queue.specs.declared.items.Item.{Item}
 use Rattle.broadcast_queue.specs.declared.items.Measure.{Measure}
 use Rattle.broadcast_queue.specs.declared.items.Measure.TheVariants.{Items, Bytes}
 use Rattle.member.specs.declared.riding.Bearer.{Bearer}
 use Rattle.member.specs.State.{State}
 use Rattle.member.specs.Picks.{limit_of}
-use Rattle.member.specs.Riding.{measure_of, room_of, claims_for, without_claims, room_behind, intents_that_fit, intents_for, without_intents, intents_behind, both_for, without_both}
+use Rattle.member.specs.Riding.{measure_of, room_of, has_no_claims, is_all_told, claims_for, without_claims, room_behind, intents_that_fit, intents_for, without_intents, intents_behind, both_for, without_both}
 
 pub same_intents : (s : Setup) (queue : Option Queue) (room : ℕ) (measure : Measure) (left : ℕ) (t : State) → intents_for s measure left (without_claims s queue room t) ≡ intents_for s measure left t
 same_intents s None room Items left t = refl
@@ -86,3 +90,55 @@ module _ (s : Setup) (me : ℕ) (bearer : Bearer) (t : State) (queue : Option Qu
   left_alone v is_v none =
       both_left (intents_behind s me bearer t) v v is_v refl
       (sym (without_none s (intents_behind s me bearer t) v (ap (λ (w : State). w.life.intents) is_v ∙ same_held s queue room t ∙ none)))
+
+-- ---- where nothing waits
+
+both_first : (a b : Bool) → (a && b) ≡ true → a ≡ true
+both_first true b are = refl
+both_first false b are = absurd (false≢true are)
+
+both_second : (a b : Bool) → (a && b) ≡ true → b ≡ true
+both_second true b are = are
+both_second false b are = absurd (false≢true are)
+
+none_of_length : {A : Type 0} (xs : List A) → length xs ≡ 0 → xs ≡ []
+none_of_length [] none = refl
+none_of_length (x ∷ xs) none = absurd (omega (arith, none))
+
+none_queued : (t : State) → nat_eq (length t.life.queue.items) 0 ≡ true → t.life.queue.items ≡ []
+none_queued t none = none_of_length t.life.queue.items (eqb-true (length t.life.queue.items) 0 none)
+
+none_held : (held : HeldUpdates) → nat_eq (len held) 0 ≡ true → held ≡ empty
+none_held held none = empty_of_len held (eqb-true (len held) 0 none)
+
+no_claims : (s : Setup) (queue : Option Queue) (room : ℕ) (t : State) → has_no_claims queue t ≡ true → claims_for s queue room t ≡ []
+no_claims s None room t none = picked-empty t.buffer room (limit_of s t) None (none_held t.buffer none) refl
+no_claims s (Some q) room t none = ap (λ (items : List Item). map (λ it. it.update) (those_that_fit (measure_of (Some q)) room items)) (none_queued t none)
+
+after_none : (limit : ℕ) (queue : Broadcasts) → after_pick true [] limit queue ≡ queue
+unfolding after_pick
+after_none limit queue = refl
+
+without_no_claims : (s : Setup) (queue : Option Queue) (room : ℕ) (t : State) → has_no_claims queue t ≡ true → without_claims s queue room t ≡ t
+without_no_claims s None room t none =
+    ap (λ (held : HeldUpdates). record t { buffer = held }) (left-empty t.buffer (picked t.buffer room (limit_of s t) None) (limit_of s t) (none_held t.buffer none))
+without_no_claims s (Some q) room t none =
+    ap (λ (after : Broadcasts). record t { life = record t.life { queue = after } })
+    (ap (λ (items : List Item). after_pick true (those_that_fit (measure_of (Some q)) room items) (limit_of s t) t.life.queue) (none_queued t none) ∙ after_none (limit_of s t) t.life.queue)
+
+-- nothing rides there
+pub nothing_rides : (s : Setup) (me : ℕ) (bearer : Bearer) (t : State) → is_all_told s t ≡ true → [] ≡ both_for s me bearer t
+unfolding both_for
+nothing_rides s me bearer t told =
+    let room = room_of s me bearer s.queue in
+    let measure = measure_of s.queue in
+    sym (ap (λ (l : List Update). l ++ intents_behind s me bearer t) (no_claims s s.queue room t (both_first _ _ told))
+    ∙ no_intents s measure (room_behind s s.queue measure room t) t (none_held t.life.intents (both_second _ _ told)))
+
+-- and nothing changes
+pub nothing_changes : (s : Setup) (me : ℕ) (bearer : Bearer) (t : State) → is_all_told s t ≡ true → t ≡ without_both s me bearer t
+unfolding without_both
+nothing_changes s me bearer t told =
+    let room = room_of s me bearer s.queue in
+    sym (without_none s (intents_behind s me bearer t) (without_claims s s.queue room t) (same_held s s.queue room t ∙ none_held t.life.intents (both_second _ _ told))
+    ∙ without_no_claims s s.queue room t (both_first _ _ told))

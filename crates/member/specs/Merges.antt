@@ -1,6 +1,7 @@
 -- How a member merges the table of another by memberlist 0.5.0's and Serf's rules (state.go: mergeState; Serf, delegate.go: MergeRemoteState): deaths are suspected alone, but who has
 -- left has left by its own word; with Serf one that isn't up here then was about to leave.
-use Rattle.std.specs.Prelude.{ℕ, ◌&&◌, Bool, not, nat_eq, if◌then◌else◌, List, [], ◌∷◌, Option, Some, None}
+use Rattle.std.specs.Prelude.{ℕ, ◌&&◌, Bool, false, not, nat_eq, nat_le, if◌then◌else◌, List, [], ◌∷◌, Option, Some, None}
+use Rattle.std.specs.Option.{option_map_or}
 use Rattle.std.specs.FinMap.{get}
 use Rattle.base.specs.declared.key.Key.{Key}
 use Rattle.scenario.specs.Setup.{Setup}
@@ -22,6 +23,10 @@ entry_claim me u =
     if is_left u.claim then record u { accuser = u.subject }
     else if is_alive u.claim then record u { accuser = me }
     else record u { claim = Suspect; accuser = me }
+
+-- whether an entry says of another member that it is alive, who is held alive by its word or a later one
+abbrev pub is_known_alive : ℕ → Update → State → Bool
+is_known_alive me u t = is_alive u.claim && not (nat_eq u.subject me) && option_map_or (λ held. is_alive held.0 && nat_le u.inc held.1) (get t.table u.subject) false
 
 -- whether an entry says of another member that it has left, which isn't held to be up here, nor suspected
 abbrev pub is_left_and_not_up : ℕ → Update → State → Bool

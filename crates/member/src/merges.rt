@@ -1,7 +1,7 @@
 //! How a member merges the table of another by memberlist 0.5.0's and Serf's rules.
 ghost use Rattle.std.specs.Prelude.{◌≡◌, ◌<◌, OnOk};
 ghost use Rattle.member.specs.Makes.{AreAboutMembers, IsMade, IsMember, KnowsMembers, Makes};
-ghost use Rattle.member.specs.Merges.{entry_claim, entry_merged, is_left_and_not_up, leave_noted, push_merged, table_merged};
+ghost use Rattle.member.specs.Merges.{entry_claim, entry_merged, is_known_alive, is_left_and_not_up, leave_noted, push_merged, table_merged};
 ghost use Rattle.member.specs.Processes.{pull_merged};
 ghost use Rattle.member.specs.StateOf.{state_of};
 
@@ -41,8 +41,39 @@ impl Member {
         Ok(())
     }
 
-    /// Applies an entry of another's table.
+    /// Whether an entry says of another member that it is alive, who is held alive by its word or a later one.
+    fn is_known_alive(&self, here: &Here, entry: &Update) -> bool
+        ensures { result ≡ is_known_alive here.now.key.to entry.now (state_of self.now) }
+    {
+        if !is_alive(entry.claim) || entry.subject == here.key.to {
+            return false;
+        }
+        match self.table.get(entry.subject) {
+            Some(held) => is_alive(held.0) && entry.inc <= held.1,
+            None => false,
+        }
+    }
+
+    /// Applies an entry of another's table: nearly always there is nothing new in it.
+    #[inline(always)]
     fn merge_entry(
+        &mut self,
+        effects: &mut Effects,
+        here: &Here,
+        entry: &Update,
+    ) -> Result<(), StepError>
+        requires known { KnowsMembers here.now self.old }
+        requires member { IsMember here.now entry.now.subject }
+        ensures { Makes here.now result self.old effects.old self.new effects.new (entry_merged here.now.scenario.now here.now.key entry.now) }
+    {
+        if self.is_known_alive(here, entry) {
+            return Ok(());
+        }
+        self.merge_news(effects, here, entry)
+    }
+
+    /// The same, where there may be something new in it.
+    fn merge_news(
         &mut self,
         effects: &mut Effects,
         here: &Here,

@@ -230,7 +230,21 @@ impl Member {
     }
 
     /// The claims and the intents that ride on a message.
+    #[inline(always)]
     fn pick_both(&mut self, here: &Here, bearer: Bearer) -> Result<Updates, StepError>
+        requires { KnowsMembers here.now self.old }
+        ensures updates { IfOk result (λ updates. updates ≡ both_for here.now.scenario.now here.now.key.to bearer (state_of self.old)) }
+        ensures state { IsMade result (state_of self.new) (without_both here.now.scenario.now here.now.key.to bearer (state_of self.old)) }
+        ensures kept { OnOk result (KnowsMembers here.now self.new) }
+    {
+        if self.is_all_told(here) {
+            return Ok(Updates::of(Vec::new(here.alloc)));
+        }
+        self.pick_waiting(here, bearer)
+    }
+
+    /// The same, where some wait.
+    fn pick_waiting(&mut self, here: &Here, bearer: Bearer) -> Result<Updates, StepError>
         requires { KnowsMembers here.now self.old }
         ensures updates { IfOk result (λ updates. updates ≡ both_for here.now.scenario.now here.now.key.to bearer (state_of self.old)) }
         ensures state { IsMade result (state_of self.new) (without_both here.now.scenario.now here.now.key.to bearer (state_of self.old)) }

@@ -1,6 +1,7 @@
 //! What version 4 of the format asks of a run besides: members that start again, and incidents.
 ghost use Rattle.std.specs.Prelude.{◌≡◌, true, ◌<◌, ◌^◌, ◌++◌, ◌∷◌, [], List, length, Some, IfOk, IfSome, OnOk};
 ghost use Rattle.incidents.specs.Cluster.{IsSameCluster};
+ghost use Rattle.incidents.specs.Kept.{count_of};
 ghost use Rattle.trace.specs.declared.row.Row.{Row as AnyRow};
 ghost use Rattle.reports.specs.Held.{AreRevivalsOf};
 ghost use Rattle.reports.specs.Absences.{as_confirm, with_left, with_others_left};
@@ -9,7 +10,7 @@ ghost use Rattle.reports.specs.Watched.{IsWatchOf};
 use crate::absences::Absences;
 use crate::revivals::Revivals;
 use base::{Fault, Memory};
-use incidents::{Cluster, Incidents};
+use incidents::{Cluster, Incidents, reports_nothing};
 use scenario::{Scenario, Version};
 use std::alloc::Global;
 use trace::{Row, What};
@@ -39,7 +40,9 @@ impl Watch {
         })
     }
 
-    /// Takes in the next row. After a refusal nothing is known of it.
+    /// Takes in the next row. After a refusal nothing is known of it. Nearly all rows tell nothing: they
+    /// are only counted.
+    #[inline(always)]
     fn follow(&mut self, row: &Row) -> Result<(), Fault>
         requires kept { (rows : List AnyRow) × IsWatchOf self.old rows × (length rows < 2 ^ 63) }
         ensures { OnOk result ((rows : List AnyRow) → IsWatchOf self.old rows → IsWatchOf self.new (rows ++ row.now ∷ [])) }
@@ -47,6 +50,19 @@ impl Watch {
         if !self.incidents.has_members_of(row) {
             return Err(Fault::Memory);
         }
+        if reports_nothing(row) {
+            return self.incidents.add(row);
+        }
+        self.hear(row)
+    }
+
+    /// The same of a row that tells something.
+    fn hear(&mut self, row: &Row) -> Result<(), Fault>
+        requires kept { (rows : List AnyRow) × IsWatchOf self.old rows × (length rows < 2 ^ 63) }
+        requires member { row.now.member < count_of self.old.incidents.cluster }
+        requires about { IfSome row.now.about (λ j. j < count_of self.old.incidents.cluster) }
+        ensures { OnOk result ((rows : List AnyRow) → IsWatchOf self.old rows → IsWatchOf self.new (rows ++ row.now ∷ [])) }
+    {
         let of_others = with_others_left(row);
         let of_all = with_left(row);
         self.absences.follow(&of_others)?;
@@ -86,6 +102,7 @@ fn new_watch(alloc: Global, scenario: &Scenario) -> Option<Watch>
 }
 
 /// Takes in the next row, as long as there is memory for that.
+#[inline(always)]
 pub(crate) fn see(watch: &mut Option<Watch>, row: &Row)
     requires { (rows : List AnyRow) × IfSome watch.old (λ w. IsWatchOf w rows) × (length rows < 2 ^ 63) }
     ensures { (rows : List AnyRow) → IfSome watch.old (λ w. IsWatchOf w rows) → IfSome watch.new (λ w. IsWatchOf w (rows ++ row.now ∷ [])) }
@@ -97,6 +114,7 @@ pub(crate) fn see(watch: &mut Option<Watch>, row: &Row)
 }
 
 /// Takes in the next row. After a refusal nothing is known of what is kept.
+#[inline(always)]
 fn take_in(watch: &mut Option<Watch>, row: &Row) -> Result<(), Fault>
     requires { (rows : List AnyRow) × IfSome watch.old (λ w. IsWatchOf w rows) × (length rows < 2 ^ 63) }
     ensures { OnOk result ((rows : List AnyRow) → IfSome watch.old (λ w. IsWatchOf w rows) → IfSome watch.new (λ w. IsWatchOf w (rows ++ row.now ∷ []))) }

@@ -16,7 +16,9 @@ use Rattle.sweep_plan.specs.Sweep.{KeyValues, Sweep}
 use Rattle.sweep_plan.specs.Asked.{AsksForSeeds, IsRange, IsWidth, axis_text, names_text, seeds_text, swept_words}
 use Rattle.sweep_plan.specs.Axes.{axes_of}
 use Rattle.sweep_plan.specs.declared.items.ItemName.{ItemName}
+use Rattle.sweep_plan.specs.SetKeys.{entry_keys, key_spelling}
 use Rattle.sweep_plan.specs.declared.keys.SweptKey.{SweptKey}
+use Rattle.sweep_plan.specs.declared.set_keys.SetKey.{SetKey}
 use Rattle.sweep_plan.specs.declared.seeds.Seeds.{Seeds}
 use Rattle.sweep_plan.proofs.Apart.{named_itself, not_within}
 use Rattle.sweep_plan.proofs.Letters.{is_key_byte, name_lacks}
@@ -142,15 +144,15 @@ unfolding settable key_named key_rules_of spelling_of
 unnamed = refl
 
 tabled_each : AllByRecursion (λ j. is_some j.table ≡ true) listed
-unfolding listed key_rules_of spelling_of
-tabled_each = (refl, (refl, (refl, (refl, (refl, (refl, (refl, (refl, (refl, (refl, (refl, (refl, (refl, (refl, (refl, (refl, (refl, tt)))))))))))))))))
+unfolding listed key_rules_of spelling_of entry_keys
+tabled_each = (refl, (refl, (refl, (refl, (refl, (refl, (refl, (refl, (refl, (refl, (refl, (refl, (refl, (refl, (refl, (refl, (refl, (refl, (refl, (refl, (refl, (refl, (refl, (refl, (refl, (refl, (refl, (refl, (refl, (refl, (refl, (refl, (refl, (refl, (refl, (refl, (refl, (refl, (refl, (refl, (refl, (refl, (refl, (refl, (refl, tt)))))))))))))))))))))))))))))))))))))))))))))
 
 -- a key of a table has a dot in its name
-not_of_table : (table : Option FormatKey) (item : Option ItemName) (k : FormatKey) → is_some table ≡ true → key_name (record { table = table; item = item; key = k }) ≡ codes "until" → ⊥
+not_of_table : (table : Option FormatKey) (item : Option ItemName) (k : SetKey) → is_some table ≡ true → key_name (record { table = table; item = item; key = k }) ≡ codes "until" → ⊥
 not_of_table None item k some same = absurd (false≢true some)
 not_of_table (Some t) item k some same =
-    not_within 46 (spelling_of t ++ item_part item) (spelling_of k)
-    (subst (Lacks 46) (sym same ∙ sym (append_assoc (spelling_of t) (item_part item) (46 ∷ spelling_of k))) (lacks_from_test 46 (codes "until") refl))
+    not_within 46 (spelling_of t ++ item_part item) (key_spelling k)
+    (subst (Lacks 46) (sym same ∙ sym (append_assoc (spelling_of t) (item_part item) (46 ∷ key_spelling k))) (lacks_from_test 46 (codes "until") refl))
 
 not_until : (k : SweptKey) → MaySet k → key_name k ≡ codes "until" → ⊥
 not_until k (inl known) same =

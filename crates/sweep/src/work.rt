@@ -3,6 +3,7 @@ ghost use Rattle.std.specs.Prelude.{◌≤◌};
 
 use scenario::Scenario;
 use schema::FormatKey;
+use sweep_plan::SetKey;
 
 /// Some work, about a second of it.
 pub const SECOND_OF_WORK: u64 = 1_000_000;
@@ -40,7 +41,15 @@ fn gossiped(scenario: &Scenario) -> u64 {
 }
 
 /// Whether a key changes how much work a run is.
-pub(crate) fn changes_work(key: FormatKey) -> bool {
+pub(crate) fn changes_work(key: SetKey) -> bool {
+    match key {
+        SetKey::Plain(key) => is_of_size(key),
+        _ => false,
+    }
+}
+
+/// Whether it is a key of how many members there are, how long a run is, or how often they send.
+fn is_of_size(key: FormatKey) -> bool {
     matches!(
         key,
         FormatKey::Count

@@ -10,8 +10,11 @@ use Rattle.schema.specs.declared.schema.FormatKey.{FormatKey}
 use Rattle.schema.specs.declared.schema.FormatKey.TheVariants as key
 use Rattle.sweep_plan.specs.Items.{is_letter, is_item_name, kept_name, item_text}
 use Rattle.sweep_plan.specs.Keys.{in_table, of_item, key_name, key_named, is_named, settable, listed, IsItemKey, MaySet}
+use Rattle.sweep_plan.specs.SetKeys.{entry_keys, key_spelling}
 use Rattle.sweep_plan.specs.declared.keys.SweptKey.{SweptKey}
-use Rattle.sweep_plan.proofs.Letters.{same_byte, spelling_lacks}
+use Rattle.sweep_plan.specs.declared.set_keys.SetKey.{SetKey}
+use Rattle.sweep_plan.specs.declared.set_keys.SetKey.TheVariants as set
+use Rattle.sweep_plan.proofs.Letters.{key_lacks, same_byte, spelling_lacks}
 use Rattle.sweep_plan.proofs.Words.{Lacks, cut_once}
 
 -- ---- keys outside lists
@@ -65,21 +68,22 @@ dotted_name (first ∷ rest) sound =
 
 -- ---- keys of items
 
-in_each : AllByRecursion (λ j. (t : FormatKey) × (x : FormatKey) × (j ≡ in_table t x)) listed
-unfolding listed key_rules_of
-in_each = ((key.Group, key.Count, refl), ((key.Group, key.Start, refl), ((key.Path, key.Delay, refl), ((key.Path, key.Jitter, refl), ((key.Path, key.Loss, refl), ((key.Slow, key.From, refl), ((key.Slow, key.Until, refl), ((key.Slow, key.Extra, refl), ((key.Crash, key.At, refl), ((key.Cut, key.At, refl), ((key.Cut, key.Until, refl), ((key.Leave, key.At, refl), ((key.Pause, key.From, refl), ((key.Pause, key.Until, refl), ((key.Restart, key.At, refl), ((key.Block, key.From, refl), ((key.Block, key.Until, refl), tt)))))))))))))))))
+abbrev InTable : SweptKey → Type 0
+InTable j = (t : FormatKey) × (x : SetKey) × (j ≡ in_table t x)
 
-in_list : (j : SweptKey) → Contains listed j → (t : FormatKey) × (x : FormatKey) × (j ≡ in_table t x)
-in_list j known =
-    All-contains (λ i. (t : FormatKey) × (x : FormatKey) × (i ≡ in_table t x)) listed j
-    (All-from_recursion (λ i. (t : FormatKey) × (x : FormatKey) × (i ≡ in_table t x)) listed in_each) known
+in_each : AllByRecursion InTable listed
+unfolding listed key_rules_of entry_keys
+in_each = ((key.Group, set.Plain key.Count, refl), ((key.Group, set.Plain key.Start, refl), ((key.Path, set.Plain key.Delay, refl), ((key.Path, set.Plain key.Jitter, refl), ((key.Path, set.Plain key.Loss, refl), ((key.Slow, set.Plain key.From, refl), ((key.Slow, set.Plain key.Until, refl), ((key.Slow, set.Plain key.Extra, refl), ((key.Crash, set.Plain key.At, refl), ((key.Cut, set.Plain key.At, refl), ((key.Cut, set.Plain key.Until, refl), ((key.Leave, set.Plain key.At, refl), ((key.Pause, set.Plain key.From, refl), ((key.Pause, set.Plain key.Until, refl), ((key.Restart, set.Plain key.At, refl), ((key.Block, set.Plain key.From, refl), ((key.Block, set.Plain key.Until, refl), ((key.Path, set.Both, refl), ((key.Slow, set.Plain key.Count, refl), ((key.Slow, set.Every, refl), ((key.Slow, set.Lasts, refl), ((key.Slow, set.LastsMost, refl), ((key.Crash, set.Plain key.Count, refl), ((key.Crash, set.Plain key.From, refl), ((key.Crash, set.Plain key.Until, refl), ((key.Crash, set.Each, refl), ((key.Crash, set.Back, refl), ((key.Crash, set.Every, refl), ((key.Cut, set.Both, refl), ((key.Leave, set.Plain key.Count, refl), ((key.Leave, set.Plain key.From, refl), ((key.Leave, set.Plain key.Until, refl), ((key.Leave, set.Each, refl), ((key.Leave, set.Back, refl), ((key.Leave, set.Every, refl), ((key.Pause, set.Plain key.Count, refl), ((key.Pause, set.Every, refl), ((key.Pause, set.Lasts, refl), ((key.Pause, set.LastsMost, refl), ((key.Restart, set.Plain key.Count, refl), ((key.Restart, set.Each, refl), ((key.Block, set.Plain key.Count, refl), ((key.Block, set.Every, refl), ((key.Block, set.Lasts, refl), ((key.Block, set.LastsMost, refl), tt)))))))))))))))))))))))))))))))))))))))))))))
+
+in_list : (j : SweptKey) → Contains listed j → InTable j
+in_list j known = All-contains InTable listed j (All-from_recursion InTable listed in_each) known
 
 abbrev listed_named : List ℕ → Option SweptKey
 listed_named word = find (is_named word) listed
 
 listed_each : AllByRecursion (λ k. listed_named (key_name k) ≡ Some k) listed
-unfolding listed key_rules_of spelling_of
-listed_each = (refl, (refl, (refl, (refl, (refl, (refl, (refl, (refl, (refl, (refl, (refl, (refl, (refl, (refl, (refl, (refl, (refl, tt)))))))))))))))))
+unfolding listed key_rules_of spelling_of entry_keys
+listed_each = (refl, (refl, (refl, (refl, (refl, (refl, (refl, (refl, (refl, (refl, (refl, (refl, (refl, (refl, (refl, (refl, (refl, (refl, (refl, (refl, (refl, (refl, (refl, (refl, (refl, (refl, (refl, (refl, (refl, (refl, (refl, (refl, (refl, (refl, (refl, (refl, (refl, (refl, (refl, (refl, (refl, (refl, (refl, (refl, (refl, tt)))))))))))))))))))))))))))))))))))))))))))))
 
 listed_itself : (k : SweptKey) → Contains listed k → listed_named (key_name k) ≡ Some k
 listed_itself k known = All-contains (λ j. listed_named (key_name j) ≡ Some j) listed k (All-from_recursion (λ j. listed_named (key_name j) ≡ Some j) listed listed_each) known
@@ -125,36 +129,36 @@ few_each = (refl, (refl, (refl, (refl, (refl, (refl, (refl, (refl, (refl, (refl,
 few : (k : SweptKey) → Contains settable k → nat_lt (dots (key_name k)) 2 ≡ true
 few k known = All-contains (λ j. nat_lt (dots (key_name j)) 2 ≡ true) settable k (All-from_recursion (λ j. nat_lt (dots (key_name j)) 2 ≡ true) settable few_each) known
 
-many : (t x : FormatKey) (name : List ℕ) → is_item_name name ≡ true → 2 ≤ dots (key_name (of_item (kept_name name) (in_table t x)))
+many : (t : FormatKey) (x : SetKey) (name : List ℕ) → is_item_name name ≡ true → 2 ≤ dots (key_name (of_item (kept_name name) (in_table t x)))
 many t x name sound =
     let kept = kept_is name sound in
     let dot = dotted_name name sound in
     let is : item_text (kept_name name) ≡ 46 ∷ dot.0 = kept ∙ dot.1 in
-    let whole : dots (key_name (of_item (kept_name name) (in_table t x))) ≡ dots (spelling_of t ++ ((46 ∷ dot.0) ++ 46 ∷ spelling_of x)) = ap (λ l. dots (spelling_of t ++ (l ++ 46 ∷ spelling_of x))) is in
-    let one = dots_both (spelling_of t) ((46 ∷ dot.0) ++ 46 ∷ spelling_of x) in
-    let two = dots_both (46 ∷ dot.0) (46 ∷ spelling_of x) in
+    let whole : dots (key_name (of_item (kept_name name) (in_table t x))) ≡ dots (spelling_of t ++ ((46 ∷ dot.0) ++ 46 ∷ key_spelling x)) = ap (λ l. dots (spelling_of t ++ (l ++ 46 ∷ key_spelling x))) is in
+    let one = dots_both (spelling_of t) ((46 ∷ dot.0) ++ 46 ∷ key_spelling x) in
+    let two = dots_both (46 ∷ dot.0) (46 ∷ key_spelling x) in
     let three = dots_here dot.0 in
-    let four = dots_here (spelling_of x) in
+    let four = dots_here (key_spelling x) in
     omega (arith, whole, one, two, three, four)
 
 -- ---- one name, one key
 
-parts_same : (t u x y : FormatKey) (m n : List ℕ) → is_item_name m ≡ true → is_item_name n ≡ true
-    → key_name (of_item (kept_name m) (in_table t x)) ≡ key_name (of_item (kept_name n) (in_table u y)) → (spelling_of t ≡ spelling_of u) × (m ≡ n) × (spelling_of x ≡ spelling_of y)
+parts_same : (t u : FormatKey) (x y : SetKey) (m n : List ℕ) → is_item_name m ≡ true → is_item_name n ≡ true
+    → key_name (of_item (kept_name m) (in_table t x)) ≡ key_name (of_item (kept_name n) (in_table u y)) → (spelling_of t ≡ spelling_of u) × (m ≡ n) × (key_spelling x ≡ key_spelling y)
 parts_same t u x y m n sound also same =
     let one = dotted_name m sound in
     let two = dotted_name n also in
     let left : item_text (kept_name m) ≡ 46 ∷ one.0 = kept_is m sound ∙ one.1 in
     let right : item_text (kept_name n) ≡ 46 ∷ two.0 = kept_is n also ∙ two.1 in
-    let whole : spelling_of t ++ 46 ∷ (one.0 ++ 46 ∷ spelling_of x) ≡ spelling_of u ++ 46 ∷ (two.0 ++ 46 ∷ spelling_of y) =
-    sym (ap (λ l. spelling_of t ++ (l ++ 46 ∷ spelling_of x)) left) ∙ same ∙ ap (λ l. spelling_of u ++ (l ++ 46 ∷ spelling_of y)) right in
-    let first = cut_once 46 (spelling_of t) (spelling_of u) (one.0 ++ 46 ∷ spelling_of x) (two.0 ++ 46 ∷ spelling_of y) (spelling_lacks 46 t refl) (spelling_lacks 46 u refl) whole in
-    let last = cut_last 46 one.0 two.0 (spelling_of x) (spelling_of y) (spelling_lacks 46 x refl) (spelling_lacks 46 y refl) first.1 in
+    let whole : spelling_of t ++ 46 ∷ (one.0 ++ 46 ∷ key_spelling x) ≡ spelling_of u ++ 46 ∷ (two.0 ++ 46 ∷ key_spelling y) =
+    sym (ap (λ l. spelling_of t ++ (l ++ 46 ∷ key_spelling x)) left) ∙ same ∙ ap (λ l. spelling_of u ++ (l ++ 46 ∷ key_spelling y)) right in
+    let first = cut_once 46 (spelling_of t) (spelling_of u) (one.0 ++ 46 ∷ key_spelling x) (two.0 ++ 46 ∷ key_spelling y) (spelling_lacks 46 t refl) (spelling_lacks 46 u refl) whole in
+    let last = cut_last 46 one.0 two.0 (key_spelling x) (key_spelling y) (key_lacks 46 x refl) (key_lacks 46 y refl) first.1 in
     (first.0, one.1 ∙ ap (λ l. 46 ∷ l) last.0 ∙ sym two.1, last.1)
 
 -- an item's key, by its list's name, its own and that of its item
 abbrev InParts : SweptKey → Type 0
-InParts k = (t : FormatKey) × (x : FormatKey) × (name : List ℕ) × (is_item_name name ≡ true) × Contains listed (in_table t x) × (k ≡ of_item (kept_name name) (in_table t x))
+InParts k = (t : FormatKey) × (x : SetKey) × (name : List ℕ) × (is_item_name name ≡ true) × Contains listed (in_table t x) × (k ≡ of_item (kept_name name) (in_table t x))
 
 in_parts : (k : SweptKey) → IsItemKey k → InParts k
 in_parts k is =

@@ -14,7 +14,9 @@ use Rattle.sweep_plan.specs.declared.items.ItemName.{ItemName}
 use Rattle.sweep_plan.specs.Sweep.{KeyValues}
 use Rattle.sweep_plan.specs.Axes.{axes_of, goes_on}
 use Rattle.sweep_plan.specs.Asked.{axis_text, AreApart, AreAxes, AreSweptKeys, IsLevel, IsSwept, RefusesAxis, RefusesMore, RefusesSweptKeys}
+use Rattle.sweep_plan.specs.SetKeys.{key_spelling}
 use Rattle.sweep_plan.specs.declared.keys.SweptKey.{SweptKey}
+use Rattle.sweep_plan.specs.declared.set_keys.SetKey.{SetKey}
 use Rattle.sweep_plan.specs.declared.fault.PlanFault.{PlanFault}
 use Rattle.sweep_plan.specs.declared.fault.PlanFault.TheVariants.{Words, Memory}
 use Rattle.sweep_plan.proofs.Names.{bytes_eq_true, bytes_eq_same}
@@ -35,7 +37,7 @@ items_itself (Some item) = bytes_eq_same item.bytes item.bytes refl
 same_itself : (a b : SweptKey) → a ≡ b → is_same a b ≡ true
 same_itself a b same =
     subst (λ k. is_same a k ≡ true) same
-    (ap (λ v. (v && are_same_tables a.table a.table) && are_same_items a.item a.item) (bytes_eq_same (spelling_of a.key) (spelling_of a.key) refl)
+    (ap (λ v. (v && are_same_tables a.table a.table) && are_same_items a.item a.item) (bytes_eq_same (key_spelling a.key) (key_spelling a.key) refl)
     ∙ ap (λ v. v && are_same_items a.item a.item) (tables_itself a.table) ∙ items_itself a.item)
 
 -- items of one name
@@ -45,7 +47,7 @@ items_by None (Some b) alike = absurd (false≢true alike)
 items_by (Some a) None alike = absurd (false≢true alike)
 items_by (Some a) (Some b) alike = ap (filter is_letter) (bytes_eq_true a.bytes b.bytes alike)
 
-names_by : (s t : Option FormatKey) (a b : Option ItemName) (x y : FormatKey) → are_same_tables s t ≡ true → item_part a ≡ item_part b → spelling_of x ≡ spelling_of y
+names_by : (s t : Option FormatKey) (a b : Option ItemName) (x y : SetKey) → are_same_tables s t ≡ true → item_part a ≡ item_part b → key_spelling x ≡ key_spelling y
     → key_name (record { table = s; item = a; key = x }) ≡ key_name (record { table = t; item = b; key = y })
 names_by None None a b x y alike items same = same
 names_by None (Some t) a b x y alike items same = absurd (false≢true alike)
@@ -56,9 +58,9 @@ names_by (Some s) (Some t) a b x y alike items same =
 
 same_names : (a b : SweptKey) → is_same a b ≡ true → key_name a ≡ key_name b
 same_names a b alike =
-    let both = and_parts (bytes_eq (spelling_of a.key) (spelling_of b.key) && are_same_tables a.table b.table) (are_same_items a.item b.item) alike in
-    let parts = and_parts (bytes_eq (spelling_of a.key) (spelling_of b.key)) (are_same_tables a.table b.table) both.0 in
-    names_by a.table b.table a.item b.item a.key b.key parts.1 (items_by a.item b.item both.1) (bytes_eq_true (spelling_of a.key) (spelling_of b.key) parts.0)
+    let both = and_parts (bytes_eq (key_spelling a.key) (key_spelling b.key) && are_same_tables a.table b.table) (are_same_items a.item b.item) alike in
+    let parts = and_parts (bytes_eq (key_spelling a.key) (key_spelling b.key)) (are_same_tables a.table b.table) both.0 in
+    names_by a.table b.table a.item b.item a.key b.key parts.1 (items_by a.item b.item both.1) (bytes_eq_true (key_spelling a.key) (key_spelling b.key) parts.0)
 
 -- ---- swept keys of words
 

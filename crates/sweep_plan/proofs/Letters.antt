@@ -10,8 +10,11 @@ use Rattle.schema.specs.declared.schema.FormatKey.{FormatKey}
 use Rattle.schema.specs.declared.schema.FormatKey.TheVariants as key
 use Rattle.sweep_plan.specs.Items.{is_letter, item_text}
 use Rattle.sweep_plan.specs.Keys.{item_part, key_name}
+use Rattle.sweep_plan.specs.SetKeys.{key_spelling}
 use Rattle.sweep_plan.specs.declared.items.ItemName.{ItemName}
 use Rattle.sweep_plan.specs.declared.keys.SweptKey.{SweptKey}
+use Rattle.sweep_plan.specs.declared.set_keys.SetKey.{SetKey}
+use Rattle.sweep_plan.specs.declared.set_keys.SetKey.TheVariants as set
 use Rattle.sweep_plan.proofs.Words.{Lacks}
 
 -- keys are spelt with small letters and underscores
@@ -97,6 +100,18 @@ lacks_other p c (x ∷ xs) out all =
 pub spelling_lacks : (c : ℕ) (k : FormatKey) → is_key_byte c ≡ false → Lacks c (spelling_of k)
 spelling_lacks c k out = lacks_other is_key_byte c (spelling_of k) out (spelt k)
 
+set_spelt : (k : SetKey) → list_all is_key_byte (key_spelling k) ≡ true
+set_spelt (set.Plain k) = spelt k
+set_spelt set.Each = refl
+set_spelt set.Back = refl
+set_spelt set.Every = refl
+set_spelt set.Lasts = refl
+set_spelt set.LastsMost = refl
+set_spelt set.Both = refl
+
+pub key_lacks : (c : ℕ) (k : SetKey) → is_key_byte c ≡ false → Lacks c (key_spelling k)
+key_lacks c k out = lacks_other is_key_byte c (key_spelling k) out (set_spelt k)
+
 item_lacks : (c : ℕ) (item : Option ItemName) → is_letter c ≡ false → Lacks c (item_part item)
 item_lacks c None out = All-nil (λ x. (x == c) ≡ false)
 item_lacks c (Some item) out = All-weaker (λ x. is_letter x ≡ true) (λ x. (x == c) ≡ false) (λ x passes. lacks_one is_letter c x out passes) (item_text item) (filter_passes is_letter item.bytes)
@@ -105,10 +120,10 @@ item_lacks c (Some item) out = All-weaker (λ x. is_letter x ≡ true) (λ x. (x
 pub name_lacks : (c : ℕ) → is_key_byte c ≡ false → is_letter c ≡ false → (k : SweptKey) → Lacks c (key_name k)
 name_lacks c out also k = by k.table k.item k.key
   where
-    by : (t : Option FormatKey) (item : Option ItemName) (x : FormatKey) → Lacks c (key_name (record { table = t; item = item; key = x }))
-    by None item x = spelling_lacks c x out
+    by : (t : Option FormatKey) (item : Option ItemName) (x : SetKey) → Lacks c (key_name (record { table = t; item = item; key = x }))
+    by None item x = key_lacks c x out
     by (Some t) item x =
         let dot : Lacks c (46 ∷ []) = lacks_other is_letter c (46 ∷ []) also refl in
-        let last : Lacks c (46 ∷ spelling_of x) = All-cons (λ y. (y == c) ≡ false) 46 (spelling_of x) (All-head (λ y. (y == c) ≡ false) 46 [] dot) (spelling_lacks c x out) in
-        All-append (λ y. (y == c) ≡ false) (spelling_of t) (item_part item ++ 46 ∷ spelling_of x) (spelling_lacks c t out)
-        (All-append (λ y. (y == c) ≡ false) (item_part item) (46 ∷ spelling_of x) (item_lacks c item also) last)
+        let last : Lacks c (46 ∷ key_spelling x) = All-cons (λ y. (y == c) ≡ false) 46 (key_spelling x) (All-head (λ y. (y == c) ≡ false) 46 [] dot) (key_lacks c x out) in
+        All-append (λ y. (y == c) ≡ false) (spelling_of t) (item_part item ++ 46 ∷ key_spelling x) (spelling_lacks c t out)
+        (All-append (λ y. (y == c) ≡ false) (item_part item) (46 ∷ key_spelling x) (item_lacks c item also) last)

@@ -10,11 +10,11 @@ use Rattle.std.proofs.lemmas.List.{append-nil, append_assoc, get_or_at, length-a
 use Rattle.std.proofs.lemmas.List.Sums.{count_by-le-length, sum_by-append}
 use Rattle.std.proofs.lemmas.Str.Pattern.{NoCharPasses-char, drop_at_char}
 use Rattle.toml.specs.Data.{Data}
-use Rattle.schema.specs.declared.schema.FormatKey.{FormatKey}
 use Rattle.sweep_plan.specs.Document.{with_item, with_marked}
 use Rattle.sweep_plan.specs.Meant.{is_meant, marks, number_behind}
 use Rattle.sweep_plan.specs.Numbered.{IsCut, IsNumbered, is_numbered, is_stem}
 use Rattle.sweep_plan.specs.declared.meant.Numbered.{Numbered}
+use Rattle.sweep_plan.specs.declared.set_keys.SetKey.{SetKey}
 use Rattle.sweep_plan.proofs.Apart.{cut_last}
 use Rattle.sweep_plan.proofs.Names.{bytes_eq_false, bytes_eq_same, bytes_eq_true}
 use Rattle.sweep_plan.proofs.Words.{Lacks, decimal_lacks, lacks_each}
@@ -149,7 +149,7 @@ mark_more cut text own same names found mark so_far new is short own_is found_is
     meant : mark ≡ is_meant text names own
     meant = mark_is ∙ (λ k. bytes_eq (own_is k) text || is_numbered cut (found_is k) (own_is k)) ∙ ap (λ b. bytes_eq own text || b) (sym (number_is cut text own names is low))
 
-pub marked_more : (k : FormatKey) (d : Data) (meant : List Bool) (xs : List Data) (m : Bool) (x : Data) → length meant ≡ length xs
+pub marked_more : (k : SetKey) (d : Data) (meant : List Bool) (xs : List Data) (m : Bool) (x : Data) → length meant ≡ length xs
     → with_marked k d (meant ++ m ∷ []) (xs ++ x ∷ []) ≡ with_marked k d meant xs ++ with_item k d m x ∷ []
 marked_more k d meant xs m x same =
     ap (map (λ (it : Bool × Data). with_item k d it.0 it.1)) (zip_push meant xs m x same) ∙ map-append (λ (it : Bool × Data). with_item k d it.0 it.1) (zip meant xs) ((m, x) ∷ [])

@@ -10,6 +10,7 @@ use Rattle.schema.specs.declared.schema.FormatKey.{FormatKey}
 use Rattle.schema.specs.declared.schema.KeyRule.{KeyRule}
 use Rattle.sweep_plan.specs.Keys.{dotted, in_table, is_plain, is_named, keys_of_table, keys_of_row}
 use Rattle.sweep_plan.specs.declared.keys.SweptKey.{SweptKey}
+use Rattle.sweep_plan.specs.declared.set_keys.SetKey.TheVariants.{Plain}
 
 pub bytes_eq_true : (a b : List ℕ) → bytes_eq a b ≡ true → a ≡ b
 bytes_eq_true a b = (bytes_eq-Decides a b).0
@@ -43,13 +44,13 @@ abbrev found_in_table : FormatKey → List ℕ → List KeyRule → Option Swept
 found_in_table t word rows = find (is_named word) (keys_of_table t rows)
 
 abbrev row_gives : FormatKey → List ℕ → KeyRule → Bool
-row_gives t word row = is_plain row.kind && is_named word (in_table t row.key)
+row_gives t word row = is_plain row.kind && is_named word (in_table t (Plain row.key))
 
 table_step : (t : FormatKey) (word : List ℕ) (row : KeyRule) (rows : List KeyRule)
-    → found_in_table t word (row ∷ rows) ≡ cond (row_gives t word row) (Some (in_table t row.key)) (found_in_table t word rows)
+    → found_in_table t word (row ∷ rows) ≡ cond (row_gives t word row) (Some (in_table t (Plain row.key))) (found_in_table t word rows)
 table_step t word row rows =
     let left : List KeyRule = filter (λ r. is_plain r.kind) rows in
-    let key : KeyRule → SweptKey = λ r. in_table t r.key in
+    let key : KeyRule → SweptKey = λ r. in_table t (Plain r.key) in
     elim (is_plain row.kind) as (λ b. find (is_named word) (map key (cond b (row ∷ left) left)) ≡ cond (b && is_named word (key row)) (Some (key row)) (find (is_named word) (map key left))) [
       | true ↦ refl
       | false ↦ refl
@@ -57,18 +58,18 @@ table_step t word row rows =
 
 -- a row that gives the key of this name, and one that doesn't
 pub row_found : (t : FormatKey) (word : List ℕ) (rows : List KeyRule) (i : ℕ) (d : KeyRule) (r : Bool) → i < length rows → r ≡ row_gives t word (get_or rows i d) → r ≡ true
-    → found_in_table t word rows ≡ found_in_table t word (drop i rows) → Some (in_table t (get_or rows i d).key) ≡ found_in_table t word rows
+    → found_in_table t word rows ≡ found_in_table t word (drop i rows) → Some (in_table t (Plain (get_or rows i d).key)) ≡ found_in_table t word rows
 row_found t word rows i d r inside is gives_it so_far =
     let row = get_or rows i d in
     let gives : row_gives t word row ≡ true = sym is ∙ gives_it in
-    sym (so_far ∙ ap (found_in_table t word) (drop_more rows i d inside) ∙ table_step t word row (drop (i + 1) rows) ∙ ap (λ b. cond b (Some (in_table t row.key)) (found_in_table t word (drop (i + 1) rows))) gives)
+    sym (so_far ∙ ap (found_in_table t word) (drop_more rows i d inside) ∙ table_step t word row (drop (i + 1) rows) ∙ ap (λ b. cond b (Some (in_table t (Plain row.key))) (found_in_table t word (drop (i + 1) rows))) gives)
 
 pub row_passed : (t : FormatKey) (word : List ℕ) (rows : List KeyRule) (i : ℕ) (d : KeyRule) (r : Bool) → i < length rows → r ≡ row_gives t word (get_or rows i d) → r ≡ false
     → found_in_table t word rows ≡ found_in_table t word (drop i rows) → found_in_table t word rows ≡ found_in_table t word (drop (i + 1) rows)
 row_passed t word rows i d r inside is passes so_far =
     let row = get_or rows i d in
     let gives : row_gives t word row ≡ false = sym is ∙ passes in
-    so_far ∙ ap (found_in_table t word) (drop_more rows i d inside) ∙ table_step t word row (drop (i + 1) rows) ∙ ap (λ b. cond b (Some (in_table t row.key)) (found_in_table t word (drop (i + 1) rows))) gives
+    so_far ∙ ap (found_in_table t word) (drop_more rows i d inside) ∙ table_step t word row (drop (i + 1) rows) ∙ ap (λ b. cond b (Some (in_table t (Plain row.key))) (found_in_table t word (drop (i + 1) rows))) gives
 
 -- the same of the rows of the whole text
 abbrev found_in_rows : List ℕ → List KeyRule → Option SweptKey

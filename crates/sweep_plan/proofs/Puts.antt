@@ -5,13 +5,16 @@ use Rattle.std.specs.Ordering.{match_ordering}
 use Rattle.std.specs.Option.{option_map_or}
 use Rattle.std.proofs.lemmas.Bool.{false≢true}
 use Rattle.std.proofs.lemmas.Map.Text.{is_eq-slice_cmp}
-use Rattle.toml.specs.Data.{Data, string, integer, float, boolean, datetime, array, table, Members, no_members, member, get_member}
+use Rattle.toml.specs.Data.{Data, string, integer, float, boolean, datetime, array, table, Members, no_members, member, get, get_member}
 use Rattle.schema.specs.Schema.{spelling_of}
 use Rattle.schema.specs.Tree.{items_at, items_of, list_of, value_at}
 use Rattle.schema.specs.declared.schema.FormatKey.{FormatKey}
 use Rattle.schema.proofs.Trees.{list_of-items}
-use Rattle.sweep_plan.specs.Document.{put, with_entry, with_item, with_items, with_listed, with_marked}
+use Rattle.sweep_plan.specs.Document.{put, with_entry, with_item, with_items, with_key, with_listed, with_marked}
 use Rattle.sweep_plan.specs.Meant.{marks_of}
+use Rattle.sweep_plan.specs.SetKeys.{key_spelling}
+use Rattle.sweep_plan.specs.declared.set_keys.SetKey.{SetKey}
+use Rattle.sweep_plan.specs.declared.set_keys.SetKey.TheVariants.{Plain}
 use Rattle.sweep_plan.proofs.Names.{bytes_eq_true, bytes_eq_same, bytes_eq_false}
 
 -- ---- members
@@ -56,38 +59,41 @@ get_here k d (member l e ms) = by (slice_cmp nat_cmp k l) refl (get_here k d ms)
 
 -- ---- tables
 
+key_other : (u k : SetKey) (d one : Data) → key_spelling u ≢ key_spelling k → get (key_spelling u) (with_key k d one) ≡ get (key_spelling u) one
+key_other u k d (table ms) other = get_other (key_spelling u) (key_spelling k) d ms other
+key_other u k d (string s) other = refl
+key_other u k d (integer z) other = refl
+key_other u k d (float x) other = refl
+key_other u k d (boolean b) other = refl
+key_other u k d (datetime dt) other = refl
+key_other u k d (array ds) other = refl
+
 pub entry_other : (u k : FormatKey) (d tree : Data) → spelling_of u ≢ spelling_of k → value_at u (with_entry k d tree) ≡ value_at u tree
-entry_other u k d (table ms) other = get_other (spelling_of u) (spelling_of k) d ms other
-entry_other u k d (string s) other = refl
-entry_other u k d (integer z) other = refl
-entry_other u k d (float x) other = refl
-entry_other u k d (boolean b) other = refl
-entry_other u k d (datetime dt) other = refl
-entry_other u k d (array ds) other = refl
+entry_other u k d tree other = key_other (Plain u) (Plain k) d tree other
 
 -- ---- an item
 
-pub keys_kept : (one d : Data) (meant : Bool) (k u : FormatKey) → spelling_of u ≢ spelling_of k → value_at u (with_item k d meant one) ≡ value_at u one
-keys_kept one d true k u other = entry_other u k d one other
+pub keys_kept : (one d : Data) (meant : Bool) (k u : SetKey) → key_spelling u ≢ key_spelling k → get (key_spelling u) (with_item k d meant one) ≡ get (key_spelling u) one
+keys_kept one d true k u other = key_other u k d one other
 keys_kept one d false k u other = refl
 
-pub value_set : (ms : Members) (d : Data) (k : FormatKey) → value_at k (with_item k d true (table ms)) ≡ Some d
-value_set ms d k = get_here (spelling_of k) d ms
+pub value_set : (ms : Members) (d : Data) (k : SetKey) → get (key_spelling k) (with_item k d true (table ms)) ≡ Some d
+value_set ms d k = get_here (key_spelling k) d ms
 
 -- ---- a list
 
-pub text_kept : (tree d : Data) (t k u : FormatKey) (name : List ℕ) → spelling_of u ≢ spelling_of t → value_at u (with_listed t name k d tree) ≡ value_at u tree
-text_kept tree d t k u name other = by (value_at t tree)
+pub text_kept : (tree d : Data) (t u : FormatKey) (k : SetKey) (name : List ℕ) → spelling_of u ≢ spelling_of t → value_at u (with_listed t name k d tree) ≡ value_at u tree
+text_kept tree d t u k name other = by (value_at t tree)
   where
     by : (o : Option Data) → value_at u (option_map_or (λ list. with_entry t (with_items name k d list) tree) o tree) ≡ value_at u tree
     by None = refl
     by (Some list) = entry_other u t (with_items name k d list) tree other
 
 -- items with the value in those that a name means
-abbrev changed : List ℕ → FormatKey → Data → List Data → List Data
+abbrev changed : List ℕ → SetKey → Data → List Data → List Data
 changed name k d items = with_marked k d (marks_of name items) items
 
-items_with : (list d : Data) (name : List ℕ) (k : FormatKey) → items_of (with_items name k d list) ≡ changed name k d (items_of list)
+items_with : (list d : Data) (name : List ℕ) (k : SetKey) → items_of (with_items name k d list) ≡ changed name k d (items_of list)
 items_with (array ds) d name k = list_of-items (changed name k d (list_of ds))
 items_with (table ms) d name k = refl
 items_with (string s) d name k = refl
@@ -106,7 +112,7 @@ found_again (boolean b) list d t is = cc
 found_again (datetime dt) list d t is = cc
 found_again (array ds) list d t is = cc
 
-pub items_set : (tree d : Data) (t k : FormatKey) (name : List ℕ) → items_at t (with_listed t name k d tree) ≡ changed name k d (items_at t tree)
+pub items_set : (tree d : Data) (t : FormatKey) (k : SetKey) (name : List ℕ) → items_at t (with_listed t name k d tree) ≡ changed name k d (items_at t tree)
 items_set tree d t k name = by (value_at t tree) refl
   where
     at : Option Data → List Data

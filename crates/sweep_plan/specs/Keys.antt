@@ -12,15 +12,19 @@ use Rattle.schema.specs.declared.schema.Kind.TheVariants as kind
 use Rattle.schema.specs.declared.schema.Section.TheVariants.{Top}
 use Rattle.schema.specs.declared.schema.Version.TheVariants.{Four}
 use Rattle.sweep_plan.specs.Items.{is_item_name, kept_name, item_text}
+use Rattle.sweep_plan.specs.SetKeys.{entry_keys, key_spelling}
+use Rattle.sweep_plan.specs.declared.entry_keys.EntryKey.{EntryKey}
+use Rattle.sweep_plan.specs.declared.set_keys.SetKey.{SetKey}
+use Rattle.sweep_plan.specs.declared.set_keys.SetKey.TheVariants.{Plain}
 use Rattle.sweep_plan.specs.declared.items.ItemName.{ItemName}
 use Rattle.sweep_plan.specs.declared.keys.SweptKey.{SweptKey}
 
 -- a key of the whole text
 abbrev pub at_top : FormatKey → SweptKey
-at_top k = record { table = None; item = None; key = k }
+at_top k = record { table = None; item = None; key = Plain k }
 
 -- a key of a table of the text, or of a list whose item isn't named
-abbrev pub in_table : FormatKey → FormatKey → SweptKey
+abbrev pub in_table : FormatKey → SetKey → SweptKey
 in_table t k = record { table = Some t; item = None; key = k }
 
 -- the same key of the item with this name
@@ -37,7 +41,7 @@ item_part item = option_map_or item_text item []
 
 -- the name of a key: its spelling, or that of its table, the name of its item, a dot and its own
 abbrev pub key_name : SweptKey → List ℕ
-key_name k = option_map_or (λ t. spelling_of t ++ dotted (item_part k.item) (spelling_of k.key)) k.table (spelling_of k.key)
+key_name k = option_map_or (λ t. spelling_of t ++ dotted (item_part k.item) (key_spelling k.key)) k.table (key_spelling k.key)
 
 -- a value of this kind is a whole number or a switch
 abbrev pub is_plain : Kind → Bool
@@ -47,7 +51,7 @@ is_plain _ = false
 
 -- the keys of a table that have such values
 abbrev pub keys_of_table : FormatKey → List KeyRule → List SweptKey
-keys_of_table t rows = map (λ row. in_table t row.key) (filter (λ row. is_plain row.kind) rows)
+keys_of_table t rows = map (λ row. in_table t (Plain row.key)) (filter (λ row. is_plain row.kind) rows)
 
 -- what a key of the whole text gives by its kind: itself, the keys of its table, or nothing where it is a text or a list
 abbrev pub keys_of_kind : FormatKey → Kind → List SweptKey
@@ -72,9 +76,13 @@ keys_of_list k _ = []
 abbrev pub keys_of_items : KeyRule → List SweptKey
 keys_of_items row = keys_of_list row.key row.kind
 
--- such keys of all lists
+-- a key that items of a list have in written texts alone
+abbrev pub of_entry : EntryKey → SweptKey
+of_entry e = in_table e.list e.key
+
+-- the keys of all lists: those of plain texts, and those that only written texts have
 unfoldable pub listed : List SweptKey
-listed = flat_map keys_of_items (key_rules_of Four Top)
+listed = flat_map keys_of_items (key_rules_of Four Top) ++ map of_entry entry_keys
 
 -- one of these, of an item of any name that items may have
 pub record IsItemKey (k : SweptKey) : Type 0 where
@@ -117,7 +125,7 @@ are_same_items (Some a) (Some b) = bytes_eq a.bytes b.bytes
 
 -- two keys are spelt alike, and so are their tables
 abbrev pub are_alike : SweptKey → SweptKey → Bool
-are_alike a b = bytes_eq (spelling_of a.key) (spelling_of b.key) && are_same_tables a.table b.table
+are_alike a b = bytes_eq (key_spelling a.key) (key_spelling b.key) && are_same_tables a.table b.table
 
 -- two keys are spelt alike, and so are their tables and items
 abbrev pub is_same : SweptKey → SweptKey → Bool

@@ -11,3 +11,4 @@ pub mod Planned
 pub mod Settings
 pub mod Document
 pub mod Missing
+pub mod SetKeys

@@ -3,11 +3,12 @@ ghost use Rattle.std.specs.Prelude.{◌≡◌, ◌<◌, ◌^◌, All, fold, Some
 ghost use Rattle.std.specs.Option.{ForSome};
 ghost use Rattle.toml.specs.View.{view};
 ghost use Rattle.sweep_plan.specs.Values.{FitsToml};
-ghost use Rattle.sweep_plan.specs.Document.{data_of, table_at, with_entry, with_choice, with_value_in, with_values};
+ghost use Rattle.sweep_plan.specs.Document.{data_of, table_at, with_key, with_choice, with_value_in, with_values};
 
 use crate::choice::Choice;
 use crate::items::ItemName;
 use crate::listed_values::with_listed;
+use crate::set_keys::SetKey;
 use crate::values::SweptValue;
 use base::Memory;
 use schema::FormatKey;
@@ -30,7 +31,12 @@ pub fn with_values(
 {
     let tree = with_setting(alloc, document, setting)?;
     match seed {
-        Some(seed) => with_entry(alloc, tree, FormatKey::Seed, Value::Integer(seed as i64)),
+        Some(seed) => with_key(
+            alloc,
+            tree,
+            SetKey::Plain(FormatKey::Seed),
+            Value::Integer(seed as i64),
+        ),
         None => Ok(tree),
     }
 }
@@ -55,7 +61,7 @@ fn with_choice(alloc: Global, tree: Value, choice: &Choice) -> Result<Value, Mem
     let key = choice.key.key;
     match choice.key.table {
         Some(table) => with_value_in(alloc, tree, table, choice.key.item, key, choice.value),
-        None => with_entry(alloc, tree, key, data(choice.value)),
+        None => with_key(alloc, tree, key, data(choice.value)),
     }
 }
 
@@ -65,7 +71,7 @@ fn with_value_in(
     tree: Value,
     table: FormatKey,
     item: Option<ItemName>,
-    key: FormatKey,
+    key: SetKey,
     value: SweptValue,
 ) -> Result<Value, Memory>
     requires { FitsToml value }
@@ -74,8 +80,8 @@ fn with_value_in(
     match item {
         Some(item) => with_listed(alloc, tree, table, item, key, value),
         None => {
-            let members = with_entry(alloc, table_at(alloc, &tree, table)?, key, data(value))?;
-            with_entry(alloc, tree, table, members)
+            let members = with_key(alloc, table_at(alloc, &tree, table)?, key, data(value))?;
+            with_key(alloc, tree, SetKey::Plain(table), members)
         }
     }
 }
@@ -91,13 +97,13 @@ fn table_at(alloc: Global, tree: &Value, table: FormatKey) -> Result<Value, Memo
 }
 
 /// A table with this value at this key; any other value as it is.
-pub(crate) fn with_entry(
+pub(crate) fn with_key(
     alloc: Global,
     tree: Value,
-    key: FormatKey,
+    key: SetKey,
     value: Value,
 ) -> Result<Value, Memory>
-    ensures { IfOk result (λ v. view v ≡ with_entry key (view value) (view tree)) }
+    ensures { IfOk result (λ v. view v ≡ with_key key (view value) (view tree)) }
 {
     match tree {
         Value::Table(mut members) => {

@@ -4,9 +4,11 @@ ghost use Rattle.std.specs.List.{flat_map};
 ghost use Rattle.sweep_plan.specs.Keys.{dotted, key_name, is_plain, item_part, keys_of_table, keys_of_row, at_top, in_table, is_named, key_named, is_same, are_alike, are_same_items, are_same_tables, is_first_of, names_first, IsKeyNamed};
 ghost use Rattle.sweep_plan.specs.Items.{item_text};
 ghost use Rattle.sweep_plan.specs.declared.keys.SweptKey.{SweptKey as Wanted};
+ghost use Rattle.sweep_plan.specs.declared.set_keys.SetKey.TheVariants.{Plain};
 
 use crate::items::{ItemName, push_letters};
 use crate::listed::listed_key;
+use crate::set_keys::SetKey;
 use base::Memory;
 use schema::{FormatKey, KeyRule, Kind, Section, Version};
 use std::alloc::Global;
@@ -19,12 +21,13 @@ pub struct SweptKey {
     /// The name of the list's item that has it; none for a key outside lists.
     pub item: Option<ItemName>,
     /// The key itself.
-    pub key: FormatKey,
+    pub key: SetKey,
 }
 
 impl SweptKey {
     /// The key of this name, as `end`, `swim.period`, `group.n.count` or `path.a.b.loss`, among those that may be set: all
-    /// outside lists that stand for whole numbers and switches, but `seed`, and all such keys of the items of lists.
+    /// outside lists that stand for whole numbers and switches, but `seed`, and all such keys of the items of lists, also
+    /// those that items have in written texts alone, as `pause.gc.lasts`.
     pub fn named(word: &str) -> Option<SweptKey>
         ensures some { IfSome result (IsKeyNamed word.now) }
         ensures none { IsNone result → (k : Wanted) → ¬ (IsKeyNamed word.now k) }
@@ -102,7 +105,7 @@ fn top_key(key: FormatKey, word: &str) -> Option<SweptKey>
         Some(SweptKey {
             table: None,
             item: None,
-            key,
+            key: SetKey::Plain(key),
         })
     } else {
         None
@@ -118,7 +121,7 @@ fn named_in_table(table: FormatKey, rows: &[KeyRule], word: &str) -> Option<Swep
             return Some(SweptKey {
                 table: Some(table),
                 item: None,
-                key: row.key,
+                key: SetKey::Plain(row.key),
             });
         }
     }
@@ -127,7 +130,7 @@ fn named_in_table(table: FormatKey, rows: &[KeyRule], word: &str) -> Option<Swep
 
 /// Whether the row of a table gives the key of this name.
 fn is_row_named(table: FormatKey, row: &KeyRule, word: &str) -> bool
-    ensures { result ≡ (is_plain row.now.kind && is_named word.now (in_table table row.now.key)) }
+    ensures { result ≡ (is_plain row.now.kind && is_named word.now (in_table table (Plain row.now.key))) }
 {
     is_plain(row.kind)
         && is_dotted(

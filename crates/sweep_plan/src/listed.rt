@@ -1,13 +1,14 @@
 //! The keys of items of lists, by their names.
-ghost use Rattle.std.specs.Prelude.{◌≡◌, ◌∷◌, [], IfSome, IsNone};
+ghost use Rattle.std.specs.Prelude.{◌≡◌, ◌∷◌, [], map, IfSome, IsNone};
 ghost use Rattle.std.specs.List.{flat_map};
-ghost use Rattle.schema.specs.Schema.{spelling_of};
-ghost use Rattle.sweep_plan.specs.Keys.{in_table, keys_of_items, keys_of_table, listed};
+ghost use Rattle.sweep_plan.specs.Keys.{in_table, keys_of_items, keys_of_table, listed, of_entry};
 ghost use Rattle.sweep_plan.specs.Listed.{IsItemIn, IsNamedIn, NamesNone};
 ghost use Rattle.sweep_plan.specs.declared.items.ItemName.{ItemName as Wanted};
 
+use crate::entry_keys::{EntryKey, entry_keys};
 use crate::items::ItemName;
 use crate::keys::{SweptKey, is_plain};
+use crate::set_keys::SetKey;
 use schema::{FormatKey, KeyRule, Kind, Section, Version};
 
 /// The key of this name among those of items of lists: the list's name, that of the item and the key's, with dots
@@ -17,7 +18,23 @@ pub(crate) fn listed_key(word: &[u8]) -> Option<SweptKey>
     ensures some { IfSome result (IsNamedIn listed word.now) }
     ensures none { IsNone result → NamesNone listed word.now }
 {
-    key_of_lists(Section::Top.rows(Version::Four), word)
+    match key_of_lists(Section::Top.rows(Version::Four), word) {
+        Some(key) => Some(key),
+        None => key_of_entries(entry_keys(), word),
+    }
+}
+
+/// The key of this name among these.
+fn key_of_entries(entries: &[EntryKey], word: &[u8]) -> Option<SweptKey>
+    ensures some { IfSome result (IsNamedIn (map of_entry entries.now) word.now) }
+    ensures none { IsNone result → NamesNone (map of_entry entries.now) word.now }
+{
+    for entry in entries {
+        if let Some(key) = key_of_item(entry.list, entry.key, word) {
+            return Some(key);
+        }
+    }
+    None
 }
 
 /// The key of this name among those that rows of the whole text give to items.
@@ -65,11 +82,19 @@ fn key_of_row(list: FormatKey, row: &KeyRule, word: &[u8]) -> Option<SweptKey>
     if !is_plain(row.kind) {
         return None;
     }
-    match item_in(list.text().as_bytes(), row.key.text().as_bytes(), word) {
+    key_of_item(list, SetKey::Plain(row.key), word)
+}
+
+/// The key of this name where it is this key of an item of a list.
+fn key_of_item(list: FormatKey, key: SetKey, word: &[u8]) -> Option<SweptKey>
+    ensures some { IfSome result (IsNamedIn (in_table list key ∷ []) word.now) }
+    ensures none { IsNone result → NamesNone (in_table list key ∷ []) word.now }
+{
+    match item_in(list.text().as_bytes(), key.text().as_bytes(), word) {
         Some(item) => Some(SweptKey {
             table: Some(list),
             item: Some(item),
-            key: row.key,
+            key,
         }),
         None => None,
     }

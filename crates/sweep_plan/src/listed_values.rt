@@ -7,9 +7,10 @@ ghost use Rattle.sweep_plan.specs.Meant.{marks_of};
 ghost use Rattle.sweep_plan.specs.Values.{FitsToml};
 ghost use Rattle.sweep_plan.specs.Document.{data_of, with_item, with_items, with_listed, with_marked};
 
-use crate::document::{data, with_entry};
+use crate::document::{data, with_key};
 use crate::items::ItemName;
 use crate::meant::marks;
+use crate::set_keys::SetKey;
 use crate::values::SweptValue;
 use base::Memory;
 use schema::FormatKey;
@@ -22,7 +23,7 @@ pub(crate) fn with_listed(
     tree: Value,
     list: FormatKey,
     item: ItemName,
-    key: FormatKey,
+    key: SetKey,
     value: SweptValue,
 ) -> Result<Value, Memory>
     requires { FitsToml value }
@@ -30,7 +31,7 @@ pub(crate) fn with_listed(
 {
     let name = item.text(alloc)?;
     match changed_list(alloc, &tree, list, name.as_str(), key, value)? {
-        Some(changed) => with_entry(alloc, tree, list, changed),
+        Some(changed) => with_key(alloc, tree, SetKey::Plain(list), changed),
         None => Ok(tree),
     }
 }
@@ -41,7 +42,7 @@ fn changed_list(
     tree: &Value,
     list: FormatKey,
     name: &str,
-    key: FormatKey,
+    key: SetKey,
     value: SweptValue,
 ) -> Result<Option<Value>, Memory>
     requires { FitsToml value }
@@ -58,7 +59,7 @@ fn with_items(
     alloc: Global,
     list: &Value,
     name: &str,
-    key: FormatKey,
+    key: SetKey,
     value: SweptValue,
 ) -> Result<Value, Memory>
     requires { FitsToml value }
@@ -78,7 +79,7 @@ fn with_meant(
     alloc: Global,
     items: &[Value],
     name: &str,
-    key: FormatKey,
+    key: SetKey,
     value: SweptValue,
 ) -> Result<Vec<Value>, Memory>
     requires { FitsToml value }
@@ -93,7 +94,7 @@ fn with_marked(
     alloc: Global,
     items: &[Value],
     marks: &[bool],
-    key: FormatKey,
+    key: SetKey,
     value: SweptValue,
 ) -> Result<Vec<Value>, Memory>
     requires fits { FitsToml value }
@@ -112,7 +113,7 @@ fn with_item(
     alloc: Global,
     item: &Value,
     is_meant: bool,
-    key: FormatKey,
+    key: SetKey,
     value: SweptValue,
 ) -> Result<Value, Memory>
     requires { FitsToml value }
@@ -120,7 +121,7 @@ fn with_item(
 {
     let copy = item.clone()?;
     if is_meant {
-        return with_entry(alloc, copy, key, data(value));
+        return with_key(alloc, copy, key, data(value));
     }
     Ok(copy)
 }

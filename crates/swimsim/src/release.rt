@@ -1,8 +1,8 @@
 //! Which release of the program this is.
 
 /// The number of the version.
-pub const VERSION: &str = "1.21.0";
+pub const VERSION: &str = "1.22.0";
 /// The digest of the sources.
-pub const SOURCES: &str = "7f656e2a4895cbc4e5ce56da3f84a47df55e44a2545274e0a6f7e2b1439749ed";
+pub const SOURCES: &str = "9f330008aff6ac8b4ed9ef07e7b6a2e764c8222504df731d7ebd30f412513d3a";
 /// The kit.
-pub const KIT: &str = "rattle-kit-13b logic dac8208d650f15bf";
+pub const KIT: &str = "rattle-kit-13f logic dac8208d650f15bf";

@@ -14,10 +14,12 @@ use Rattle.schema.specs.declared.schema.FormatKey.TheVariants as key
 use Rattle.scenario.specs.Setup.{Setup}
 use Rattle.text_reader.specs.Answers.{AnswersDocument}
 use Rattle.text_reader.proofs.Sound.{seed_answer}
-use Rattle.sweep_plan.specs.Document.{put, table_at, with_choice, with_entry, with_items, with_value_in, with_values}
+use Rattle.sweep_plan.specs.Document.{put, table_at, with_choice, with_entry, with_items, with_key, with_value_in, with_values}
 use Rattle.sweep_plan.specs.Sweep.{Sweep}
 use Rattle.sweep_plan.specs.declared.choice.Choice.{Choice}
+use Rattle.sweep_plan.specs.SetKeys.{key_spelling}
 use Rattle.sweep_plan.specs.declared.items.ItemName.{ItemName}
+use Rattle.sweep_plan.specs.declared.set_keys.SetKey.{SetKey}
 use Rattle.sweep_plan.proofs.Puts.{get_here}
 use Rattle.figures.specs.declared.column_set.ColumnSet.{ColumnSet}
 use Rattle.figures.specs.Figures.{figures_of}
@@ -39,9 +41,9 @@ use Rattle.table_rows.proofs.MadeLines.{line_from, line_in_shard, line_sound}
 
 -- ---- the seed of a run is that of its document
 
-with_value_table : (t : Option FormatKey) (item : Option ItemName) (k : FormatKey) (d : Data) (ms : Members) → (ns : Members) × (with_value_in t item k d (table ms) ≡ table ns)
-with_value_table None item k d ms = (put (spelling_of k) d ms, refl)
-with_value_table (Some t) None k d ms = (put (spelling_of t) (with_entry k d (table_at t (table ms))) ms, refl)
+with_value_table : (t : Option FormatKey) (item : Option ItemName) (k : SetKey) (d : Data) (ms : Members) → (ns : Members) × (with_value_in t item k d (table ms) ≡ table ns)
+with_value_table None item k d ms = (put (key_spelling k) d ms, refl)
+with_value_table (Some t) None k d ms = (put (spelling_of t) (with_key k d (table_at t (table ms))) ms, refl)
 with_value_table (Some t) (Some item) k d ms = by (value_at t (table ms))
   where
     by : (found : Option Data) → (ns : Members) × (option_map_or (λ list. with_entry t (with_items (item_text item) k d list) (table ms)) found (table ms) ≡ table ns)

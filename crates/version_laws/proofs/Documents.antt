@@ -20,13 +20,14 @@ use Rattle.scenario_reader.proofs.Chain.{version_is, accepted, answered_as_docum
 use Rattle.scenario_reader.proofs.First.{plain_of}
 use Rattle.sweep_plan.specs.Document.{data_of, with_value_in, with_values}
 use Rattle.sweep_plan.specs.declared.choice.Choice.{Choice}
+use Rattle.sweep_plan.specs.declared.set_keys.SetKey.TheVariants.{Plain}
 use Rattle.sweep_plan.specs.declared.values.SweptValue.TheVariants.{Whole}
 use Rattle.version_laws.specs.Versions.{in_version_2, given_version_2}
 use Rattle.version_laws.proofs.Entries.{left_off, both_off}
 use Rattle.version_laws.proofs.Shapes.{given, same_values, version_there, SaysNoMore, no_more_by_shape, shape_stays}
 
 -- as a choice of a sweep
-pub as_swept : (tree : Data) (c : Choice) → c.key.table ≡ None → c.key.key ≡ key.Version → c.value ≡ Whole 2 → with_values tree (c ∷ []) None ≡ given_version_2 tree
+pub as_swept : (tree : Data) (c : Choice) → c.key.table ≡ None → c.key.key ≡ Plain key.Version → c.value ≡ Whole 2 → with_values tree (c ∷ []) None ≡ given_version_2 tree
 unfolding with_values
 as_swept tree c top version value = λ i. with_value_in (top i) c.key.item (version i) (data_of (value i)) tree
 

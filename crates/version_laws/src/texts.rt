@@ -13,6 +13,7 @@ ghost use Rattle.scenario_reader.specs.Rules.{document_verdict, tree_of, verdict
 ghost use Rattle.sweep_plan.specs.Document.{with_values};
 ghost use Rattle.sweep_plan.specs.declared.choice.Choice.{Choice};
 ghost use Rattle.sweep_plan.specs.declared.values.SweptValue.TheVariants.{Whole};
+ghost use Rattle.sweep_plan.specs.declared.set_keys.SetKey.TheVariants.{Plain};
 ghost use Rattle.version_laws.specs.Versions.{in_version_2, given_version_2};
 
 /// A document of version 1 that is accepted is accepted with `version = 2` too, and says the same
@@ -22,7 +23,7 @@ pub fn version_2_keeps_documents()
         → document_verdict (given_version_2 tree) ≡ Ok (in_version_2 s) }
     ensures texts { (bytes changed : List ℕ) (tree : Data) (s : Setup) → tree_of bytes ≡ Some tree → tree_of changed ≡ Some (given_version_2 tree)
         → s.version ≡ One → verdict bytes ≡ Ok s → verdict changed ≡ Ok (in_version_2 s) }
-    ensures swept_keys { (tree : Data) (c : Choice) → c.key.table ≡ None → c.key.key ≡ key.Version → c.value ≡ Whole 2
+    ensures swept_keys { (tree : Data) (c : Choice) → c.key.table ≡ None → c.key.key ≡ Plain key.Version → c.value ≡ Whole 2
         → with_values tree (c ∷ []) None ≡ given_version_2 tree }
 {}
 

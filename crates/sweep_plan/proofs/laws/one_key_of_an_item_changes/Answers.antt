@@ -3,7 +3,7 @@ use Rattle.sweep_plan.proofs.Puts.{items_set, keys_kept, text_kept, value_set}
 use Rattle.sweep_plan.proofs.laws.one_key_of_an_item_changes.Goals as goal
 
 pub returns-clause-text : goal.returns-clause-text
-returns-clause-text c tree d t k u item other = text_kept tree d t k u (item_text item) other
+returns-clause-text c tree d t u k item other = text_kept tree d t u k (item_text item) other
 
 pub returns-clause-items : goal.returns-clause-items
 returns-clause-items c tree d t k item = items_set tree d t k (item_text item)
