@@ -1,11 +1,8 @@
 -- What one row more tells of a restart.
-use Rattle.std.proofs.Common.{◌≡◌, ℕ, ◌+◌, ◌≤◌, ◌<◌, ◌^◌, Bool, true, false, cond, ◌&&◌, ◌||◌, ◌==◌, List, [], ◌∷◌, ◌++◌, Option, Some, None, refl, sym, ap, ◌∙◌, arith, append-nil}
+use Rattle.std.proofs.Common.{◌≡◌, ℕ, ◌+◌, ◌≤◌, ◌<◌, ◌^◌, Bool, true, false, cond, ◌&&◌, ◌||◌, ◌==◌, List, [], ◌∷◌, ◌++◌, length, Option, Some, None, refl, sym, ap, ◌∙◌, arith, append-nil}
 use Rattle.std.specs.Prelude.{not, filter, find, count_by, if◌then◌else◌}
 use Rattle.std.specs.Option.{option_or, option_map_or}
-use Rattle.std.specs.List.{last_or, list_any}
-use Rattle.std.specs.Ordering.{nat_cmp}
-use Rattle.std.specs.BTreeMap.{is_at}
-use Rattle.std.specs.BTreeSet.{contains}
+use Rattle.std.specs.List.{last_or, list_any, slice_index_or}
 use Rattle.std.proofs.Math.Path.{fun_ext}
 use Rattle.std.proofs.Math.Bool.{and-false}
 use Rattle.std.proofs.lemmas.Bool.{eq-eqb, ne_eqb, false≢true}
@@ -23,7 +20,7 @@ use Rattle.incidents.specs.declared.returns.Return.{Return}
 use Rattle.incidents.specs.declared.lines.Line.{Line}
 use Rattle.incidents.specs.Lives.{members, weight, ends}
 use Rattle.incidents.specs.Returns.{ends_life, life_of, joins, greets, return_with}
-use Rattle.incidents.specs.Lines.{and_later, whom, goes_on, IsLineOf}
+use Rattle.incidents.specs.Lines.{and_later, is_holder, whom, goes_on, IsLineOf}
 use Rattle.incidents.specs.Kept.{placed}
 use Rattle.incidents.proofs.Sums.{change_from, few_members, none_count}
 
@@ -139,19 +136,21 @@ line_over count line p row shut is =
     record {
       told = is.told ∙ ap (return_with count p.row.member p.row.at) (sym (life_over p.row.member p.later row over));
       lives = shut ∙ sym still;
+      room = is.room;
       holders = λ on. absurd (false≢true (sym still ∙ on));
     }
 
 -- one whose life ends with the row
 pub line_ends : (count : ℕ) (old new : Line) (p : Placed) (row : Row) → old.is_open ≡ true → ends_life p.row.member row ≡ true → IsLineOf count old p
-    → new.told ≡ old.told → new.is_open ≡ false → IsLineOf count new (and_later row p)
-line_ends count old new p row lasts ends is told shut =
+    → new.told ≡ old.told → new.is_open ≡ false → new.holders ≡ old.holders → IsLineOf count new (and_later row p)
+line_ends count old new p row lasts ends is told shut same =
     let going : list_any (ends_life p.row.member) p.later ≡ false = not_true _ (sym is.lives ∙ lasts) in
     let over : goes_on (and_later row p) ≡ false = goes_on-push row p ∙ ap (λ b. not (b || (ends_life p.row.member row || false))) going ∙ ap (λ b. not (b || false)) ends in
     record {
       told = told ∙ is.told ∙ ap (return_with count p.row.member p.row.at) (life_whole p.row.member p.later going
           ∙ sym (life_more p.row.member p.later row going ∙ ap (λ b. p.later ++ cond b [] (row ∷ [])) ends ∙ append-nil p.later));
       lives = shut ∙ sym over;
+      room = ap (λ h. length h.items) same ∙ is.room;
       holders = λ on. absurd (false≢true (sym over ∙ on));
     }
 
@@ -171,7 +170,7 @@ life_on line count p row lasts none is =
 -- one whose life goes on, and of which the row doesn't say that it is alive
 pub line_silent : (count : ℕ) (old new : Line) (p : Placed) (row : Row) → old.is_open ≡ true → ends_life p.row.member row ≡ false → tells_of what.Alive p.row.member row ≡ false
     → IsLineOf count old p → new.told ≡ record old.told { joined = option_or old.told.joined (moment_if (joins p.row.member row) row.at) }
-    → new.is_open ≡ old.is_open → ((i : ℕ) → contains nat_cmp new.holders i ≡ contains nat_cmp old.holders i) → IsLineOf count new (and_later row p)
+    → new.is_open ≡ old.is_open → new.holders ≡ old.holders → IsLineOf count new (and_later row p)
 line_silent count old new p row lasts none silent is told same holders =
     let m = p.row.member in
     let was = open_told count old p lasts is in
@@ -181,7 +180,8 @@ line_silent count old new p row lasts none silent is told same holders =
           ∙ ap (λ b. made m p.row.at (option_or (moment_of (find (joins m) p.later)) (moment_if (joins m row) row.at)) (cond b (Some row.at) (moment_of (last_or None (filter (tells_of what.Alive m) p.later)))) (count_by (λ i. list_any (greets m i) p.later) (members count))) silent)
           ∙ ap (return_with count m p.row.at) (sym (life_on old count p row lasts none is));
       lives = same ∙ lasts ∙ sym (still_on old count p row lasts none is);
-      holders = λ on i. holders i ∙ is.holders (sym is.lives ∙ lasts) i ∙ sym (none_greeted m i p.later row silent);
+      room = ap (λ h. length h.items) holders ∙ is.room;
+      holders = λ on i. ap (λ h. slice_index_or h.items i false) holders ∙ is.holders (sym is.lives ∙ lasts) i ∙ sym (none_greeted m i p.later row silent);
     }
 
 or_comm : (b c : Bool) → (if b then true else c) ≡ (c || b)
@@ -192,15 +192,16 @@ or_comm false c = sym (or_false c)
 pub line_greeted : (count : ℕ) (old new : Line) (p : Placed) (row : Row) → count ≤ 2 ^ 16 → row.member < count → old.is_open ≡ true → ends_life p.row.member row ≡ false → tells_of what.Alive p.row.member row ≡ true
     → IsLineOf count old p
     → new.told ≡ made old.told.member old.told.at (option_or old.told.joined (moment_if (joins p.row.member row) row.at)) (Some row.at) new.told.holders
-    → (old.told.holders < 2 ^ 63 → new.told.holders ≡ old.told.holders + weight (not (contains nat_cmp old.holders row.member)))
-    → new.is_open ≡ old.is_open → ((i : ℕ) → contains nat_cmp new.holders i ≡ (if row.member == i then true else contains nat_cmp old.holders i)) → IsLineOf count new (and_later row p)
-line_greeted count old new p row few low lasts none says is told more same holders =
+    → (old.told.holders < 2 ^ 63 → new.told.holders ≡ old.told.holders + weight (not (is_holder old row.member)))
+    → new.is_open ≡ old.is_open → length new.holders.items ≡ length old.holders.items
+    → ((i : ℕ) → is_holder new i ≡ (if row.member == i then true else is_holder old i)) → IsLineOf count new (and_later row p)
+line_greeted count old new p row few low lasts none says is told more same room holders =
     let m = p.row.member in
     let was = open_told count old p lasts is in
     let before : old.told.holders ≡ count_by (λ i. list_any (greets m i) p.later) (members count) = ap (λ (t : Return). t.holders) was in
     let bound = few_members count (λ i. list_any (greets m i) p.later) in
     let raised = more (omega (arith, before, bound, few)) in
-    let had : weight (not (contains nat_cmp old.holders row.member)) ≡ weight (not (list_any (greets m row.member) p.later)) = ap (λ b. weight (not b)) (is.holders (sym is.lives ∙ lasts) row.member) in
+    let had : weight (not (is_holder old row.member)) ≡ weight (not (list_any (greets m row.member) p.later)) = ap (λ b. weight (not b)) (is.holders (sym is.lives ∙ lasts) row.member) in
     let after = more_holders count m p.later row low says in
     let now : new.told.holders ≡ count_by (λ i. list_any (greets m i) (p.later ++ row ∷ [])) (members count) = omega (arith, raised, before, had, after) in
     record {
@@ -209,15 +210,17 @@ line_greeted count old new p row few low lasts none says is told more same holde
           ∙ ap (λ b. made m p.row.at (option_or (moment_of (find (joins m) p.later)) (moment_if (joins m row) row.at)) (cond b (Some row.at) (moment_of (last_or None (filter (tells_of what.Alive m) p.later)))) new.told.holders) says)
           ∙ ap (return_with count m p.row.at) (sym (life_on old count p row lasts none is));
       lives = same ∙ lasts ∙ sym (still_on old count p row lasts none is);
+      room = room ∙ is.room;
       holders = λ on i. holders i ∙ ap (λ c. if row.member == i then true else c) (is.holders (sym is.lives ∙ lasts) i) ∙ or_comm (row.member == i) (list_any (greets m i) p.later) ∙ sym (one_greeted m i p.later row says);
     }
 
 -- the line of a row before any other
-pub line_new : (count : ℕ) (line : Line) (rows : List Row) (row : Row) → line.told ≡ made row.member row.at None None 0 → line.is_open ≡ true → line.holders.keys ≡ [] → IsLineOf count line (placed rows row)
-line_new count line rows row told lasts empty = record {
+pub line_new : (count : ℕ) (line : Line) (rows : List Row) (row : Row) → line.told ≡ made row.member row.at None None 0 → line.is_open ≡ true → length line.holders.items ≡ count → ((i : ℕ) → is_holder line i ≡ false) → IsLineOf count line (placed rows row)
+line_new count line rows row told lasts room empty = record {
   told = told ∙ ap (made row.member row.at None None) (sym (none_count (λ i. false) 0 count (λ i. refl)));
   lives = lasts;
-  holders = λ on i. ap (list_any (is_at (nat_cmp i))) empty;
+  room = room;
+  holders = λ on i. empty i;
 }
 
 -- whose line it is
@@ -273,7 +276,7 @@ apart_by true count line p row is_open none is =
     line_silent count line line p row is_open none.no_end none.no_greeting is
     (ap (λ j. made line.told.member line.told.at j line.told.back line.told.holders)
     (sym (ap (λ b. option_or line.told.joined (moment_if b row.at)) none.no_join ∙ or-none line.told.joined)))
-    refl (λ i. refl)
+    refl refl
 
 pub line_apart : (count : ℕ) (line : Line) (p : Placed) (row : Row) → option_map_or (λ k. k == p.row.member) (whom row) false ≡ false → IsLineOf count line p → IsLineOf count line (and_later row p)
 line_apart count line p row none is =

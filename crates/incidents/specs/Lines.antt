@@ -1,8 +1,6 @@
 -- What is kept of the returns so far.
 use Rattle.std.specs.Prelude.{◌≡◌, ◌<◌, ◌≤◌, ◌^◌, ◌++◌, ℕ, Bool, true, false, not, ◌||◌, Option, Some, None, List, [], ◌∷◌, length, if◌then◌else◌}
 use Rattle.std.specs.List.{list_any, slice_index_or}
-use Rattle.std.specs.Ordering.{nat_cmp}
-use Rattle.std.specs.BTreeSet.{contains}
 use Rattle.trace.specs.declared.row.What.TheVariants as what
 use Rattle.trace.specs.declared.row.Row.{Row}
 use Rattle.trace_rows.specs.Rows.{Placed, has_kind}
@@ -24,11 +22,16 @@ whom row = if has_kind what.Alive row then row.about else (if has_kind what.Join
 abbrev pub goes_on : Placed → Bool
 goes_on p = not (list_any (ends_life p.row.member) p.later)
 
+-- the member is marked as one that has said in that life that its member is alive
+abbrev pub is_holder : Line → ℕ → Bool
+is_holder line i = slice_index_or line.holders.items i false
+
 -- the line is the row's return so far
 pub record IsLineOf (count : ℕ) (line : Line) (p : Placed) : Type 0 where
   pub told : line.told ≡ return_told count p
   pub lives : line.is_open ≡ goes_on p
-  pub holders : goes_on p ≡ true → (i : ℕ) → contains nat_cmp line.holders i ≡ list_any (greets p.row.member i) p.later
+  pub room : length line.holders.items ≡ count
+  pub holders : goes_on p ≡ true → (i : ℕ) → is_holder line i ≡ list_any (greets p.row.member i) p.later
 
 -- the lines are these returns so far, and where those stand that go on is kept
 pub record AreLinesAt (lines : Lines) (count : ℕ) (returns : List Placed) : Type 0 where

@@ -1,8 +1,6 @@
 //! The restarts of the rows so far, and what the lives behind them tell.
-ghost use Rattle.std.specs.Prelude.{◌≡◌, ◌≢◌, ◌<◌, ◌≤◌, ◌^◌, ◌+◌, ◌++◌, ◌∷◌, ◌&&◌, ◌||◌, ◌==◌, ℕ, true, not, List, [], length, slice_index_or, map, IfOk, OnOk, Some, if◌then◌else◌};
+ghost use Rattle.std.specs.Prelude.{◌≡◌, ◌≢◌, ◌<◌, ◌≤◌, ◌^◌, ◌+◌, ◌++◌, ◌∷◌, ◌&&◌, ◌||◌, ◌==◌, ℕ, true, false, not, List, [], length, slice_index_or, map, IfOk, OnOk, Some, if◌then◌else◌};
 ghost use Rattle.std.specs.Option.{option_or};
-ghost use Rattle.std.specs.Ordering.{nat_cmp};
-ghost use Rattle.std.specs.BTreeSet.{contains};
 ghost use Rattle.trace.specs.declared.row.Row.{Row as AnyRow};
 ghost use Rattle.trace_rows.specs.Rows.{Placed, has_kind, tells_of};
 ghost use Rattle.trace_rows.specs.Moments.{moment_if};
@@ -10,15 +8,15 @@ ghost use Rattle.incidents.specs.Lives.{ends, weight};
 ghost use Rattle.incidents.specs.Kept.{placed};
 ghost use Rattle.incidents.specs.Returns.{ends_life, joins, returns_of};
 ghost use Rattle.incidents.specs.OpenPlaces.{places_of, ArePlaces};
-ghost use Rattle.incidents.specs.Lines.{and_later, whom, IsLineOf, AreLinesAt, AreLinesOf, AreSeen, AreLeft};
+ghost use Rattle.incidents.specs.Lines.{and_later, is_holder, whom, IsLineOf, AreLinesAt, AreLinesOf, AreSeen, AreLeft};
 ghost use Rattle.incidents.specs.declared.lines.Line.{Line as ALine};
 
+use crate::lives::nobody;
 use crate::open_places::OpenPlaces;
 use crate::returns::Return;
 use crate::rows::{ends, weight};
 use base::{MemberId, Memory, Moment};
 use std::alloc::{AllocError, Global};
-use std::collections::BTreeSet;
 use trace::{Row, What};
 use trace_rows::has_kind;
 
@@ -28,16 +26,17 @@ pub(crate) struct Line {
     pub(crate) told: Return,
     /// Whether the life behind it goes on.
     pub(crate) is_open: bool,
-    /// Who has said in that life that the member is alive.
-    pub(crate) holders: BTreeSet<u16>,
+    /// Of each member whether it has said in that life that the one is alive.
+    pub(crate) holders: Vec<bool>,
 }
 
 impl Line {
-    /// The restart that a row tells of.
-    fn new(alloc: Global, row: &Row) -> Line
-        ensures { (count : ℕ) (rows : List AnyRow) → IsLineOf count result (placed rows row.now) }
+    /// The restart that a row tells of, in a cluster of so many members.
+    fn new(alloc: Global, count: usize, row: &Row) -> Result<Line, Memory>
+        ensures { IfOk result (λ line. (rows : List AnyRow) → IsLineOf count line (placed rows row.now)) }
     {
-        Line {
+        let holders = nobody(alloc, count)?;
+        Ok(Line {
             told: Return {
                 member: row.member,
                 at: row.at,
@@ -46,53 +45,59 @@ impl Line {
                 holders: 0,
             },
             is_open: true,
-            holders: BTreeSet::new(alloc),
-        }
+            holders,
+        })
     }
 
     /// Takes in what the next row tells of it.
-    fn see(&mut self, row: &Row) -> Result<(), Memory>
-        ensures { OnOk result ((count : ℕ) (p : Placed) → count ≤ 2 ^ 16 → row.now.member < count
-            → IsLineOf count self.old p → IsLineOf count self.new (and_later row.now p)) }
+    fn see(&mut self, row: &Row)
+        ensures { (count : ℕ) (p : Placed) → count ≤ 2 ^ 16 → row.now.member < count
+            → IsLineOf count self.old p → IsLineOf count self.new (and_later row.now p) }
     {
         if !self.is_open {
-            return Ok(());
+            return;
         }
         let member = self.told.member;
         if ends_life(row, member) {
             self.is_open = false;
-            return Ok(());
+            return;
         }
         self.told.joined = first_of(self.told.joined, joins(row, member), row.at);
         if !is_greeting(row, member) {
-            return Ok(());
+            return;
         }
-        self.greet(row.member, row.at)
+        self.greet(row.member, row.at);
     }
 
     /// A member says that the one is alive.
-    fn greet(&mut self, member: MemberId, at: Moment) -> Result<(), Memory>
-        ensures told { OnOk result (self.new.told ≡ record self.old.told { back = Some at; holders = self.new.told.holders }) }
-        ensures count { OnOk result (self.old.told.holders < 2 ^ 63 → self.new.told.holders ≡ self.old.told.holders + weight (not (contains nat_cmp self.old.holders member))) }
-        ensures holders { OnOk result ((i : ℕ) → contains nat_cmp self.new.holders i ≡ (if member == i then true else contains nat_cmp self.old.holders i)) }
+    fn greet(&mut self, member: MemberId, at: Moment)
+        ensures told { self.new.told ≡ record self.old.told { back = Some at; holders = self.new.told.holders } }
+        ensures count { member < length self.old.holders.items → self.old.told.holders < 2 ^ 63
+            → self.new.told.holders ≡ self.old.told.holders + weight (not (is_holder self.old member)) }
+        ensures holders { member < length self.old.holders.items
+            → (i : ℕ) → is_holder self.new i ≡ (if member == i then true else is_holder self.old i) }
+        ensures room { length self.new.holders.items ≡ length self.old.holders.items }
         ensures lives { self.new.is_open ≡ self.old.is_open }
     {
-        let is_new = put_in(&mut self.holders, member.0)?;
+        let is_new = mark(&mut self.holders, member.index());
         self.told.holders = one_more_if(self.told.holders, is_new);
         self.told.back = Some(at);
-        Ok(())
     }
 }
 
-/// Puts a number in, and says whether it is new.
-fn put_in(numbers: &mut BTreeSet<u16>, number: u16) -> Result<bool, Memory>
-    ensures new { IfOk result (λ is_new. is_new ≡ not (contains nat_cmp numbers.old number)) }
-    ensures put { OnOk result ((i : ℕ) → contains nat_cmp numbers.new i ≡ (if number == i then true else contains nat_cmp numbers.old i)) }
+/// Marks a member by its number, if it is one of those in the flags, and says whether it wasn't marked.
+fn mark(flags: &mut Vec<bool>, number: usize) -> bool
+    ensures new { number < length flags.old.items → result ≡ not (slice_index_or flags.old.items number false) }
+    ensures marked { number < length flags.old.items
+        → (i : ℕ) → slice_index_or flags.new.items i false ≡ (if number == i then true else slice_index_or flags.old.items i false) }
+    ensures room { length flags.new.items ≡ length flags.old.items }
 {
-    match numbers.insert(number) {
-        Ok(is_new) => Ok(is_new),
-        Err(_) => Err(Memory),
+    if number >= flags.len() {
+        return false;
     }
+    let is_new = !flags[number];
+    flags[number] = true;
+    is_new
 }
 
 /// One more, if it is new.
@@ -180,7 +185,7 @@ impl Lines {
         ensures { OnOk result ((count : ℕ) (rows : List AnyRow) → count ≤ 2 ^ 16 → row.now.member < count
             → AreLinesOf self.old count rows → AreLinesOf self.new count (rows ++ row.now ∷ [])) }
     {
-        self.see(row)?;
+        self.see(row);
         if has_kind(row, What::Restart) {
             return self.begin(row);
         }
@@ -188,34 +193,32 @@ impl Lines {
     }
 
     /// Takes in what the next row tells of the restarts so far.
-    fn see(&mut self, row: &Row) -> Result<(), Memory>
+    fn see(&mut self, row: &Row)
         requires kept { (count : ℕ) × (returns : List Placed) × AreLinesAt self.old count returns }
         requires member { row.now.member < length self.old.open_places.of_members.items }
-        ensures seen { OnOk result ((count : ℕ) (returns : List Placed) → count ≤ 2 ^ 16 → row.now.member < count
-            → AreLinesAt self.old count returns → AreLinesAt self.new count (map (and_later row.now) returns)) }
-        ensures room { OnOk result (length self.new.open_places.of_members.items ≡ length self.old.open_places.of_members.items) }
+        ensures seen { (count : ℕ) (returns : List Placed) → count ≤ 2 ^ 16 → row.now.member < count
+            → AreLinesAt self.old count returns → AreLinesAt self.new count (map (and_later row.now) returns) }
+        ensures room { length self.new.open_places.of_members.items ≡ length self.old.open_places.of_members.items }
     {
-        match whom(row) {
-            Some(member) => self.see_own(member, row),
-            None => Ok(()),
+        if let Some(member) = whom(row) {
+            self.see_own(member, row);
         }
     }
 
     /// The same of a row that tells something of this member's.
-    fn see_own(&mut self, member: MemberId, row: &Row) -> Result<(), Memory>
+    fn see_own(&mut self, member: MemberId, row: &Row)
         requires kept { (count : ℕ) × (returns : List Placed) × AreLinesAt self.old count returns }
         requires member { row.now.member < length self.old.open_places.of_members.items }
         requires whom { whom row.now ≡ Some member }
-        ensures seen { OnOk result ((count : ℕ) (returns : List Placed) → count ≤ 2 ^ 16 → row.now.member < count
-            → AreLinesAt self.old count returns → AreLinesAt self.new count (map (and_later row.now) returns)) }
-        ensures room { OnOk result (length self.new.open_places.of_members.items ≡ length self.old.open_places.of_members.items) }
+        ensures seen { (count : ℕ) (returns : List Placed) → count ≤ 2 ^ 16 → row.now.member < count
+            → AreLinesAt self.old count returns → AreLinesAt self.new count (map (and_later row.now) returns) }
+        ensures room { length self.new.open_places.of_members.items ≡ length self.old.open_places.of_members.items }
     {
-        see_open(&mut self.lines, &self.open_places, member, row)?;
+        see_open(&mut self.lines, &self.open_places, member, row);
         if !ends(row) {
-            return Ok(());
+            return;
         }
         self.open_places.close(row.member);
-        Ok(())
     }
 
     /// Adds the restart that a row tells of.
@@ -225,7 +228,7 @@ impl Lines {
             → AreLinesAt self.old count returns → AreLinesAt self.new count (returns ++ placed rows row.now ∷ [])) }
     {
         let place = self.lines.len();
-        let line = Line::new(self.alloc, row);
+        let line = Line::new(self.alloc, self.open_places.members(), row)?;
         push_line(&mut self.lines, line)?;
         self.open_places.add(row.member, place)
     }
@@ -249,32 +252,26 @@ fn push_line(lines: &mut Vec<Line>, line: Line) -> Result<(), Memory>
 }
 
 /// Takes in what a row tells of a member's restarts whose lives go on.
-fn see_open(
-    lines: &mut Vec<Line>,
-    open_places: &OpenPlaces,
-    member: MemberId,
-    row: &Row,
-) -> Result<(), Memory>
+fn see_open(lines: &mut Vec<Line>, open_places: &OpenPlaces, member: MemberId, row: &Row)
     requires { ArePlaces (length lines.old.items) (places_of open_places.now member) }
-    ensures long { OnOk result (length lines.new.items ≡ length lines.old.items) }
-    ensures seen { OnOk result (AreSeen row.now lines.old.items lines.new.items (places_of open_places.now member)) }
-    ensures left { OnOk result (AreLeft lines.old.items lines.new.items (places_of open_places.now member)) }
+    ensures long { length lines.new.items ≡ length lines.old.items }
+    ensures seen { AreSeen row.now lines.old.items lines.new.items (places_of open_places.now member) }
+    ensures left { AreLeft lines.old.items lines.new.items (places_of open_places.now member) }
 {
     for nth in 0..open_places.count(member) {
-        see_one(lines, open_places.place(member, nth), row)?;
+        see_one(lines, open_places.place(member, nth), row);
     }
-    Ok(())
 }
 
 /// Takes in what a row tells of the restart at a place.
-fn see_one(lines: &mut Vec<Line>, place: usize, row: &Row) -> Result<(), Memory>
+fn see_one(lines: &mut Vec<Line>, place: usize, row: &Row)
     requires { place < length lines.old.items }
     ensures long { length lines.new.items ≡ length lines.old.items }
-    ensures here { OnOk result ((count : ℕ) (p : Placed) (d : ALine) → count ≤ 2 ^ 16 → row.now.member < count
-        → IsLineOf count (slice_index_or lines.old.items place d) p → IsLineOf count (slice_index_or lines.new.items place d) (and_later row.now p)) }
+    ensures here { (count : ℕ) (p : Placed) (d : ALine) → count ≤ 2 ^ 16 → row.now.member < count
+        → IsLineOf count (slice_index_or lines.old.items place d) p → IsLineOf count (slice_index_or lines.new.items place d) (and_later row.now p) }
     ensures left { (k : ℕ) (d : ALine) → k ≢ place → slice_index_or lines.new.items k d ≡ slice_index_or lines.old.items k d }
 {
-    lines[place].see(row)
+    lines[place].see(row);
 }
 
 /// Of whose restarts a row may tell something: of those of whom it says that it is alive, or, where

@@ -24,6 +24,13 @@ impl OpenPlaces {
         Ok(OpenPlaces { of_members })
     }
 
+    /// Of how many members.
+    pub(crate) fn members(&self) -> usize
+        ensures { result ≡ length self.now.of_members.items }
+    {
+        self.of_members.len()
+    }
+
     /// How many there are of a member.
     pub(crate) fn count(&self, member: MemberId) -> usize
         ensures { result ≡ length (places_of self.now member) }

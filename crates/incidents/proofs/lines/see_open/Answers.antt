@@ -26,13 +26,13 @@ loop-nth-preserved c =
     let here : nth < length places = omega (arith, c.loop-nth-test.true, c.loop-nth.auto.nth-end, c.count-nth-end.ensures) in
     let apart : is_among c.place.result (take nth places) ≡ false = ap (λ q. is_among q (take nth places)) c.place.ensures ∙ c.requires.apart nth 0 here in
     record {
-      long = c.in_ok-see_one.ensures.long ∙ c.loop-nth.invariant.long;
+      long = c.see_one.ensures.long ∙ c.loop-nth.invariant.long;
       seen =
           seen_more c.args.row.now c.args.lines.now.items c.loop-nth.lines.items c.see_one.new.lines.items places nth c.place.result c.place.ensures here apart
-          c.loop-nth.invariant.seen c.loop-nth.invariant.left c.in_ok-see_one.ensures.here c.in_ok-see_one.ensures.left;
+          c.loop-nth.invariant.seen c.loop-nth.invariant.left c.see_one.ensures.here c.see_one.ensures.left;
       left =
           left_more c.args.lines.now.items c.loop-nth.lines.items c.see_one.new.lines.items places nth c.place.result c.place.ensures here
-          c.loop-nth.invariant.left c.in_ok-see_one.ensures.left;
+          c.loop-nth.invariant.left c.see_one.ensures.left;
     }
 
 pub returns-clause-seen : goal.returns-clause-seen

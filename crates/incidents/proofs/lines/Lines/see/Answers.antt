@@ -5,5 +5,5 @@ use Rattle.incidents.proofs.lines.Lines.see.Goals as goal
 pub see_own-requires-clause-whom : goal.see_own-requires-clause-whom
 see_own-requires-clause-whom c = sym c.whom.ensures ∙ c.in-Some.is
 
-pub returns-in-None-clause-seen : goal.returns-in-None-clause-seen
-returns-in-None-clause-seen c count returns few low are = lines_silent c.args.self.now count returns c.args.row.now (sym c.whom.ensures ∙ c.in-None.is) are
+pub returns-in_default-clause-seen : goal.returns-in_default-clause-seen
+returns-in_default-clause-seen c count returns few low are = lines_silent c.args.self.now count returns c.args.row.now (sym c.whom.ensures ∙ c.in_default.is) are

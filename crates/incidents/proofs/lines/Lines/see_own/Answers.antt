@@ -11,12 +11,12 @@ pub returns-then-not-ends-clause-seen : goal.returns-then-not-ends-clause-seen
 returns-then-not-ends-clause-seen c count returns few low are =
     let row = c.args.row.now in
     let places = places_of c.args.self.now.open_places in
-    lines_seen c.args.self.now _ count returns row c.args.member few low c.requires.whom are c.in_ok-see_open.ensures.long c.in_ok-see_open.ensures.seen c.in_ok-see_open.ensures.left refl
+    lines_seen c.args.self.now _ count returns row c.args.member few low c.requires.whom are c.see_open.ensures.long c.see_open.ensures.seen c.see_open.ensures.left refl
     (λ k. sym (ap (λ b. if b && (row.member == k) then [] else places k) (sym c.ends.ensures ∙ c.if-not-ends.true)))
 
 pub returns-clause-seen : goal.returns-clause-seen
 returns-clause-seen c count returns few low are =
     let row = c.args.row.now in
     let places = places_of c.args.self.now.open_places in
-    lines_seen c.args.self.now _ count returns row c.args.member few low c.requires.whom are c.in_ok-see_open.ensures.long c.in_ok-see_open.ensures.seen c.in_ok-see_open.ensures.left c.close.ensures.room
+    lines_seen c.args.self.now _ count returns row c.args.member few low c.requires.whom are c.see_open.ensures.long c.see_open.ensures.seen c.see_open.ensures.left c.close.ensures.room
     (λ k. c.close.ensures.closed k ∙ sym (ap (λ b. if b && (row.member == k) then [] else places k) (sym c.ends.ensures ∙ c.if-not-ends.false)))
