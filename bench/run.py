@@ -6,8 +6,8 @@
 The program is the one that ./swimsim has built, or FILE; nothing is built here. Each scenario simulates S seconds
 (10 without it), a tick being a millisecond. WORDS, such as --workers 4, are handed on to the program.
 With --entries each line is a cluster of 300 members with memberlist's LAN defaults, of whose messages two of a hundred are
-lost, and N entries of one kind: pauses, slow times, or cuts. They lie past the end, or each is met; with --version 4 there are
-blocks, too, and restarts of members that run, past the end. A pause of 24,000 entries that touch follows; then 100 groups of
+lost, and N entries of one kind: pauses, slow times, or cuts, with --version 4 also blocks and restarts of members that run. They
+lie past the end, or each is met. A pause of 24,000 entries that touch follows; then 100 groups of
 three members with a path for each of 9,900 pairs, 4,096 members that crash or leave past the end, and 4,096 groups of one
 member up to moment 0. Each is compared with the same cluster without the entries, by the least processor time of nine runs, by
 turns; also per row, where the entries change what happens.
@@ -83,8 +83,8 @@ ENTRIES = {
     'block': '[[block]]\nmember = "n0-{member}"\nfrom = {at}\nuntil = {over}\n',
     'restart': '[[restart]]\nmember = "n0-{member}"\nat = {at}\n',
 }
-# those that versions 1 to 3 have, and those of which each that is met changes what happens from then on
-EARLIER, LATE_ALONE = ('pause', 'slow', 'cut'), ('restart',)
+# those that versions 1 to 3 have
+EARLIER = 'pause', 'slow', 'cut'
 
 
 def with_entries(kind, entries, first, step, plain):
@@ -227,8 +227,7 @@ def timed_entries(entries, end, plain, version):
     """The cluster with entries of each kind that the version has, past the end and met."""
     for kind in ENTRIES if version == 4 else EARLIER:
         yield f'{kind}, late', entries, with_entries(kind, entries, end + 1, 2, plain)
-        if kind not in LATE_ALONE:
-            yield f'{kind}, met', entries, with_entries(kind, entries, 1, max(2, end // max(1, entries)), plain)
+        yield f'{kind}, met', entries, with_entries(kind, entries, 1, max(2, end // max(1, entries)), plain)
     yield 'touching pauses', 24000, touching_pauses(24000, plain)
 
 

@@ -15,7 +15,7 @@ import tomllib
 from pathlib import Path
 
 sys.path.append(str(Path(__file__).resolve().parents[1] / 'model'))
-from model_expand import expand, origins  # noqa: E402
+from model_expand import entries, expand, origins  # noqa: E402
 
 ROOM = Path(__file__).resolve().parent / 'explain' / 'accepted'
 TOP = Path(__file__).resolve().parents[2]
@@ -104,6 +104,7 @@ class Cluster:
         self.is_fourth = document['version'] == 4
         said = expand(document) if self.is_fourth else document
         self.origins = origins(document) if self.is_fourth else {}
+        self.entries = entries(document) if self.is_fourth else {}
         self.text = text.splitlines()
         self.end = said['end']
         self.is_third = said['version'] >= 3
@@ -346,22 +347,103 @@ def crashes(c):
     return sorted(within(c, c.crashes, 'at'), key=lambda it: (order[it['member']], it['at']))
 
 
-def script(c):
-    for crash in crashes(c):
-        yield f'crash {crash["member"]} {crash["at"]}'
-    for leave in within(c, c.leaves, 'at'):
-        yield f'leave {leave["member"]} {leave["at"]}'
-    for restart in within(c, c.restarts, 'at'):
-        contact = f' contact {restart["contact"]}' if 'contact' in restart else ''
-        yield f'restart {restart["member"]} {restart["at"]}{contact}'
-    for slow in within(c, c.slows, 'from'):
-        yield f'slow {slow["member"]} from {slow["from"]} until {slow["until"]} extra {slow["extra"]}'
+def begins(plain):
+    """When a plain entry is, or begins."""
+    return plain['from'] if 'from' in plain else plain['at']
+
+
+def begun(c, table):
+    """Of each entry of a list of version 4 that begins by the end its name and its plain entries."""
+    return [(name, plain) for name, plain in c.entries[table] if plain and min(map(begins, plain)) <= c.end]
+
+
+def ends(plain):
+    """The first and the last of these plain entries, by their moments; at one moment the order of the plain text counts."""
+    order = sorted(plain, key=begins)
+    return order[0], order[-1]
+
+
+def said(plain):
+    """What a line says of a plain entry."""
+    when = f'from {plain["from"]} until {plain["until"]}' if 'from' in plain else str(plain['at'])
+    return ' '.join([plain['member'], when, *(f'{key} {plain[key]}' for key in ('extra', 'contact') if key in plain)])
+
+
+def entry_lines(c, table):
+    """The lines of a list of version 4: one for each entry of the text."""
+    for name, plain in begun(c, table):
+        first, last = ends(plain)
+        if len(plain) == 1:
+            yield f'{table.split()[0]} {said(first)}'
+        else:
+            called = f' {name}' if name else ''
+            yield f'{table}{called} entries {len(plain)} first {said(first)} last {said(last)}'
+
+
+def has_several(c, table):
+    """Whether an entry of a list of version 4 stands for several plain ones."""
+    return any(len(plain) > 1 for _, plain in c.entries[table])
+
+
+def entry_values(c, table, *keys):
+    """The same as JSON, with these keys of a plain entry."""
+    for name, plain in begun(c, table):
+        first, last = ({key: it.get(key) for key in keys} for it in ends(plain))
+        if len(plain) == 1:
+            yield first
+        else:
+            of = {'of': table.split()[2]} if ' of ' in table else {}
+            yield {'name': name, 'entries': len(plain), 'first': first, 'last': last, **of}
+
+
+RESTARTS = ('restart', 'restart of crash', 'restart of leave')
+
+
+def cut_lines(c):
     for cut in within(c, c.cuts, 'at'):
         yield f'cut {cut["from"]} {cut["to"]} from {cut["at"]} until {cut["until"]}'
+
+
+def script(c):
+    if c.is_fourth:
+        yield from entry_lines(c, 'crash') if has_several(c, 'crash') else (f'crash {said(crash)}' for crash in crashes(c))
+        for table in ('leave', *RESTARTS, 'slow'):
+            yield from entry_lines(c, table)
+        yield from cut_lines(c)
+        for table in ('pause', 'block'):
+            yield from entry_lines(c, table)
+        return
+    for crash in crashes(c):
+        yield f'crash {said(crash)}'
+    for table, items in (('leave', within(c, c.leaves, 'at')), ('slow', within(c, c.slows, 'from'))):
+        for item in items:
+            yield f'{table} {said(item)}'
+    yield from cut_lines(c)
     for pause in within(c, c.pauses, 'from'):
-        yield f'pause {pause["member"]} from {pause["from"]} until {pause["until"]}'
-    for block in within(c, c.blocks, 'from'):
-        yield f'block {block["member"]} from {block["from"]} until {block["until"]}'
+        yield f'pause {said(pause)}'
+
+
+def script_value(c):
+    def some(items, *keys):
+        return [{key: item[key] for key in keys} for item in items]
+    cuts = some(within(c, c.cuts, 'at'), 'from', 'to', 'at', 'until')
+    if c.is_fourth:
+        return {
+            'crashes': list(entry_values(c, 'crash', 'member', 'at')) if has_several(c, 'crash') else some(crashes(c), 'member', 'at'),
+            'leaves': list(entry_values(c, 'leave', 'member', 'at')),
+            'restarts': [value for table in RESTARTS for value in entry_values(c, table, 'member', 'at', 'contact')],
+            'slows': list(entry_values(c, 'slow', 'member', 'from', 'until', 'extra')),
+            'cuts': cuts,
+            'pauses': list(entry_values(c, 'pause', 'member', 'from', 'until')),
+            'blocks': list(entry_values(c, 'block', 'member', 'from', 'until')),
+        }
+    return {
+        'crashes': some(crashes(c), 'member', 'at'),
+        'leaves': some(within(c, c.leaves, 'at'), 'member', 'at'),
+        'slows': some(within(c, c.slows, 'from'), 'member', 'from', 'until', 'extra'),
+        'cuts': cuts,
+        **({'pauses': some(within(c, c.pauses, 'from'), 'member', 'from', 'until')} if c.is_third else {}),
+    }
 
 
 def lines(c, file):
@@ -432,15 +514,7 @@ def figures(c):
         },
         'news': {'limit': c.limit(), **dict([c.room()]), **({'gossip': some(c.gossip, *GOSSIP)} if c.gossip else {}),
                  **({'queue': c.queue()} if c.queue() else {})},
-        'script': {
-            'crashes': [some(it, 'member', 'at') for it in crashes(c)],
-            'leaves': [some(it, 'member', 'at') for it in within(c, c.leaves, 'at')],
-            **({'restarts': [{**some(it, 'member', 'at'), 'contact': it.get('contact')} for it in within(c, c.restarts, 'at')]} if c.is_fourth else {}),
-            'slows': [some(it, 'member', 'from', 'until', 'extra') for it in within(c, c.slows, 'from')],
-            'cuts': [some(it, 'from', 'to', 'at', 'until') for it in within(c, c.cuts, 'at')],
-            **({'pauses': [some(it, 'member', 'from', 'until') for it in within(c, c.pauses, 'from')]} if c.is_third else {}),
-            **({'blocks': [some(it, 'member', 'from', 'until') for it in within(c, c.blocks, 'from')]} if c.is_fourth else {}),
-        },
+        'script': script_value(c),
         'quiet': {'messages_a_period': period, 'messages_a_second': second, 'messages': messages, 'rows': rows, 'bytes': size},
     }
 

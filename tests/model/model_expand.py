@@ -133,6 +133,8 @@ class Expansion:
         self.numbers = {name: number for number, name in enumerate(self.starts)}
         self.made = 0
         self.restarts = []
+        # the list and the place of the text's entry of each restart of `back`
+        self.returns = []
         # the place of the text's entry of each plain one, but for the restarts of `back`
         self.origins = {section: [] for section in SCRIPT}
 
@@ -221,9 +223,11 @@ class Expansion:
             plain[section] = []
             for place, entry in enumerate(self.document.get(section, [])):
                 ticks = {key: plain_value(section, key, value, self.tick) for key, value in entry.items()}
+                back = len(self.restarts)
                 found = list(kinds[section](ticks))
                 plain[section] += found
                 self.origins[section] += [place] * len(found)
+                self.returns += [(section, place)] * (len(self.restarts) - back)
         plain['restart'] += self.restarts
         return plain
 
@@ -243,6 +247,24 @@ def origins(document):
     ways = {section: [place for place, item in enumerate(document.get(section, [])) for _ in both_ways(item)]
             for section in ('path', 'cut')}
     return {**expansion.origins, **ways}
+
+
+def entries(document):
+    """By the name of a list the name of each of its items, and the plain entries for which it stands. `restart of crash` and
+    `restart of leave` have those of `back`."""
+    expansion = Expansion(document, tick_of(document.get('tick', '1ms')))
+    plain = expansion.lists()
+    found = {}
+    for section in SCRIPT:
+        # the restarts of `back`, which have no origin, are behind the others
+        pairs = list(zip(expansion.origins[section], plain[section]))
+        found[section] = [(item.get('name'), [it for origin, it in pairs if origin == place])
+                          for place, item in enumerate(document.get(section, []))]
+    for section in ('crash', 'leave'):
+        pairs = list(zip(expansion.returns, expansion.restarts))
+        found[f'restart of {section}'] = [(item.get('name'), [it for origin, it in pairs if origin == (section, place)])
+                                          for place, item in enumerate(document.get(section, []))]
+    return found
 
 
 def expand(document):

@@ -4,13 +4,12 @@ use Rattle.std.specs.Io.KnownBytes.{Appends}
 use Rattle.scenario.specs.Setup.{Setup}
 use Rattle.diagnostic_text.specs.Told.{TellsDocument, TellsLines}
 use Rattle.explain_command.specs.Told.{TellsMeaning, TellsMeaningDocument}
-use Rattle.files.specs.Files.{KnownFile}
+use Rattle.files.specs.Files.{KnownFile, Holds}
 use Rattle.shown_names.specs.Shown.{shown_name}
 use Rattle.command_line.specs.declared.explaining.ExplainWords.{ExplainWords}
 use Rattle.command_line.specs.declared.failure.Failure.{Failure}
 use Rattle.command_line.specs.declared.failure.Failure.TheVariants.{Mistaken, Output}
 use Rattle.text_reader.specs.Answers.{Answers}
-use Rattle.scenario_files.specs.Loading.{HasVerdict}
 use Rattle.scenario_files.specs.Shelves.{IsUnread}
 
 -- the text has the diagnostics of a scenario that is refused by this rule, as a JSON document or in lines
@@ -18,24 +17,24 @@ abbrev pub TellsDiagnostics : Bool → ℕ → List ℕ → Type 0
 TellsDiagnostics true rule text = TellsDocument rule text
 TellsDiagnostics false rule text = TellsLines rule text
 
--- the text says what a scenario means that the file of this name says, as a JSON document or in lines
-abbrev pub TellsSetup : Bool → Setup → List ℕ → List ℕ → Type 0
-TellsSetup true s file text = TellsMeaningDocument s file text
-TellsSetup false s file text = TellsMeaning s (shown_name file) text
+-- the text says what a scenario means that the file of this name says in these bytes, as a JSON document or in lines
+abbrev pub TellsSetup : Bool → (bytes : List ℕ) → Setup → (file text : List ℕ) → Type 0
+TellsSetup true bytes s file text = TellsMeaningDocument bytes s file text
+TellsSetup false bytes s file text = TellsMeaning bytes s (shown_name file) text
 
--- The text explains a scenario with this verdict: of one that breaks no rule what it means; of another its diagnostics, the
+-- The text explains a scenario in these bytes with this verdict: of one that breaks no rule what it means; of another its diagnostics, the
 -- least rule among which is the one that it is refused by.
-abbrev pub TellsText : Result Setup ℕ → ExplainWords → Option ℕ → List ℕ → Type 0
-TellsText (Ok s) explain broken text = (broken ≡ None) × TellsSetup explain.json s explain.file.now text
-TellsText (Err rule) explain broken text = (broken ≡ Some rule) × TellsDiagnostics explain.json rule text
+abbrev pub TellsText : (bytes : List ℕ) → Result Setup ℕ → ExplainWords → Option ℕ → List ℕ → Type 0
+TellsText bytes (Ok s) explain broken text = (broken ≡ None) × TellsSetup explain.json bytes s explain.file.now text
+TellsText bytes (Err rule) explain broken text = (broken ≡ Some rule) × TellsDiagnostics explain.json rule text
 
 -- the text explains what bytes are answered
 abbrev pub TellsBytes : List ℕ → ExplainWords → Option ℕ → List ℕ → Type 0
-TellsBytes bytes explain broken text = (answer : Result Setup ℕ) × Answers bytes answer × TellsText answer explain broken text
+TellsBytes bytes explain broken text = (answer : Result Setup ℕ) × Answers bytes answer × TellsText bytes answer explain broken text
 
 -- the text explains the scenario of the file
 abbrev pub TellsOf : KnownFile → ExplainWords → Option ℕ → List ℕ → Type 0
-TellsOf known explain broken text = (answer : Result Setup ℕ) × HasVerdict known answer × TellsText answer explain broken text
+TellsOf known explain broken text = (bytes : List ℕ) × Holds known bytes × TellsBytes bytes explain broken text
 
 -- what an accepted scenario means was printed
 abbrev pub PrintsMeaning : KnownFile → ExplainWords → Option (List ℕ) → Option (List ℕ) → Type 0

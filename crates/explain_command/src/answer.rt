@@ -45,7 +45,7 @@ fn accepted(
     scenario: &Scenario,
 ) -> Result<Explained, Memory>
     ensures { IfOk result (λ told. (told.broken ≡ None)
-        × TellsSetup words.entry.json scenario.now words.entry.file.now (string_bytes told.text)) }
+        × TellsSetup words.entry.json bytes.now scenario.now words.entry.file.now (string_bytes told.text)) }
 {
     let text = meaning(alloc, words, bytes, scenario)?;
     Ok(Explained { text, broken: None })

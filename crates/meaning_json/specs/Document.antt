@@ -8,7 +8,8 @@ use Rattle.warnings.specs.declared.findings.Findings.{Findings}
 use Rattle.meaning_text.specs.Words.{kind_of, remedy_of}
 use Rattle.meaning_text.specs.Text.{message_of}
 use Rattle.meaning_json.specs.Figures.{whole, whole_or_null, list_of, link_data, groups_data, paths_data, times_data, news_data, quiet_data}
-use Rattle.meaning_json.specs.Script.{script_data}
+use Rattle.script_summary.specs.declared.summary.ScriptSummary.{ScriptSummary}
+use Rattle.meaning_json.specs.Summaries.{script_data_by}
 
 -- a kind, a reason, what mends that, and where it is
 unfoldable pub warning_with : List ℕ → List ℕ → List ℕ → Place → Data
@@ -30,9 +31,9 @@ cluster_data s window trip =
     (put (codes "groups") (groups_data s) (put (codes "members") (whole (member_count s)) no_members))))))
 
 -- the figures of a scenario
-unfoldable pub figures_data : Setup → Option ℕ → ℕ → Data
-figures_data s window trip =
-    object (put (codes "quiet") (quiet_data s) (put (codes "script") (script_data s) (put (codes "news") (news_data s) (put (codes "times") (times_data s)
+unfoldable pub figures_data : Setup → Option ScriptSummary → Option ℕ → ℕ → Data
+figures_data s script window trip =
+    object (put (codes "quiet") (quiet_data s) (put (codes "script") (script_data_by s script) (put (codes "news") (news_data s) (put (codes "times") (times_data s)
     (put (codes "cluster") (cluster_data s window trip) no_members)))))
 
 -- that the scenario of a file is accepted, figures and warnings
@@ -41,5 +42,5 @@ document_with file figures warnings =
     object (put (codes "warnings") warnings (put (codes "figures") figures (put (codes "accepted") (boolean true) (put (codes "file") (string file) no_members))))
 
 -- those of a scenario
-abbrev pub document : List ℕ → Setup → Findings → List Placed → Data
-document file s found placed = document_with file (figures_data s found.window found.round_trip) (warnings_data s found.round_trip placed)
+abbrev pub document : List ℕ → Setup → Option ScriptSummary → Findings → List Placed → Data
+document file s script found placed = document_with file (figures_data s script found.window found.round_trip) (warnings_data s found.round_trip placed)

@@ -1,3 +1,4 @@
 pub mod Figures
 pub mod Script
+pub mod Summaries
 pub mod Document

@@ -14,24 +14,33 @@ use base::Memory;
 use meaning::groups_of;
 use meaning_text::{kind_of, message_of, remedy_of};
 use scenario::Scenario;
+use script_summary::ScriptSummary;
 use serde_json::{Map, Value, put};
 use std::alloc::{AllocError, Global};
 use warnings::{Findings, Place, Placed};
 
-/// What the scenario in the file of this name means, as a JSON value: that it is accepted, its figures
-/// and its warnings; or `Memory` where it was refused.
+/// What the scenario in the file of this name means, as a JSON value: that it is accepted, its figures, with
+/// what happens, which `script` sums up if it is of version 4, and its warnings; or `Memory` where it was refused.
 pub fn json_of(
     alloc: Global,
     file: &str,
     scenario: &Scenario,
+    script: &Option<ScriptSummary>,
     findings: &Findings,
     placed: &[Placed],
 ) -> Result<Value, Memory>
-    ensures { IfOk result (λ v. view v ≡ document file.now scenario.now findings.now placed.now) }
+    ensures { IfOk result (λ v. view v ≡ document file.now scenario.now script.now findings.now placed.now) }
 {
     let trip = findings.round_trip;
     let groups = groups_of(alloc, scenario)?;
-    let figures = figures_value(alloc, scenario, groups.as_slice(), findings.window, trip)?;
+    let figures = figures_value(
+        alloc,
+        scenario,
+        groups.as_slice(),
+        script,
+        findings.window,
+        trip,
+    )?;
     let warnings = warnings_value(alloc, scenario, trip, placed)?;
     Ok(document_value(alloc, file, figures, warnings)?)
 }
@@ -60,11 +69,12 @@ fn figures_value(
     alloc: Global,
     scenario: &Scenario,
     groups: &[usize],
+    script: &Option<ScriptSummary>,
     window: Option<u64>,
     trip: u64,
 ) -> Result<Value, AllocError>
     requires { groups.now ≡ groups_of scenario.now }
-    ensures { IfOk result (λ v. view v ≡ figures_data scenario.now window trip) }
+    ensures { IfOk result (λ v. view v ≡ figures_data scenario.now script.now window trip) }
 {
     let mut members = Map::new(alloc);
     let cluster = cluster_value(alloc, scenario, groups, window, trip)?;
@@ -73,7 +83,7 @@ fn figures_value(
     put(&mut members, alloc, "times", times)?;
     let news = news_value(alloc, scenario)?;
     put(&mut members, alloc, "news", news)?;
-    let script = script_value(alloc, scenario, groups)?;
+    let script = script_value(alloc, scenario, groups, script)?;
     put(&mut members, alloc, "script", script)?;
     let quiet = quiet_value(alloc, scenario)?;
     put(&mut members, alloc, "quiet", quiet)?;

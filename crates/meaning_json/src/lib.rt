@@ -6,5 +6,6 @@ mod figures;
 mod lists;
 mod members;
 mod script;
+mod summaries;
 
 pub use document::json_of;

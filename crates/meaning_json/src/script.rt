@@ -5,23 +5,38 @@ ghost use Rattle.scenario.specs.Setup.{member_count};
 ghost use Rattle.meaning.specs.Groups.{groups_of};
 ghost use Rattle.meaning_json.specs.Figures.{list_of};
 ghost use Rattle.meaning_json.specs.Script.{departure_data, departure_item, crash_item, crash_items, crashes_data, leave_item, restart_data, restart_item, slow_data, slow_item, cut_data, cut_item, pause_data, pause_item, pauses_data, blocks_data, restarts_data, script_with, paused_with, restarted_with, script_data};
+ghost use Rattle.meaning_json.specs.Summaries.{script_data_by};
 
 use crate::figures::contact_value;
 use crate::lists::{list_of, push_value};
 use crate::members::{put_number, put_text};
+use crate::summaries::summary_value;
 use base::{MemberId, Moment, Profile};
 use meaning::{group_name, member_name};
 use scenario::{Cut, Leave, Pause, Restart, Scenario, ScriptEvent, ScriptKind, Slow};
+use script_summary::ScriptSummary;
 use serde_json::{Map, Value, put};
 use std::alloc::{AllocError, Global};
 
-/// What of the script happens up to the end: crashes by the members' numbers, the rest in the order of
-/// the text.
+/// What of the script happens up to the end: of version 4 entry by entry of the text, which is summed up; else crashes by
+/// the members' numbers, the rest in the order of the text.
 pub(crate) fn script_value(
     alloc: Global,
     scenario: &Scenario,
     groups: &[usize],
+    script: &Option<ScriptSummary>,
 ) -> Result<Value, AllocError>
+    requires { groups.now ≡ groups_of scenario.now }
+    ensures { IfOk result (λ v. view v ≡ script_data_by scenario.now script.now) }
+{
+    match script {
+        Some(script) => summary_value(alloc, scenario, groups, script),
+        None => plain_value(alloc, scenario, groups),
+    }
+}
+
+/// The same of a text whose entries are plain.
+fn plain_value(alloc: Global, scenario: &Scenario, groups: &[usize]) -> Result<Value, AllocError>
     requires { groups.now ≡ groups_of scenario.now }
     ensures { IfOk result (λ v. view v ≡ script_data scenario.now) }
 {
@@ -101,7 +116,7 @@ fn paused_with(
 
 /// The same, restarts and blocks.
 #[tactic(auto, unfolding(crate::specs::Script::restarted_with))]
-fn restarted_with(
+pub(crate) fn restarted_with(
     alloc: Global,
     crashes: Value,
     leaves: Value,
@@ -126,7 +141,7 @@ fn restarted_with(
 }
 
 /// The crashes.
-fn crashes_value(alloc: Global, scenario: &Scenario) -> Result<Value, AllocError>
+pub(crate) fn crashes_value(alloc: Global, scenario: &Scenario) -> Result<Value, AllocError>
     ensures { IfOk result (λ v. view v ≡ crashes_data scenario.now) }
 {
     let mut values = Vec::new(alloc);
@@ -217,7 +232,7 @@ fn push_departure(
 
 /// Who goes when.
 #[tactic(auto, unfolding(crate::specs::Script::departure_data))]
-fn departure_value(
+pub(crate) fn departure_value(
     alloc: Global,
     scenario: &Scenario,
     member: usize,
@@ -265,7 +280,11 @@ fn push_restart(
 
 /// Who starts again when, and whom it asks to let it join.
 #[tactic(auto, unfolding(crate::specs::Script::restart_data))]
-fn restart_value(alloc: Global, scenario: &Scenario, restart: &Restart) -> Result<Value, AllocError>
+pub(crate) fn restart_value(
+    alloc: Global,
+    scenario: &Scenario,
+    restart: &Restart,
+) -> Result<Value, AllocError>
     ensures { IfOk result (λ v. view v ≡ restart_data scenario.now restart.now) }
 {
     let name = member_name(scenario, restart.member.index());
@@ -306,7 +325,11 @@ fn push_slow(
 
 /// Who is slow when, and by how much.
 #[tactic(auto, unfolding(crate::specs::Script::slow_data))]
-fn slow_value(alloc: Global, scenario: &Scenario, slow: &Slow) -> Result<Value, AllocError>
+pub(crate) fn slow_value(
+    alloc: Global,
+    scenario: &Scenario,
+    slow: &Slow,
+) -> Result<Value, AllocError>
     ensures { IfOk result (λ v. view v ≡ slow_data scenario.now slow.now) }
 {
     let name = member_name(scenario, slow.member.index());
@@ -321,7 +344,7 @@ fn slow_value(alloc: Global, scenario: &Scenario, slow: &Slow) -> Result<Value, 
 }
 
 /// The cuts.
-fn cuts_value(
+pub(crate) fn cuts_value(
     alloc: Global,
     scenario: &Scenario,
     groups: &[usize],
@@ -407,7 +430,11 @@ fn push_pause(
 
 /// Who is paused, or blocked, when.
 #[tactic(auto, unfolding(crate::specs::Script::pause_data))]
-fn pause_value(alloc: Global, scenario: &Scenario, pause: &Pause) -> Result<Value, AllocError>
+pub(crate) fn pause_value(
+    alloc: Global,
+    scenario: &Scenario,
+    pause: &Pause,
+) -> Result<Value, AllocError>
     ensures { IfOk result (λ v. view v ≡ pause_data scenario.now pause.now) }
 {
     let name = member_name(scenario, pause.member.index());

@@ -194,6 +194,10 @@ crash_line s e = crash_by e.kind s e.member e.at
 abbrev pub crash_lines : Setup → ℕ → List ℕ
 crash_lines s m = flat_map (crash_line s) (script_of s m)
 
+-- all crashes, by the members' numbers
+abbrev pub all_crash_lines : Setup → List ℕ
+all_crash_lines s = flat_map (crash_lines s) (range_with_len 0 (member_count s))
+
 abbrev pub leave_line : Setup → Leave → List ℕ
 leave_line s l = departure_line s (codes "leave") l.member l.at
 
@@ -233,7 +237,7 @@ pause_line s word p = if nat_le p.from s.end then pause_text s word p else []
 -- what of the script happens up to the end
 unfoldable pub script_lines : Setup → List ℕ
 script_lines s =
-    flat_map (crash_lines s) (range_with_len 0 (member_count s)) ++ flat_map (leave_line s) s.leaves ++ flat_map (restart_line s) s.restarts
+    all_crash_lines s ++ flat_map (leave_line s) s.leaves ++ flat_map (restart_line s) s.restarts
     ++ flat_map (slow_line s) s.slows ++ flat_map (cut_line s) s.cuts ++ flat_map (pause_line s (codes "pause")) s.pauses ++ flat_map (pause_line s (codes "block")) s.blocks
 
 -- how many messages a quiet cluster sends in a period, and in a thousand ticks
@@ -254,7 +258,3 @@ cluster_lines s window trip = member_lines s ++ link_line s ++ path_lines s ++ t
 -- the times of the protocol among all members
 unfoldable pub time_lines : Setup → List ℕ
 time_lines s = suspicion_line s ++ accusers_lines s ++ health_lines s ++ nack_line s ++ news_line s ++ gossip_line s ++ queue_line s ++ call_lines s
-
--- all of them, but for the warnings
-unfoldable pub figure_lines : Setup → Option ℕ → ℕ → List ℕ
-figure_lines s window trip = cluster_lines s window trip ++ time_lines s ++ script_lines s ++ quiet_lines s

@@ -5,7 +5,8 @@ use Rattle.reports.specs.Text.{count_line}
 use Rattle.warnings.specs.declared.warning.Warning.{Warning}
 use Rattle.warnings.specs.declared.about.Placed.{Placed}
 use Rattle.warnings.specs.declared.findings.Findings.{Findings}
-use Rattle.meaning_text.specs.Lines.{figure_lines}
+use Rattle.script_summary.specs.declared.summary.ScriptSummary.{ScriptSummary}
+use Rattle.meaning_text.specs.Figures.{figure_lines}
 use Rattle.meaning_text.specs.Numbers.{numbers_of}
 use Rattle.meaning_text.specs.Words.{kind_of, reason_of, remedy_of}
 use Rattle.meaning_text.specs.declared.numbers.Pair.{Pair}
@@ -32,6 +33,6 @@ warning_end file w =
 unfoldable pub warning_text : List ℕ → Setup → ℕ → Placed → List ℕ
 warning_text file s trip w = warning_head w.warning ++ message_of s trip w.warning ++ warning_end file w
 
-abbrev pub text_of : List ℕ → Setup → Findings → List Placed → List ℕ
-text_of file s found placed =
-    figure_lines s found.window found.round_trip ++ flat_map (warning_text file s found.round_trip) placed ++ count_line (codes "warnings") (length placed)
+abbrev pub text_of : List ℕ → Setup → Option ScriptSummary → Findings → List Placed → List ℕ
+text_of file s script found placed =
+    figure_lines s script found.window found.round_trip ++ flat_map (warning_text file s found.round_trip) placed ++ count_line (codes "warnings") (length placed)

@@ -2,7 +2,8 @@
 ghost use Rattle.std.specs.Prelude.{◌≡◌, ◌++◌, OnOk};
 ghost use Rattle.std.specs.String.{string_bytes};
 ghost use Rattle.meaning.specs.Groups.{groups_of};
-ghost use Rattle.meaning_text.specs.Lines.{figure_lines, cluster_lines, time_lines, quiet_lines, rate_line, cost_line};
+ghost use Rattle.meaning_text.specs.Figures.{figure_lines};
+ghost use Rattle.meaning_text.specs.Lines.{cluster_lines, time_lines, quiet_lines, rate_line, cost_line};
 
 use crate::calls::push_calls;
 use crate::groups::push_members;
@@ -13,23 +14,25 @@ use crate::times::{
 };
 use meaning::{Quiet, cost_of_quiet};
 use scenario::Scenario;
+use script_summary::ScriptSummary;
 use std::alloc::AllocError;
 
 /// Appends all figures, with the length of a window and the greatest round trip that are given.
-#[tactic(auto, unfolding(crate::specs::Lines::figure_lines))]
+#[tactic(auto, unfolding(crate::specs::Figures::figure_lines))]
 pub(crate) fn push_figures(
     text: &mut String,
     scenario: &Scenario,
     groups: &[usize],
+    script: &Option<ScriptSummary>,
     window: Option<u64>,
     trip: u64,
 ) -> Result<(), AllocError>
     requires { groups.now ≡ groups_of scenario.now }
-    ensures { OnOk result (string_bytes text.new ≡ string_bytes text.old ++ figure_lines scenario.now window trip) }
+    ensures { OnOk result (string_bytes text.new ≡ string_bytes text.old ++ figure_lines scenario.now script.now window trip) }
 {
     push_cluster(text, scenario, groups, window, trip)?;
     push_times(text, scenario)?;
-    push_script(text, scenario, groups)?;
+    push_script(text, scenario, groups, script)?;
     push_quiet(text, scenario)
 }
 

@@ -1,25 +1,39 @@
 //! The lines on what happens up to the end of the run: crashes, leaves, restarts, slow times, cuts, pauses and blocks.
 ghost use Rattle.std.specs.Prelude.{◌≡◌, ◌++◌, ◌<◌, OnOk, flat_map};
-ghost use Rattle.std.specs.List.{range_with_len};
 ghost use Rattle.std.specs.String.{string_bytes};
 ghost use Rattle.scenario.specs.Setup.{member_count};
 ghost use Rattle.meaning.specs.Groups.{groups_of};
-ghost use Rattle.meaning_text.specs.Lines.{departure_text, departure_line, crash_line, crash_lines, leave_line, restart_words, restart_text, restart_line, slow_text, slow_line, cut_text, cut_line, pause_text, pause_line, script_lines};
+ghost use Rattle.meaning_text.specs.Lines.{all_crash_lines, departure_text, departure_line, crash_line, crash_lines, leave_line, restart_words, restart_text, restart_line, slow_text, slow_line, cut_text, cut_line, pause_text, pause_line, script_lines};
+ghost use Rattle.meaning_text.specs.Figures.{script_lines_by};
 
 use crate::groups::push_contact;
+use crate::summaries::push_summary;
 use base::{MemberId, Moment};
 use meaning::{group_name, member_name};
 use scenario::{Cut, Leave, Pause, Restart, Scenario, ScriptEvent, ScriptKind, Slow};
+use script_summary::ScriptSummary;
 use std::alloc::AllocError;
 
-/// Appends what of the script happens up to the end: crashes by the members' numbers, the rest in the
-/// order of the text.
-#[tactic(auto, unfolding(crate::specs::Lines::script_lines))]
+/// Appends what of the script happens up to the end: of version 4 entry by entry of the text, which is summed up; else
+/// crashes by the members' numbers, the rest in the order of the text.
 pub(crate) fn push_script(
     text: &mut String,
     scenario: &Scenario,
     groups: &[usize],
+    script: &Option<ScriptSummary>,
 ) -> Result<(), AllocError>
+    requires { groups.now ≡ groups_of scenario.now }
+    ensures { OnOk result (string_bytes text.new ≡ string_bytes text.old ++ script_lines_by scenario.now script.now) }
+{
+    match script {
+        Some(script) => push_summary(text, scenario, groups, script),
+        None => push_plain(text, scenario, groups),
+    }
+}
+
+/// Appends the entries of a text whose entries are plain.
+#[tactic(auto, unfolding(crate::specs::Lines::script_lines))]
+fn push_plain(text: &mut String, scenario: &Scenario, groups: &[usize]) -> Result<(), AllocError>
     requires { groups.now ≡ groups_of scenario.now }
     ensures { OnOk result (string_bytes text.new ≡ string_bytes text.old ++ script_lines scenario.now) }
 {
@@ -33,9 +47,8 @@ pub(crate) fn push_script(
 }
 
 /// Appends the crashes.
-fn push_crashes(text: &mut String, scenario: &Scenario) -> Result<(), AllocError>
-    ensures { OnOk result (string_bytes text.new
-        ≡ string_bytes text.old ++ flat_map (crash_lines scenario.now) (range_with_len 0 (member_count scenario.now))) }
+pub(crate) fn push_crashes(text: &mut String, scenario: &Scenario) -> Result<(), AllocError>
+    ensures { OnOk result (string_bytes text.new ≡ string_bytes text.old ++ all_crash_lines scenario.now) }
 {
     for member in 0..scenario.members() {
         push_crashes_of(text, scenario, member)?;
@@ -215,7 +228,7 @@ fn push_slow_text(text: &mut String, scenario: &Scenario, slow: &Slow) -> Result
 }
 
 /// Appends the cuts.
-fn push_cuts(
+pub(crate) fn push_cuts(
     text: &mut String,
     scenario: &Scenario,
     groups: &[usize],

@@ -11,19 +11,21 @@ use crate::words::{kind_of, reason_of, remedy_of};
 use base::Memory;
 use meaning::groups_of;
 use scenario::Scenario;
+use script_summary::ScriptSummary;
 use std::alloc::{AllocError, Global};
 use warnings::{Findings, Placed, Warning};
 
-/// What the scenario in the file of this name means, in lines: its figures, what of its script happens,
-/// what it is warned of, and how many warnings there are; or `Memory` where it was refused.
+/// What the scenario in the file of this name means, in lines: its figures, what of its script happens, which `script`
+/// sums up if it is of version 4, what it is warned of, and how many warnings there are; or `Memory` where it was refused.
 pub fn text_of(
     alloc: Global,
     file: &str,
     scenario: &Scenario,
+    script: &Option<ScriptSummary>,
     findings: &Findings,
     placed: &[Placed],
 ) -> Result<String, Memory>
-    ensures { IfOk result (λ text. string_bytes text ≡ text_of file.now scenario.now findings.now placed.now) }
+    ensures { IfOk result (λ text. string_bytes text ≡ text_of file.now scenario.now script.now findings.now placed.now) }
 {
     let groups = groups_of(alloc, scenario)?;
     let trip = findings.round_trip;
@@ -32,6 +34,7 @@ pub fn text_of(
         &mut text,
         scenario,
         groups.as_slice(),
+        script,
         findings.window,
         trip,
     )?;

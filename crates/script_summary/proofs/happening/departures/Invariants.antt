@@ -1,0 +1,6 @@
+use Rattle.std.proofs.Common.{◌≡◌, map, take}
+use Rattle.script_summary.specs.Happenings.{of_departure}
+use Rattle.script_summary.proofs.happening.departures.Given as goal
+
+abbrev pub invariant-loop-it : goal.invariant-loop-it
+invariant-loop-it l = l.made.items ≡ map of_departure (take l.it-index l.entries)

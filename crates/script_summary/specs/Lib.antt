@@ -1,0 +1,4 @@
+pub mod Happenings
+pub mod Extents
+pub mod Entries
+pub mod Summary
