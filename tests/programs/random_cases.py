@@ -1,7 +1,7 @@
 #!/usr/bin/env python3
 """Compares the program with tests/model/model.py on random cases.
 
-    tests/programs/random_cases.py [--program FILE] [--seed N] [--runs 300] [--far 12] [--written 30] [--texts 2000] [--sweeps 20]
+    tests/programs/random_cases.py [--program FILE] [--seed N] [--runs 300] [--far 12] [--written 300] [--texts 2000] [--sweeps 20]
         [--newest V]
 
 The program is the one that ./swimsim has built, or FILE. Of each run the trace and the report are compared
@@ -170,7 +170,7 @@ def main():
     arguments.add_argument('--seed', type=int)
     arguments.add_argument('--runs', type=int, default=300)
     arguments.add_argument('--far', type=int, default=12)
-    arguments.add_argument('--written', type=int, default=30)
+    arguments.add_argument('--written', type=int, default=300)
     arguments.add_argument('--texts', type=int, default=2000)
     arguments.add_argument('--sweeps', type=int, default=20)
     arguments.add_argument('--newest', type=int, default=NEWEST_TAKEN)
