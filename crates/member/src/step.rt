@@ -1,7 +1,6 @@
 //! The step that a member makes of one event: its phase and the rules of its profile decide which events it heeds.
 ghost use Rattle.std.specs.Prelude.{◌≡◌, ◌++◌, [], OnOk, IfErr, IsErrOf};
-ghost use Rattle.std.specs.Option.{option_map_or};
-ghost use Rattle.member.specs.declared.event.Effects.{Effects as Made};
+ghost use Rattle.std.specs.Bool.{OnTrue};
 ghost use Rattle.member.specs.declared.event.Event.{Event as OneEvent};
 ghost use Rattle.scenario.specs.Setup.{member_count};
 ghost use Rattle.member.specs.Here.{IsSoundSetting, HoldsMembers};
@@ -281,6 +280,9 @@ impl Member {
         ensures within { OnOk result (¬ (IsOverflowed (state_of self.new))) }
         ensures kept { OnOk result (KnowsMembers here.now self.new) }
     {
+        if is_nothing(out) {
+            return self.handle(out, here, content);
+        }
         let before = set_aside(here.alloc, out);
         self.handle(out, here, content)?;
         put_before(before, out)
@@ -309,13 +311,14 @@ impl Member {
         ensures within { OnOk result (¬ (IsOverflowed (state_of self.new))) }
         ensures kept { OnOk result (HoldsMembers scenario.now event.key.to (state_of self.new)) }
     {
+        let Event { key, content } = event;
         // Part by part: as one block of bytes, right after its parts were written, the key would wait for these writes.
         let Key {
             at,
             to,
             from,
             number,
-        } = event.key;
+        } = key;
         let here = Here {
             alloc,
             key: Key {
@@ -327,36 +330,37 @@ impl Member {
             scenario,
             links,
         };
-        self.append_made(out, &here, &event.content)
+        self.append_made(out, &here, &content)
     }
 }
 
-/// Takes out what was made before, if anything was.
-fn set_aside(alloc: Global, out: &mut Effects) -> Option<Effects>
+/// Whether nothing was made yet.
+#[inline(always)]
+fn is_nothing(out: &Effects) -> bool
+    ensures { OnTrue result ((out.now.events.items ≡ []) × (out.now.rows.items ≡ [])) }
+{
+    out.events.is_empty() && out.rows.is_empty()
+}
+
+/// Takes out what was made before.
+fn set_aside(alloc: Global, out: &mut Effects) -> Effects
+    ensures before { result ≡ out.old }
     ensures no_events { out.new.events.items ≡ [] }
     ensures no_rows { out.new.rows.items ≡ [] }
-    ensures events { option_map_or (λ (b : Made). b.events.items) result [] ≡ out.old.events.items }
-    ensures rows { option_map_or (λ (b : Made). b.rows.items) result [] ≡ out.old.rows.items }
 {
-    if out.events.is_empty() && out.rows.is_empty() {
-        return None;
-    }
     let nothing = Effects {
         events: Vec::new(alloc),
         rows: Vec::new(alloc),
     };
-    Some(replace(out, nothing))
+    replace(out, nothing)
 }
 
-/// Puts what was made before, if anything was, before what a step has made.
-fn put_before(before: Option<Effects>, out: &mut Effects) -> Result<(), StepError>
-    ensures events { OnOk result (out.new.events.items ≡ option_map_or (λ (b : Made). b.events.items) before [] ++ out.old.events.items) }
-    ensures rows { OnOk result (out.new.rows.items ≡ option_map_or (λ (b : Made). b.rows.items) before [] ++ out.old.rows.items) }
+/// Puts what was made before in front of what a step has made.
+fn put_before(mut before: Effects, out: &mut Effects) -> Result<(), StepError>
+    ensures events { OnOk result (out.new.events.items ≡ before.events.items ++ out.old.events.items) }
+    ensures rows { OnOk result (out.new.rows.items ≡ before.rows.items ++ out.old.rows.items) }
     ensures err { IfErr result (λ e. e ≡ StepError.Memory) }
 {
-    let Some(mut before) = before else {
-        return Ok(());
-    };
     before.events.append(&mut out.events)?;
     before.rows.append(&mut out.rows)?;
     *out = before;

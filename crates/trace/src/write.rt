@@ -1,4 +1,4 @@
-//! Writes the trace's header and rows into a sink, 128 lines at a time, and says why a text was not put whole.
+//! Writes the trace's header and rows into a sink, 16 lines at a time, and says why a text was not put whole.
 ghost use Rattle.std.specs.Prelude.{◌≡◌, ◌+◌, ◌*◌, ◌++◌, ◌<◌, ◌^◌, List, length, min, IfOk, OnOk, OnErr, IfErr, All};
 ghost use Rattle.scenario.specs.Setup.{Setup};
 ghost use Rattle.std.specs.Io.KnownBytes.{Appends};
@@ -14,8 +14,8 @@ use base::{Fault, Memory};
 use scenario::Scenario;
 use std::alloc::Global;
 
-/// How many lines are laid into memory before they are put.
-const ROWS_AT_ONCE: usize = 128;
+/// How many lines are laid into memory before they are put: so few that their room stays in a processor's first cache.
+const ROWS_AT_ONCE: usize = 16;
 
 /// Why a text was not put whole.
 #[derive(Clone, Copy, Debug, PartialEq, Eq, thiserror::Error)]
@@ -90,7 +90,7 @@ pub fn write_rows<S: Sink>(
 
 /// Room for the lines of so many rows, as far as they are put at once.
 fn room_for(alloc: Global, rows: usize) -> Result<Vec<u8>, Memory>
-    ensures { IfOk result (λ room. length room.items ≡ 369 * min rows 128) }
+    ensures { IfOk result (λ room. length room.items ≡ 369 * min rows 16) }
 {
     Ok(vec![in alloc; 0; rows.min(ROWS_AT_ONCE) * ROOM]?)
 }
@@ -104,7 +104,7 @@ fn put_rows<S: Sink>(
 ) -> Result<(), WriteError>
     requires named { All (NamesMembers scenario.now) rows.now }
     requires countable { S.failed sink.old < 2 ^ 63 }
-    requires room { length room.old ≡ 369 * min (length rows.now) 128 }
+    requires room { length room.old ≡ 369 * min (length rows.now) 16 }
     ensures whole { OnOk result (Appends (S.held sink.old) (S.held sink.new) (rows_text scenario.now rows.now)) }
     ensures part { OnErr result (AppendsBeginning (S.held sink.old) (S.held sink.new) (rows_text scenario.now rows.now)) }
     ensures failures { S.failed sink.new ≡ S.failed sink.old + failures_of_write result }

@@ -1,9 +1,11 @@
 -- One step of a part's window, as the part makes it.
-use Rattle.std.specs.Prelude.{◌≡◌, ℕ, ◌++◌, Bool, List, Option, Some, None, map}
+use Rattle.std.specs.Prelude.{◌≡◌, ℕ, ◌++◌, Bool, true, List, Option, Some, None, map}
+use Rattle.std.specs.List.{list_all}
 use Rattle.std.specs.Option.{option_map}
 use Rattle.std.specs.Ordering.{nat_cmp}
 use Rattle.std.specs.FinMap.{FinMap, get, insert}
 use Rattle.base.specs.declared.key.Key.{Key}
+use Rattle.base.specs.Order.{key_cmp}
 use Rattle.base.specs.World.{World, Outcome, rows_of, events_of, with_events}
 use Rattle.scenario.specs.Setup.{Setup}
 use Rattle.trace.specs.declared.row.Row.{Row}
@@ -31,6 +33,13 @@ pub record Handles (s : Setup) (event : Event) (held held_after : FinMap nat_cmp
   pub members : held_after ≡ members_after held event (made_of s held event)
   pub events : map pair_of after.events.items ≡ map pair_of before.events.items ++ events_of (made_of s held event)
   pub rows : after.rows.items ≡ before.rows.items ++ rows_of (made_of s held event)
+
+-- The last of all these events, which are for members of these, pend, and those before them are left.
+pub record HaveOwnPended (owns : ℕ → Bool) (pending now : FinMap key_cmp EventKind) (all left : List Event) : Type 0 where
+  pub after : List Event
+  pub split : all ≡ left ++ after
+  pub own : list_all (λ (event : Event). owns event.key.to) after ≡ true
+  pub pend : now ≡ with_events pending (map pair_of after)
 
 -- An event that was taken out of a part is handled: this is the part after it, and what its receiver made for others and
 -- its rows follow the effects before.

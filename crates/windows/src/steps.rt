@@ -17,7 +17,7 @@ ghost use Rattle.windows.specs.WorldOf.{world_of, states_in, contents_in};
 ghost use Rattle.windows.specs.Window.{is_own, IsConsistentPart, RunsWindow, TakeTheirLinks};
 ghost use Rattle.windows.specs.Wears.{OverflowsInWindow};
 ghost use Rattle.worker_queue.specs.Queue.{NoneIsBelow};
-ghost use Rattle.windows.specs.Handling.{HandlesTaken, OverflowsReceiver, Advances, made_of};
+ghost use Rattle.windows.specs.Handling.{HandlesTaken, OverflowsReceiver, Advances, HaveOwnPended, made_of};
 
 use crate::cluster::Cluster;
 use crate::own_members::OwnMembers;
@@ -171,28 +171,29 @@ fn deliver<Q: EventQueue<Event>>(
     ensures others { let own = contains_key (states_in members.now) in
         OnOk result (map pair_of out.new.items ≡ map pair_of out.old.items ++ for_others own (map pair_of events.old.items)) }
 {
-    if have_all(members, events) {
-        push_pending(queue, events)
-    } else {
-        split_events(members, queue, events, out)
+    push_own(members, queue, events)?;
+    if events.is_empty() {
+        return Ok(());
     }
+    split_events(members, queue, events, out)
 }
 
-/// Whether all these events are for these members.
+/// Lets events for these members pend, the last first, up to one for another: so none of them moves but into the queue.
+/// Nearly always all are for these members, and then none is left.
 #[inline(always)]
-fn have_all(members: &OwnMembers, events: &[Event]) -> bool
-    ensures { result ≡ list_all (λ (event : Event). contains_key (states_in members.now) event.key.to) events.now }
-{
-    events.iter().all(|event| members.has(&event.key.to))
-}
-
-/// Lets events pend, the last first: so none of them moves but into the queue.
-#[inline(always)]
-fn push_pending<Q: EventQueue<Event>>(queue: &mut Q, events: &mut Vec<Event>) -> Result<(), Memory>
+fn push_own<Q: EventQueue<Event>>(
+    members: &OwnMembers,
+    queue: &mut Q,
+    events: &mut Vec<Event>,
+) -> Result<(), Memory>
     requires new { AreNew (contents_in (Q.set queue.old)) (map pair_of events.old.items) }
-    ensures { OnOk result (contents_in (Q.set queue.new) ≡ with_events (contents_in (Q.set queue.old)) (map pair_of events.old.items)) }
+    ensures { OnOk result (HaveOwnPended (contains_key (states_in members.now)) (contents_in (Q.set queue.old)) (contents_in (Q.set queue.new)) events.old.items events.new.items) }
 {
     while let Some(event) = events.pop() {
+        if !members.has(&event.key.to) {
+            events.push(event)?;
+            return Ok(());
+        }
         push(queue, in_parts(event))?;
     }
     Ok(())

@@ -1,18 +1,32 @@
-use Rattle.std.proofs.Common.{◌∙◌, ap, sym, ◌++◌, map}
+use Rattle.std.proofs.Common.{◌≡◌, ◌∙◌, [], sym, arith}
 use Rattle.std.specs.FinMap.{contains_key}
-use Rattle.std.proofs.lemmas.List.{append-nil}
-use Rattle.base.specs.World.{with_events}
-use Rattle.member.specs.StateOf.{pair_of}
+use Rattle.std.proofs.lemmas.Bool.{eqb-true}
+use Rattle.std.proofs.lemmas.List.{nil_from_length}
 use Rattle.windows.specs.WorldOf.{states_in, contents_in}
-use Rattle.windows.proofs.Deliveries.{if_ok, all_own, none_other}
+use Rattle.windows.proofs.Deliveries.{if_ok, left_are_new, own_pended, others_sent, none_left_own, none_left_others}
 use Rattle.windows.proofs.steps.deliver.Goals as goal
 
-pub returns-then-have_all-clause-own : goal.returns-then-have_all-clause-own
-returns-then-have_all-clause-own g c =
+pub returns-then-is_empty-clause-own : goal.returns-then-is_empty-clause-own
+returns-then-is_empty-clause-own g c =
     let own = contains_key (states_in c.args.members.now) in
-    if_ok c.push_pending.result c.push_pending.ensures (λ is. is ∙ ap (with_events (contents_in (g.Q.EventQueue.set c.args.queue.now))) (sym (all_own own c.deref.result.now c.args.events.now.items c.deref.ensures.value (sym c.have_all.ensures ∙ c.if-have_all.true))))
+    let none : c.push_own.new.events.items ≡ [] = nil_from_length _ (let h = eqb-true _ _ (sym c.is_empty.ensures ∙ c.if-is_empty.true) in omega (arith, h)) in
+    none_left_own own _ _ _ _ c.in_ok-push_own.ensures c.requires.new none
 
-pub returns-then-have_all-clause-others : goal.returns-then-have_all-clause-others
-returns-then-have_all-clause-others g c =
+pub returns-then-is_empty-clause-others : goal.returns-then-is_empty-clause-others
+returns-then-is_empty-clause-others g c =
     let own = contains_key (states_in c.args.members.now) in
-    if_ok c.push_pending.result c.push_pending.ensures (λ _. sym (append-nil (map pair_of c.args.out.now.items)) ∙ ap (λ l. map pair_of c.args.out.now.items ++ l) (sym (none_other own c.deref.result.now c.args.events.now.items c.deref.ensures.value (sym c.have_all.ensures ∙ c.if-have_all.true))))
+    let none : c.push_own.new.events.items ≡ [] = nil_from_length _ (let h = eqb-true _ _ (sym c.is_empty.ensures ∙ c.if-is_empty.true) in omega (arith, h)) in
+    none_left_others own _ _ _ _ c.in_ok-push_own.ensures c.requires.new _ none
+
+pub split_events-requires : goal.split_events-requires
+split_events-requires g c = record {
+  new = left_are_new (contains_key (states_in c.args.members.now)) _ _ _ _ c.in_ok-push_own.ensures c.requires.new;
+}
+
+pub returns-clause-own : goal.returns-clause-own
+returns-clause-own g c =
+    if_ok c.split_events.result c.split_events.ensures.own (own_pended (contains_key (states_in c.args.members.now)) _ _ _ _ c.in_ok-push_own.ensures c.requires.new _)
+
+pub returns-clause-others : goal.returns-clause-others
+returns-clause-others g c =
+    if_ok c.split_events.result c.split_events.ensures.others (others_sent (contains_key (states_in c.args.members.now)) _ _ _ _ c.in_ok-push_own.ensures c.requires.new _ _)
