@@ -8,6 +8,7 @@ whatever else this one does (stand_in.py), so that a run by several workers star
 
 - one worker starts no thread, neither for a run nor for a sweep;
 - a run of four sites by four workers starts more than two threads, of which each simulates, and a sweep too;
+- all threads simulate where a round is likely to have 400 messages; where it isn't, all but the one that writes;
 - a run of members that are near each other starts one thread beside the one that writes, a small run none;
 - each of four long runs of a sweep is made by a thread of its own;
 - no more threads start than there are processors, or of two both and the one that writes; none where at most half are free;
@@ -87,6 +88,13 @@ def several_workers(bench):
     threads = bench.threads(bench.run(far(4, 64, 3000), 4), 4)
     assert threads > 2, threads
     assert bench.trace.read_bytes() == whole
+
+
+def long_rounds(bench):
+    """All threads simulate where a round of four sites is likely to have 400 messages; where it isn't, all but one."""
+    for delay, simulate in ((78, 3), (79, 4)):
+        threads = bench.threads(bench.run(far(4, 64, 3000, delay=delay), 4), 4)
+        assert threads == simulate, (delay, threads)
 
 
 def near_members(bench):
@@ -188,7 +196,7 @@ def width(bench):
     assert 3 * made < of_all, (made, of_all)
 
 
-CASES = (one_worker, several_workers, near_members, small_run, sweep_by_several, sweep_of_long_runs, few_processors, busy_processors,
+CASES = (one_worker, several_workers, long_rounds, near_members, small_run, sweep_by_several, sweep_of_long_runs, few_processors, busy_processors,
          memory, cut_off, width)
 
 

@@ -64,18 +64,26 @@ impl Crew {
         self.over.load(Ordering::SeqCst)
     }
 
-    /// How often that worker was called.
-    pub(crate) fn calls(&self, worker: usize) -> u64 {
+    /// That worker is about to sleep, and looks once more for what lies there for it: how often it was called while it slept. It
+    /// ends by `wait` or `cancel_wait`.
+    pub(crate) fn prepare_wait(&self, worker: usize) -> u64 {
         match self.event_counts.get(worker) {
-            Some(event_count) => event_count.count(),
+            Some(event_count) => event_count.prepare_wait(),
             None => 0,
         }
     }
 
-    /// Sleeps until that worker is called again after so many times. It may also wake for no reason.
-    pub(crate) fn sleep(&self, rt: &impl Wait, worker: usize, calls: u64) {
+    /// That worker found something, and doesn't sleep.
+    pub(crate) fn cancel_wait(&self, worker: usize) {
         if let Some(event_count) = self.event_counts.get(worker) {
-            event_count.sleep(rt, calls);
+            event_count.cancel_wait();
+        }
+    }
+
+    /// Sleeps until that worker is called again after so many times. It may also wake for no reason.
+    pub(crate) fn wait(&self, rt: &impl Wait, worker: usize, calls: u64) {
+        if let Some(event_count) = self.event_counts.get(worker) {
+            event_count.wait(rt, calls);
         }
     }
 
@@ -88,15 +96,17 @@ impl Crew {
         dealings: u64,
     ) -> Option<u64> {
         for _ in rt.forever() {
-            let calls = self.calls(worker);
+            let calls = self.prepare_wait(worker);
             let now = self.dealings.load(Ordering::SeqCst);
             if now > dealings {
+                self.cancel_wait(worker);
                 return Some(now);
             }
             if self.is_over() {
+                self.cancel_wait(worker);
                 return None;
             }
-            self.sleep(rt, worker, calls);
+            self.wait(rt, worker, calls);
         }
         unreachable!()
     }

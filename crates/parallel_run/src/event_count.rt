@@ -28,27 +28,31 @@ impl EventCount {
         }
     }
 
-    /// Something came: the thread is woken if it sleeps.
+    /// Something came: the thread is woken if it sleeps, or is about to.
     pub(crate) fn notify(&self) {
-        self.wakes.notifications.fetch_add(1, Ordering::SeqCst);
         if self.wakes.asleep.load(Ordering::SeqCst) > 0 {
+            self.wakes.notifications.fetch_add(1, Ordering::SeqCst);
             self.wakes.notifications.wake_all();
         }
     }
 
-    /// How often the thread was notified.
-    pub(crate) fn count(&self) -> u64 {
+    /// The thread is about to sleep, and looks once more for what came: how often it was notified. What comes from now on
+    /// notifies it. It ends by `wait` or `cancel_wait`.
+    pub(crate) fn prepare_wait(&self) -> u64 {
+        self.wakes.asleep.fetch_add(1, Ordering::SeqCst);
         self.wakes.notifications.load(Ordering::SeqCst)
     }
 
-    /// Sleeps until the thread is notified again after so many times. It may also wake for no reason.
-    pub(crate) fn sleep(&self, rt: &impl Wait, seen: u64) {
-        self.wakes.asleep.fetch_add(1, Ordering::SeqCst);
-        if self.count() == seen {
-            self.wakes
-                .notifications
-                .park(rt, (seen & 0xffff_ffff) as u32);
-        }
+    /// The thread found something, and doesn't sleep.
+    pub(crate) fn cancel_wait(&self) {
         self.wakes.asleep.fetch_sub(1, Ordering::SeqCst);
+    }
+
+    /// Sleeps until the thread is notified again after so many times. It may also wake for no reason.
+    pub(crate) fn wait(&self, rt: &impl Wait, seen: u64) {
+        self.wakes
+            .notifications
+            .park(rt, (seen & 0xffff_ffff) as u32);
+        self.cancel_wait();
     }
 }

@@ -104,16 +104,20 @@ impl<'b, T: Drop, P: Protocol<T>> Taker<'b, T, P> {
         ensures allowed { IfSome result (λ item. (before : List T) × P.allows before item) }
     {
         for _ in rt.forever() {
-            let seen = self.own.count();
+            let seen = self.own.prepare_wait();
             match self.end.pop() {
-                Ok(item) => return Some(item),
+                Ok(item) => {
+                    self.own.cancel_wait();
+                    return Some(item);
+                }
                 Err(_) => {}
             }
             if self.end.is_abandoned() {
+                self.own.cancel_wait();
                 return self.last();
             }
             patience.sleeps();
-            self.own.sleep(rt, seen);
+            self.own.wait(rt, seen);
         }
         unreachable!()
     }

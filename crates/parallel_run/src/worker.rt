@@ -166,14 +166,16 @@ fn gather<'p, 'b, K: OfRun, Q: EventQueue<Event> + Drop, J: Site>(
     ensures fault { IfErr result (MayEndBy (basis_of rounds.now)) }
 {
     for _ in rt.forever() {
-        let calls = crew.calls(worker);
+        let calls = crew.prepare_wait(worker);
         if hold.take(rt, post, many, rounds)? {
+            crew.cancel_wait(worker);
             return Ok(());
         }
         if crew.is_over() {
+            crew.cancel_wait(worker);
             return Err(Fault::ThreadLost);
         }
-        crew.sleep(rt, worker, calls);
+        crew.wait(rt, worker, calls);
     }
     unreachable!()
 }

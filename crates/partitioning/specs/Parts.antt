@@ -1,11 +1,7 @@
 -- By which parts a run is shared.
-use Rattle.std.specs.Prelude.{◌≡◌, ◌==◌, ℕ, ◌+◌, ◌-◌, ◌<◌, ◌≤◌, nat_lt, if◌then◌else◌, All, count_by, map, length}
+use Rattle.std.specs.Prelude.{◌≡◌, ◌==◌, ℕ, ◌+◌, ◌<◌, ◌≤◌, All, count_by, map, length}
 use Rattle.scenario.specs.Setup.{Setup, member_count}
 use Rattle.scenario.specs.Division.{Deal}
-
--- of so many workers one writes and the others simulate; of two both do
-abbrev pub simulating_of : ℕ → ℕ
-simulating_of workers = if nat_lt 2 workers then workers - 1 else workers
 
 -- each member of the scenario has one of the parts, of which there are at most so many
 pub record Divides (s : Setup) (most : ℕ) (deal : Deal) : Type 0 where

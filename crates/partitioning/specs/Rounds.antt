@@ -6,14 +6,14 @@ use Rattle.windows.specs.Cluster.{IsPeopled}
 use Rattle.lookahead.specs.Between.{part_number, IsLeastBetween}
 use Rattle.lookahead_windows.specs.Walks.{IsLeastAmong, AreBelow}
 
--- In so many ticks six messages are likely: in a period each member pings another one and is answered.
-abbrev pub HasSixMessages : Setup → ℕ → Type 0
-HasSixMessages s ticks = 6 * s.swim.period ≤ ticks * (member_count s * 2)
+-- In so many ticks so many messages are likely: in a period each member pings another one and is answered.
+abbrev pub HasMessages : ℕ → Setup → ℕ → Type 0
+HasMessages many s ticks = many * s.swim.period ≤ ticks * (member_count s * 2)
 
--- the least number of such ticks
+-- the least number of ticks in which six are
 pub record IsLongRound (s : Setup) (ticks : ℕ) : Type 0 where
-  pub enough : HasSixMessages s ticks
-  pub least : (fewer : ℕ) → HasSixMessages s fewer → ticks ≤ fewer
+  pub enough : HasMessages 6 s ticks
+  pub least : (fewer : ℕ) → HasMessages 6 s fewer → ticks ≤ fewer
 
 -- the length of the least walk of links from one of the parts to another, and 0 where there is none
 abbrev pub IsLeastWalkOf : Setup → Deal → ℕ → Type 0

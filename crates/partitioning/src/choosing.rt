@@ -2,12 +2,14 @@
 ghost use Rattle.std.specs.Prelude.{◌≡◌, ◌<◌, ◌≤◌, length, IfOk};
 ghost use Rattle.scenario.specs.Setup.{member_count};
 ghost use Rattle.partitioning.specs.Asked.{AreAsAsked, AreFewer};
+ghost use Rattle.partitioning.specs.Hands.{AreChosen, AreShares};
 ghost use Rattle.partitioning.specs.Parts.{Divides, PutsTogether};
 ghost use Rattle.partitioning.specs.Paying.{ArePaying, TakesLonger};
 
 use crate::divisions::same_parts;
 use crate::folding::folded;
-use crate::round_length::{least_walk_of, long_round};
+use crate::hands::simulating;
+use crate::round_length::{are_long, least_walk_of, long_round};
 use crate::sites::by_sites;
 use base::Memory;
 use links::Links;
@@ -15,25 +17,55 @@ use scenario::{Division, Scenario, Workers};
 use std::alloc::Global;
 use windows::Cluster;
 
-/// The parts of a run by so many workers, of whom so many simulate. Where there are more parts than
-/// workers in the division they are those, or fewer into which they are joined. Else they are those by
-/// which the run is likely to take the least time.
-pub(crate) fn chosen_parts(
+/// The parts of a run, and how many workers simulate them.
+#[derive(Drop)]
+pub(crate) struct Shares {
+    pub(crate) parts: Division,
+    pub(crate) hands: Workers,
+}
+
+/// The parts of a run by so many workers, of whom so many have a thread, and how many of these simulate: all where a
+/// round of their parts is long, else all but one, which writes.
+pub(crate) fn chosen_shares(
     alloc: Global,
     scenario: &Scenario,
     division: &Division,
     workers: Workers,
-    hands: usize,
-) -> Result<Division, Memory>
+    threads: Workers,
+) -> Result<Shares, Memory>
     requires divides { length division.now.part_of ≡ member_count scenario.now }
-    requires few { (1 ≤ hands) × (hands ≤ 64) }
-    ensures divides { IfOk result (λ parts. length parts.part_of ≡ member_count scenario.now) }
-    ensures few { division.now.parts ≤ workers → IfOk result (Divides scenario.now hands) }
-    ensures pays { division.now.parts ≤ workers → IfOk result (ArePaying scenario.now division.now hands) }
-    ensures asked { workers < division.now.parts → IfOk result (AreAsAsked scenario.now division.now hands) }
+    ensures divides { IfOk result (λ shares. length shares.parts.part_of ≡ member_count scenario.now) }
+    ensures shares { IfOk result (λ shares. AreShares scenario.now division.now workers threads shares.hands shares.parts) }
 {
     let links = &Links::of(alloc, scenario)?;
     let cluster = Cluster { scenario, links };
+    let parts = chosen_parts(alloc, cluster, division, workers, threads)?;
+    if are_long(alloc, cluster, &parts)? {
+        return Ok(Shares {
+            parts,
+            hands: threads,
+        });
+    }
+    let hands = simulating(threads);
+    let parts = chosen_parts(alloc, cluster, division, workers, hands)?;
+    Ok(Shares { parts, hands })
+}
+
+/// The parts of a run by so many workers, of whom so many simulate. Where there are more parts than
+/// workers in the division they are those, or fewer into which they are joined. Else they are those by
+/// which the run is likely to take the least time.
+fn chosen_parts(
+    alloc: Global,
+    cluster: Cluster,
+    division: &Division,
+    workers: Workers,
+    hands: Workers,
+) -> Result<Division, Memory>
+    requires divides { length division.now.part_of ≡ member_count cluster.scenario.now }
+    ensures divides { IfOk result (λ parts. length parts.part_of ≡ member_count cluster.entry.scenario.now) }
+    ensures chosen { IfOk result (AreChosen cluster.entry.scenario.now division.now workers hands) }
+{
+    let hands = hands.count();
     if division.parts() <= workers.count() {
         parts_that_pay(alloc, cluster, division, hands)
     } else {

@@ -1,29 +1,29 @@
 //! How many threads simulate.
-ghost use Rattle.std.specs.Prelude.{◌≡◌, ◌≤◌, ℕ};
-ghost use Rattle.partitioning.specs.Parts.{simulating_of};
+ghost use Rattle.std.specs.Prelude.{◌≡◌, ◌≤◌};
+ghost use Rattle.partitioning.specs.Hands.{simulating_of};
 
 use scenario::Workers;
 use std::thread::{Threads, available_parallelism};
 
-/// How many of so many workers simulate, of whom no more go than there are processors: a thread that
-/// waits for others on a processor that they need makes a run slower.
-pub(crate) fn simulating(rt: &impl Threads, workers: Workers) -> Workers
-    ensures value { (threads : ℕ) × (1 ≤ threads) × (threads ≤ workers) × (result ≡ simulating_of threads) }
-    ensures few { (1 ≤ result) × (result ≤ 64) }
+/// How many of so many workers have a thread: no more than there are processors, since a thread that waits for others on a
+/// processor that they need makes a run slower.
+pub(crate) fn threads_of(rt: &impl Threads, workers: Workers) -> Workers
+    ensures some { 1 ≤ result }
+    ensures few { result ≤ workers }
 {
     match available_parallelism(rt) {
-        Ok(processors) => hands_of(workers.count().min(processors.get())),
-        Err(_) => hands_of(workers.count()),
+        Ok(processors) => workers_of(workers.count().min(processors.get())),
+        Err(_) => workers,
     }
 }
 
-/// How many of so many threads simulate: all but one, which writes; of two both, while the calling
-/// thread writes.
-fn hands_of(threads: usize) -> Workers
-    requires { (1 ≤ threads) × (threads ≤ 64) }
+/// How many of so many threads simulate where one of them writes: all others; of two both, while the calling thread
+/// writes.
+pub(crate) fn simulating(threads: Workers) -> Workers
     ensures value { result ≡ simulating_of threads }
     ensures few { (1 ≤ result) × (result ≤ threads) }
 {
+    let threads = threads.count();
     workers_of(if threads > 2 { threads - 1 } else { threads })
 }
 

@@ -1,7 +1,7 @@
 //! How long the rounds of parts are, and how long they must be.
-ghost use Rattle.std.specs.Prelude.{◌≡◌, length, IfOk};
+ghost use Rattle.std.specs.Prelude.{◌≡◌, ◌↔◌, ℕ, length, IfOk, IsTrue};
 ghost use Rattle.scenario.specs.Setup.{member_count};
-ghost use Rattle.partitioning.specs.Rounds.{IsLongRound, IsLeastWalkOf};
+ghost use Rattle.partitioning.specs.Rounds.{HasMessages, IsLongRound, IsLeastWalkOf};
 
 use base::Memory;
 use lookahead::horizons;
@@ -21,6 +21,21 @@ pub(crate) fn long_round(scenario: &Scenario) -> u64
 {
     let messages = scenario.members() as u64 * 2;
     (WORTH_TELLING * scenario.period()).div_ceil(messages)
+}
+
+/// How many messages a round must have for all threads to simulate. The one that writes then takes a processor from
+/// one of them, and the others wait for that one: with fewer messages this costs more than a processor that only writes.
+const WORTH_ALL_THREADS: u64 = 400;
+
+/// Whether the rounds of these parts are so long that all threads simulate.
+pub(crate) fn are_long(alloc: Global, cluster: Cluster, division: &Division) -> Result<bool, Memory>
+    requires { length division.now.part_of ≡ member_count cluster.scenario.now }
+    ensures { IfOk result (λ are. (ticks : ℕ) × IsLeastWalkOf cluster.entry.scenario.now division.now ticks × (IsTrue are ↔ HasMessages 400 cluster.entry.scenario.now ticks)) }
+{
+    let scenario = cluster.scenario;
+    let ticks = least_walk_of(alloc, cluster, division)?;
+    let messages = u128::from(ticks) * (scenario.members() as u128 * 2);
+    Ok(u128::from(WORTH_ALL_THREADS * scenario.period()) <= messages)
 }
 
 /// The length in ticks of the least walk of links from one part of the division to another: 0 where

@@ -6,8 +6,8 @@ ghost use Rattle.member_laws.specs.Runs.{IsRunOf, CounterOverflows};
 ghost use Rattle.run_output.specs.Promise.{KeepsPromise, ReportOverflows, summed};
 ghost use Rattle.partitioning.specs.Closed.{ClosesRelays, SettlesBoard};
 
-use crate::choosing::chosen_parts;
-use crate::hands::simulating;
+use crate::choosing::{Shares, chosen_shares};
+use crate::hands::threads_of;
 use base::{Fault, Memory};
 use lookahead_windows::OpenGate;
 use parallel_run::{RunAccount, run_by_rings};
@@ -22,8 +22,8 @@ use std::thread::Threads;
 use trace::Sink;
 
 /// Runs the scenario by so many workers, in the way that is likely to take the least time. One
-/// alone simulates and writes. Of several no more go than there are processors. Those that simulate
-/// share the parts of the division, where it has more than there are workers, or fewer into which
+/// alone simulates and writes. Of several no more go than there are processors. All of these simulate where a round
+/// of the parts is long, else all but one, which writes. Those that simulate share the parts of the division, where it has more than there are workers, or fewer into which
 /// these are joined; else each has a part for itself, as the division has them, or by the cluster's
 /// sites, or in turn, whichever have the longest rounds.
 /// Where no rounds are long enough, one worker runs all members while the calling thread writes.
@@ -76,9 +76,9 @@ pub fn run_shared<A: Sink, B: Sink, C: RowObserver, R: Threads + Wait + Sync>(
     if workers.count() == 1 {
         return run_streamed(alloc, scenario, place, report);
     }
-    let hands = simulating(rt, workers);
-    match chosen_parts(alloc, scenario, division, workers, hands.count()) {
-        Ok(parts) => run_by_rings(
+    let threads = threads_of(rt, workers);
+    match chosen_shares(alloc, scenario, division, workers, threads) {
+        Ok(Shares { parts, hands }) => run_by_rings(
             rt, alloc, scenario, &parts, hands, &OpenGate, place, report, account,
         ),
         Err(Memory) => end_run(

@@ -40,7 +40,7 @@ pub returns-then-count-eq1-clause-relayed : goal.returns-then-count-eq1-clause-r
 returns-then-count-eq1-clause-relayed g c = one_alone (ClosesRelays c.args.scenario.now c.args.account.now) c.args.workers c.run_streamed.result (omega arith)
 
 pub returns-in-Ok-clause-relayed : goal.returns-in-Ok-clause-relayed
-returns-in-Ok-clause-relayed g c = on_ok_weaker c.run_by_rings.result (λ closed several. (c.in-Ok.parts, c.in-Ok.ensures.divides, closed)) c.run_by_rings.ensures.relayed
+returns-in-Ok-clause-relayed g c = on_ok_weaker c.run_by_rings.result (λ closed several. (c.in-Ok.field-0.parts, c.in-Ok.ensures.divides, closed)) c.run_by_rings.ensures.relayed
 
 pub returns-in-Err-clause-relayed : goal.returns-in-Err-clause-relayed
 returns-in-Err-clause-relayed g c =
@@ -51,7 +51,7 @@ returns-then-count-eq1-clause-settled g c = one_alone (SettlesBoard c.args.scena
 
 pub returns-in-Ok-clause-settled : goal.returns-in-Ok-clause-settled
 returns-in-Ok-clause-settled g c =
-    both_ok c.run_by_rings.result (λ closed settled several. (c.in-Ok.parts, c.in-Ok.ensures.divides, closed, settled)) c.run_by_rings.ensures.relayed c.run_by_rings.ensures.settled
+    both_ok c.run_by_rings.result (λ closed settled several. (c.in-Ok.field-0.parts, c.in-Ok.ensures.divides, closed, settled)) c.run_by_rings.ensures.relayed c.run_by_rings.ensures.settled
 
 pub returns-in-Err-clause-settled : goal.returns-in-Err-clause-settled
 returns-in-Err-clause-settled g c =
