@@ -23,7 +23,6 @@ use Rattle.command_line.specs.declared.failure.ShardFault.TheVariants as shard
 abbrev pub stop_status : DriveStop → ℕ
 stop_status (stop.Answer place cause event) = 6
 stop_status stop.Closed = 1
-stop_status stop.Version = 3
 
 -- the exit status
 abbrev pub status_of : Failure → ℕ
@@ -103,7 +102,6 @@ answer_message place cause event =
 abbrev pub stop_message : DriveStop → List ℕ
 stop_message (stop.Answer place cause event) = answer_message place cause (string_bytes event)
 stop_message stop.Closed = codes "output"
-stop_message stop.Version = codes "scenario version: drive takes versions 1 to 3"
 
 -- what failed, in words
 abbrev pub message_of : Failure → List ℕ
@@ -126,7 +124,6 @@ message_of Output = codes "output"
 abbrev pub is_closed : DriveStop → Bool
 is_closed (stop.Answer place cause event) = false
 is_closed stop.Closed = true
-is_closed stop.Version = false
 
 -- whether no line reports the failure: standard output failed
 abbrev pub is_silent : Failure → Bool

@@ -32,8 +32,6 @@ pub enum DriveStop {
     },
     /// Standard output was closed.
     Closed,
-    /// The scenario's text is of version 4 of the format, whose members start again and are blocked: no harness is asked that yet.
-    Version,
 }
 
 /// The exit status of a drive that was stopped so.
@@ -43,7 +41,6 @@ pub(crate) fn stop_status(stop: &DriveStop) -> u8
     match stop {
         DriveStop::Answer { .. } => 6,
         DriveStop::Closed => 1,
-        DriveStop::Version => 3,
     }
 }
 
@@ -54,7 +51,6 @@ pub(crate) fn is_closed(stop: &DriveStop) -> bool
     match stop {
         DriveStop::Answer { .. } => false,
         DriveStop::Closed => true,
-        DriveStop::Version => false,
     }
 }
 
@@ -69,7 +65,6 @@ pub(crate) fn write_stop<W: fmt::Write>(f: &mut fmt::Formatter<W>, stop: &DriveS
             event,
         } => write_answer(f, *place, *cause, event),
         DriveStop::Closed => f.write_str("output"),
-        DriveStop::Version => f.write_str("scenario version: drive takes versions 1 to 3"),
     }
 }
 

@@ -141,7 +141,6 @@ module _ {M : Type 0} (contents : M → Option (List ℕ)) (s : Setup) (release 
       },
     )
     by_answer place why event stopped.Closed tells stops = absurd tells
-    by_answer place why event stopped.Version tells stops = absurd tells
 
     left : (e : DriveError) (failure : Failure) → IsToldBy e failure → LeavesBy contents s drive.file.now release gave told first last e
         → (e ≡ error.Fault fault.Write → Refused) → Ends failure

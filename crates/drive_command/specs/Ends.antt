@@ -27,7 +27,6 @@ cause_of (stop.Answer none.Memory) = None
 abbrev pub TellsAnswer : ℕ → Stop → List ℕ → DriveStop → Type 0
 TellsAnswer place stop event (stopped.Answer told cause text) = (told ≡ place) × (cause_of stop ≡ Some cause) × (string_bytes text ≡ event)
 TellsAnswer place stop event stopped.Closed = ⊥
-TellsAnswer place stop event stopped.Version = ⊥
 
 -- The failure that reports an error; where memory is refused for the line of an event, the one that says that.
 abbrev pub IsToldBy : DriveError → Failure → Type 0

@@ -18,12 +18,10 @@ use Rattle.cli.proofs.program.command.Goals as goal
 stop_done : (cause : DriveStop) → stop_status cause ≡ 0 → ⊥
 stop_done (stop.Answer place cause event) e = omega arith
 stop_done stop.Closed e = omega arith
-stop_done stop.Version e = omega arith
 
 stop_apart : (cause : DriveStop) → stop_status cause ≡ 2 → ⊥
 stop_apart (stop.Answer place cause event) e = omega arith
 stop_apart stop.Closed e = omega arith
-stop_apart stop.Version e = omega arith
 
 -- no failure has the status of what was done
 no_failure : (failure : Failure) → status_of failure ≡ 0 → ⊥
