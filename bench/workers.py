@@ -89,6 +89,9 @@ class Runs:
         return min(self.one(workers) for _ in range(runs))
 
     def one(self, workers):
+        # no run frees the space of the files of the one before it
+        for path in self.made:
+            path.unlink(missing_ok=True)
         seconds = measure([*self.command, '--workers', str(workers)], self.enter)[1]
         for path in self.made:
             kept = path.with_suffix('.kept')
