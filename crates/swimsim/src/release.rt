@@ -1,8 +1,8 @@
 //! Which release of the program this is.
 
 /// The number of the version.
-pub const VERSION: &str = "1.22.0";
+pub const VERSION: &str = "1.23.0";
 /// The digest of the sources.
-pub const SOURCES: &str = "e69fdb4527918160b59efe3cde1a616b6fde5383ab80ee3efb57c8a631616934";
+pub const SOURCES: &str = "b55177183669d56d91387d7c3b8789f9141db496685cd297912c83050e50d07a";
 /// The kit.
 pub const KIT: &str = "rattle-kit-13f logic dac8208d650f15bf";
