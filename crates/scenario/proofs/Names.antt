@@ -1,15 +1,17 @@
 -- There are as many names as members, and a place in the set of names has the member's name.
-use Rattle.std.proofs.Common.{◌≡◌, ◌≤◌, ℕ, List, [], ◌∷◌, ◌++◌, ◌+◌, Bool, true, false, ◌&&◌, nat_le, zero-add, append_assoc, codes, map, length, Some, refl, sym, ap, ◌∙◌, arith, String, Global, string_bytes}
-use Rattle.std.specs.List.{slice_get, sum_by, list_all}
+use Rattle.std.proofs.Common.{◌≡◌, ◌≤◌, ℕ, List, [], ◌∷◌, ◌++◌, ◌+◌, Bool, true, false, ◌&&◌, nat_le, zero-add, append_assoc, codes, map, length, get_or, ◌<◌, Some, refl, sym, ap, ◌∙◌, subst, arith, String, Global, string_bytes}
+use Rattle.std.specs.List.{slice_get, sum_by, list_all, AllZip}
 use Rattle.std.proofs.lemmas.Bool.{false≢true, leb-true}
 use Rattle.std.specs.Fmt.{decimal}
 use Rattle.std.specs.Option.{unwrap_or, option_map}
 use Rattle.std.proofs.lemmas.List.{length-map, map-append}
 use Rattle.std.proofs.lemmas.List.Concat.{length-flat_map}
 use Rattle.std.proofs.lemmas.List.FromFn.{length-map-range_with_len, map-range_with_len_more}
-use Rattle.std.proofs.lemmas.Option.{slice_get-map}
+use Rattle.std.proofs.lemmas.List.Elements.{AllZip-get_or}
+use Rattle.std.proofs.lemmas.Option.{slice_get-map, slice_get-get_or}
 use Rattle.schema.specs.declared.schema.Version.{Version}
 use Rattle.schema.specs.declared.schema.Version.TheVariants.{One, Two, Three, Four}
+use Rattle.scenario.specs.Labels.{IsLabelOf}
 use Rattle.scenario.specs.GroupNames.{is_name_byte, starts_with_letter, is_group_name, is_name_of}
 use Rattle.scenario.specs.Setup.{Setup, Group, names_in, names_below, member_names, member_count, name_of}
 
@@ -26,6 +28,13 @@ pub name_at : (keys : List (String Global)) (s : Setup) (m : ℕ) (key : String 
 name_at keys s m key named found =
     sym (ap (λ o. unwrap_or (option_map string_bytes o) []) found) ∙ ap (λ o. unwrap_or o []) (sym (slice_get-map string_bytes keys m))
     ∙ ap (λ names. unwrap_or (slice_get names m) []) named
+
+-- what stands at a member's place among the labels of all names
+pub label_at : (s : Setup) (labels : List (List ℕ)) (m : ℕ) (label : List ℕ) → AllZip IsLabelOf (member_names s) labels → m < member_count s → label ≡ get_or labels m label → IsLabelOf (name_of s m) label
+label_at s labels m label all within here =
+    let there : m < length (member_names s) = omega (arith, length-member_names s, within) in
+    subst (λ name. IsLabelOf name label) (sym (ap (λ o. unwrap_or o []) (slice_get-get_or (member_names s) m [] there)))
+    (subst (IsLabelOf (get_or (member_names s) m [])) (sym here) (AllZip-get_or IsLabelOf (member_names s) labels m [] label all there))
 
 -- one more member of a group
 pub names_below-more : (name : List ℕ) (n : ℕ) → names_below name (n + 1) ≡ names_below name n ++ (name ++ codes "-" ++ decimal n) ∷ []

@@ -1,4 +1,5 @@
 pub mod GroupNames
+pub mod Labels
 pub mod Script
 pub mod Scripts
 pub mod ScriptOf

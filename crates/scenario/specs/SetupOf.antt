@@ -1,10 +1,11 @@
 -- What a `Scenario` stands for.
 use Rattle.std.specs.Prelude.{◌≡◌, ℕ, map, string_bytes}
-use Rattle.std.specs.List.{range_with_len}
+use Rattle.std.specs.List.{range_with_len, AllZip}
 use Rattle.scenario.specs.Setup.{Setup, Group, group_at, member_count, member_names, is_paused, is_blocked, script_of, IsSound}
 use Rattle.scenario.specs.Spells.{is_in_any}
 use Rattle.scenario.specs.Naps.{naps_at, AreNoted}
 use Rattle.scenario.specs.Scripts.{script_at}
+use Rattle.scenario.specs.Labels.{IsLabelOf}
 use Rattle.scenario.specs.declared.settings.Group.{Group as Stored}
 use Rattle.scenario.specs.declared.scenario.Contents.{Contents}
 use Rattle.scenario.specs.declared.scenario.Scenario.TheInside.{Inside}
@@ -20,7 +21,7 @@ setup_in s = record { version = s.version; seed = s.seed; end = s.end; swim = s.
 abbrev pub setup_of : Inside → Setup
 setup_of s = setup_in s.contents
 
--- the names are those of all members, at their numbers, the numbers are in their ranges, the tables give each member's group, when it is paused, when it is blocked, and its script, and the calendar tells of each pause
+-- the names are those of all members, at their numbers, the numbers are in their ranges, the tables give each member's group, when it is paused, when it is blocked, its script and its label, and the calendar tells of each pause
 pub record IsScenario (s : Inside) : Type 0 where
   pub names : map string_bytes s.contents.names.items ≡ member_names (setup_of s)
   pub sound : IsSound (setup_of s)
@@ -28,4 +29,5 @@ pub record IsScenario (s : Inside) : Type 0 where
   pub naps : (m t : ℕ) → is_in_any (naps_at s.naps.items m) t ≡ is_paused (setup_of s) m t
   pub calendar : AreNoted s.calendar s.naps.items
   pub stops : (m t : ℕ) → is_in_any (naps_at s.stops.items m) t ≡ is_blocked (setup_of s) m t
+  pub labels : AllZip IsLabelOf (member_names (setup_of s)) s.labels.items
   pub scripts : (m : ℕ) → script_at s.scripts.items m ≡ script_of (setup_of s) m

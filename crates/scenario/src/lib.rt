@@ -3,6 +3,7 @@
 
 mod calendar;
 mod division;
+mod labels;
 pub mod laws;
 mod naps;
 mod profile;

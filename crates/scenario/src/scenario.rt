@@ -4,6 +4,7 @@ ghost use Rattle.std.specs.Prelude.{◌≡◌, ◌<◌, ◌≤◌, ◌^◌, ℕ,
 ghost use Rattle.std.specs.Prelude.{string_bytes, map, filter, find, nat_eq, slice_get, option_map, option_and_then, option_copied, All, IfOk, IfSome, IfNone};
 ghost use Rattle.std.specs.List.{list_any, range_with_len};
 ghost use Rattle.std.specs.Option.{option_map_or};
+ghost use Rattle.scenario.specs.Labels.{IsLabelOf};
 ghost use Rattle.scenario.specs.SetupOf.{group_of, setup_in};
 ghost use Rattle.scenario.specs.Spells.{is_in_any, IsEndFrom};
 ghost use Rattle.scenario.specs.Naps.{naps_at, AreNoted};
@@ -12,6 +13,7 @@ ghost use Rattle.scenario.specs.declared.script.ScriptEvent.{ScriptEvent as AnEv
 ghost use Rattle.scenario.specs.Setup.{member_count, member_names, name_of, group_at, leads, last_link, link_between, start_of, contact_of, crash_of, leave_of, is_slow, first_extra, more_extra, greatest_extra, extra_by, extra_of, cuts_off, is_cut, awake, free, script_of, IsSound, IsSoundEvent, IsSoundLink};
 
 use crate::calendar::Calendar;
+use crate::labels::labels_of;
 use crate::naps::{calendar_of, naps_of};
 use crate::script::{Script, ScriptEvent, scripts_of};
 use crate::settings::{
@@ -77,6 +79,8 @@ pub struct Scenario {
     stops: Vec<Spells>,
     /// What happens to each member, in the same way.
     scripts: Vec<Script>,
+    /// Each member's name as a line takes it.
+    labels: Vec<[u8; 16]>,
 }
 
 impl Model for Scenario {
@@ -110,6 +114,7 @@ impl Scenario {
             contents.leaves.as_slice(),
             contents.restarts.as_slice(),
         )?;
+        let labels = labels_of(alloc, contents.names.as_slice())?;
         Ok(Scenario {
             contents,
             numbers,
@@ -117,6 +122,7 @@ impl Scenario {
             calendar,
             stops,
             scripts,
+            labels,
         })
     }
 
@@ -144,6 +150,16 @@ impl Scenario {
         ensures sound { IsSound self.now }
     {
         self.contents.names[member.index()].as_str()
+    }
+
+    /// A member's name at the end of 16 bytes, the first of which is its length: 0 where the name is longer than
+    /// 15 bytes, and isn't there.
+    #[inline(always)]
+    pub fn label(&self, member: MemberId) -> &[u8; 16]
+        requires { member < member_count self.now }
+        ensures { IsLabelOf (name_of self.now member) result.now }
+    {
+        &self.labels[member.index()]
     }
 
     /// The seed of every member's draws.

@@ -1,9 +1,9 @@
 -- How long the fields of a line may be, and how a line is laid before others.
-use Rattle.std.proofs.Common.{◌≡◌, ◌+◌, ◌<◌, ◌≤◌, ◌%◌, ◌/◌, ◌==◌, ℕ, zero, suc, List, [], ◌∷◌, ◌++◌, Bool, true, false, ◌&&◌, cond, codes, length, get_or, map, drop, drop-cons, add-one, refl, sym, ap, ◌∙◌, append_assoc, arith, flat_map, unwrap_or}
+use Rattle.std.proofs.Common.{◌≡◌, ◌+◌, ◌-◌, ◌<◌, ◌≤◌, ◌%◌, ◌/◌, ◌==◌, ℕ, zero, suc, List, [], ◌∷◌, ◌++◌, Bool, true, false, ◌&&◌, cond, codes, length, get_or, map, drop, drop-cons, add-one, refl, sym, ap, ◌∙◌, append_assoc, arith, flat_map, unwrap_or}
 use Rattle.std.specs.Fmt.{decimal, digits, digits_onto, digit_glyph}
 use Rattle.std.specs.List.{list_all, join_with_byte, slice_get, range_with_len, AllByRecursion}
 use Rattle.std.proofs.lemmas.Bool.{false≢true}
-use Rattle.std.proofs.lemmas.List.{length-append}
+use Rattle.std.proofs.lemmas.List.{length-append, drop-drop, drop-append-le}
 use Rattle.base.proofs.Rising.{all_append}
 use Rattle.scenario.proofs.Names.{short_name}
 use Rattle.scenario.specs.GroupNames.{is_name_of}
@@ -74,3 +74,11 @@ pub row_laid : (s : Setup) (rows : List Row) (place : ℕ) (row : Row) → place
 row_laid s rows place row within is whole later laid others =
     laid ∙ ap (λ l. line_of s row ++ l) others
     ∙ sym (ap (rows_text s) (drop-cons rows place row within ∙ ap (λ r. r ∷ drop (suc place) rows) (sym is) ∙ ap (λ n. row ∷ drop n rows) (sym (add-one place))))
+
+-- ---- labels
+
+-- the last bytes of a label that is laid, before what stands behind it
+pub label_laid : (room label tail : List ℕ) (start end held : ℕ) → start + 16 ≡ end → held ≤ 16 → length label ≡ 16 → drop start room ≡ label ++ tail
+    → drop (end - held) room ≡ drop (16 - held) label ++ tail
+label_laid room label tail start end held begins within sized laid =
+    ap (λ n. drop n room) (omega (arith, begins, within)) ∙ sym (drop-drop (16 - held) start room) ∙ ap (drop (16 - held)) laid ∙ drop-append-le (16 - held) label tail (omega (arith, sized))

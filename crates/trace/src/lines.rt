@@ -1,5 +1,5 @@
 //! Lays rows as lines of CSV at the end of a room of bytes, from the last row to the first, each from its last field.
-ghost use Rattle.std.specs.Prelude.{◌≡◌, ◌+◌, ◌*◌, ◌++◌, ◌∷◌, ◌<◌, ◌≤◌, [], decimal, length, drop, IfSome, All};
+ghost use Rattle.std.specs.Prelude.{◌≡◌, ◌+◌, ◌-◌, ◌*◌, ◌++◌, ◌∷◌, ◌<◌, ◌≤◌, [], decimal, length, drop, IfSome, All};
 ghost use Rattle.std.specs.List.{join_with_byte};
 ghost use Rattle.trace.specs.Text.{line_of, fields_of, rows_text, about_text, word_of, lost_text, NamesMembers};
 ghost use Rattle.scenario.specs.Setup.{member_count, name_of};
@@ -49,11 +49,11 @@ fn lay_fields(row: &Row, scenario: &Scenario, room: &mut [u8], end: usize) -> us
 {
     let end = lay_byte(lost_digit(row.lost), room, end);
     let end = lay_number(row.value, room, end);
-    let end = lay_text(about_name(row.about, scenario), room, end);
+    let end = lay_about(row.about, scenario, room, end);
     let end = lay_text(word_of(row.what), room, end);
     let end = lay_number(row.number, room, end);
-    let end = lay_text(member_name(row.from, scenario), room, end);
-    let end = lay_text(member_name(row.member, scenario), room, end);
+    let end = lay_name(row.from, scenario, room, end);
+    let end = lay_name(row.member, scenario, room, end);
     lay_number(row.at.ticks(), room, end)
 }
 
@@ -67,6 +67,61 @@ fn lay_number(number: u64, room: &mut [u8], end: usize) -> usize
     write_digits(number, room, end)
 }
 
+/// Lays the name of the member that a row is about, or nothing, and a comma before a place, and answers where they
+/// start.
+fn lay_about(about: Option<MemberId>, scenario: &Scenario, room: &mut [u8], end: usize) -> usize
+    requires named { IfSome about (λ member. member < member_count scenario.now) }
+    requires room { (98 ≤ end) × (end ≤ length room.old) }
+    ensures start { (result < end) × (end ≤ result + 98) }
+    ensures laid { drop result room.new ≡ about_text scenario.now about ++ 44 ∷ drop end room.old }
+{
+    match about {
+        Some(member) => lay_name(member, scenario, room, end),
+        None => lay_byte(b',', room, end),
+    }
+}
+
+/// Lays a member's name and a comma before a place, and answers where they start.
+#[inline(always)]
+fn lay_name(member: MemberId, scenario: &Scenario, room: &mut [u8], end: usize) -> usize
+    requires named { member < member_count scenario.now }
+    requires room { (98 ≤ end) × (end ≤ length room.old) }
+    ensures start { (result < end) × (end ≤ result + 98) }
+    ensures laid { drop result room.new ≡ name_of scenario.now member ++ 44 ∷ drop end room.old }
+{
+    let end = lay_byte(b',', room, end);
+    let label = scenario.label(member);
+    let held = usize::from(label[0]);
+    if held == 0 {
+        lay_long_name(member, scenario, room, end)
+    } else {
+        lay_label(label, held, room, end)
+    }
+}
+
+/// Lays the last bytes of a label, as many as its name has, before a place, and answers where they start. What
+/// stands before them may change.
+#[inline(always)]
+fn lay_label(label: &[u8; 16], held: usize, room: &mut [u8], end: usize) -> usize
+    requires label { held ≤ 16 }
+    requires room { (16 ≤ end) × (end ≤ length room.old) }
+    ensures start { result + held ≡ end }
+    ensures laid { drop result room.new ≡ drop (16 - held) label.now ++ drop end room.old }
+{
+    lay_bytes(label, room, end);
+    end - held
+}
+
+/// Lays a name that is in no label before a place, and answers where it starts.
+fn lay_long_name(member: MemberId, scenario: &Scenario, room: &mut [u8], end: usize) -> usize
+    requires named { member < member_count scenario.now }
+    requires room { (97 ≤ end) × (end ≤ length room.old) }
+    ensures start { (result ≤ end) × (end ≤ result + 97) }
+    ensures laid { drop result room.new ≡ name_of scenario.now member ++ drop end room.old }
+{
+    lay_bytes(member_name(member, scenario).as_bytes(), room, end)
+}
+
 /// Lays a text and a comma before a place, and answers where they start.
 fn lay_text(text: &str, room: &mut [u8], end: usize) -> usize
     requires { (length text.now < end) × (end ≤ length room.old) }
@@ -78,6 +133,7 @@ fn lay_text(text: &str, room: &mut [u8], end: usize) -> usize
 }
 
 /// Lays bytes before a place, and answers where they start.
+#[inline(always)]
 fn lay_bytes(bytes: &[u8], room: &mut [u8], end: usize) -> usize
     requires { (length bytes.now ≤ end) × (end ≤ length room.old) }
     ensures start { result + length bytes.now ≡ end }
@@ -105,18 +161,6 @@ fn member_name(member: MemberId, scenario: &Scenario) -> &str
     ensures short { length result.now ≤ 97 }
 {
     scenario.name(member)
-}
-
-/// The name of the member that a row is about, or nothing.
-fn about_name(about: Option<MemberId>, scenario: &Scenario) -> &str
-    requires { IfSome about (λ member. member < member_count scenario.now) }
-    ensures value { result.now ≡ about_text scenario.now about }
-    ensures short { length result.now ≤ 97 }
-{
-    match about {
-        Some(member) => member_name(member, scenario),
-        None => "",
-    }
 }
 
 /// The word for what a row reports.

@@ -1,13 +1,15 @@
 -- The least event of a list, found place by place, and brought to its end.
-use Rattle.std.proofs.Common.{◌≡◌, ℕ, zero, suc, ◌+◌, ◌-◌, ◌<◌, ◌⊎◌, List, length, get_or, swap, IsSomeAnd, IsPermutation, ap, ◌∙◌, sym, subst, inl, inr, arith}
+use Rattle.std.proofs.Common.{◌≡◌, ℕ, zero, suc, ◌+◌, ◌-◌, ◌<◌, ◌⊎◌, true, List, length, get_or, swap, IsSomeAnd, IsPermutation, ap, ◌∙◌, sym, subst, inl, inr, arith}
 use Rattle.std.proofs.lemmas.Bool.{cases_eq}
 use Rattle.std.proofs.lemmas.List.{get_or_default}
 use Rattle.std.proofs.lemmas.List.Sorted.{IsPermutation-swap, length_permutation}
 use Rattle.std.proofs.lemmas.Option.{get_or_from_slice_get}
+use Rattle.std.specs.Option.{is_some}
+use Rattle.std.specs.FinMap.{contains_key}
 use Rattle.base.specs.declared.key.Key.{Key}
 use Rattle.base.specs.Order.{IsBefore}
 use Rattle.base.specs.Run.{IsFirst}
-use Rattle.worker_queue.specs.Slots.{by_key, AreUnlike, IsLeastPlace, NoneIsBefore, last_of}
+use Rattle.worker_queue.specs.Slots.{by_key, AreUnlike, HaveOneMoment, IsLeastPlace, IsOfOneMoment, NoneIsBefore, last_of}
 use Rattle.worker_queue.proofs.Lists.{before_itself, not_both, not_before_through, get-by_key, is_found, one_with, unlike_moved, by_key-moved}
 use Rattle.worker_queue.proofs.Ends.{at_last}
 
@@ -42,6 +44,15 @@ module _ {E : Type 0} (key : E → Key) where
           by_place : (k ≡ other) ⊎ (k ≡ other → ⊥) → ¬ (IsBefore (key (get_or xs k d)) (key (get_or xs place d)))
           by_place (inl is) = subst (λ n. ¬ (IsBefore (key (get_or xs n d)) (key (get_or xs place d)))) (sym is) not_here
           by_place (inr differs) = low k d (omega (arith, under, differs))
+
+    -- events of a set of one moment have one moment
+    pub moment_of_list : AreUnlike key xs → IsOfOneMoment (by_key key xs) → HaveOneMoment key xs
+    moment_of_list unlike one k n d first second = one (key (get_or xs k d)) (key (get_or xs n d)) (here k first) (here n second)
+      where
+        here : (k : ℕ) → k < length xs → contains_key (by_key key xs) (key (get_or xs k d)) ≡ true
+        here k within =
+            let e = get_or xs k d in
+            ap is_some (get-by_key key xs (key e) ∙ is_found key xs e unlike (k, within, get_or_default xs k e d within))
 
     -- ---- the event at the place changes places with the last
 

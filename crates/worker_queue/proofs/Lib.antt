@@ -5,6 +5,7 @@ mod Events
 mod Leasts
 mod Lists
 mod Places
+mod Ranks
 mod Receivers
 mod Turned
 mod Unions

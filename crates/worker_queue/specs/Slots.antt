@@ -1,5 +1,5 @@
 -- Lists of events as sets.
-use Rattle.std.specs.Prelude.{◌≡◌, ◌-◌, ◌<◌, ◌≤◌, ℕ, true, Option, List, length, map, slice_get, slice_index_or, count_by}
+use Rattle.std.specs.Prelude.{◌≡◌, ◌+◌, ◌-◌, ◌*◌, ◌^◌, ◌<◌, ◌≤◌, ℕ, true, Option, List, length, map, slice_get, slice_index_or, count_by}
 use Rattle.std.specs.List.Sorted.{IsSortedBy}
 use Rattle.std.specs.Ordering.{is_lt, eq_by_cmp}
 use Rattle.std.specs.FinMap.{FinMap, from_entries, contains_key}
@@ -25,6 +25,16 @@ last_of events = slice_get events (length events - 1)
 -- no event of a list comes before the one at this place
 abbrev pub IsLeastPlace : {E : Type 0} → (E → Key) → List E → ℕ → Type 0
 IsLeastPlace key events place = (other : ℕ) (e : _) → other < length events → ¬ (IsBefore (key (slice_index_or events other e)) (key (slice_index_or events place e)))
+
+-- the events of a list have one moment
+abbrev pub HaveOneMoment : {E : Type 0} → (E → Key) → List E → Type 0
+HaveOneMoment key events = (first second : ℕ) (e : _) → first < length events → second < length events → (key (slice_index_or events first e)).at ≡ (key (slice_index_or events second e)).at
+
+-- where a key stands among those of its moment, as one number: the receiver, the sender, the sender's number
+pub record IsRank (k : Key) (rank : ℕ) : Type 0 where
+  pub is : rank ≡ k.to * 2 ^ 80 + k.from * 2 ^ 64 + k.number
+  pub sender : k.from < 2 ^ 16
+  pub number : k.number < 2 ^ 64
 
 -- the events of a set have one moment
 abbrev pub IsOfOneMoment : {E : Type 0} → FinMap key_cmp E → Type 0

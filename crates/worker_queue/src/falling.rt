@@ -2,9 +2,8 @@
 ghost use Rattle.std.specs.Prelude.{◌≡◌, ◌<◌, length, [], false, All, Any, IfSome, IfNone, IsPermutation};
 ghost use Rattle.std.specs.Ordering.{is_lt};
 ghost use Rattle.base.specs.Order.{key_cmp};
-ghost use Rattle.worker_queue.specs.Slots.{AreFalling, IsLeastPlace};
+ghost use Rattle.worker_queue.specs.Slots.{AreFalling, HaveOneMoment, IsLeastPlace, IsRank};
 
-use crate::least::is_before;
 use base::{Key, Keyed};
 
 /// Puts the event with the greatest key first, that with the least last. It takes no memory.
@@ -25,18 +24,31 @@ pub(crate) fn least_key<E: Keyed>(events: &[E]) -> Option<Key>
     events.iter().map(|event| event.key()).min()
 }
 
-/// The place of the event with the least key.
+/// The place of the event with the least key. The events have one moment. The least so far is kept as one
+/// number, so that a processor compares without jumps.
 #[inline(always)]
 pub(crate) fn least_place<E: Keyed>(events: &[E]) -> usize
-    requires { 0 < length events.now }
+    requires some { 0 < length events.now }
+    requires moment { HaveOneMoment E.key events.now }
     ensures within { result < length events.now }
     ensures least { IsLeastPlace E.key events.now result }
 {
     let mut place = 0;
+    let mut least = rank(events[0].key());
     for other in 1..events.len() {
-        if is_before(&events[other].key(), &events[place].key()) {
+        let next = rank(events[other].key());
+        if next < least {
             place = other;
+            least = next;
         }
     }
     place
+}
+
+/// Where a key stands among those of its moment, as one number.
+#[inline(always)]
+fn rank(key: Key) -> u128
+    ensures { IsRank key result }
+{
+    u128::from(key.to.0) * (1 << 80) + u128::from(key.from.0) * (1 << 64) + u128::from(key.number)
 }

@@ -86,7 +86,8 @@ impl<E: Keyed + Drop> Slot<E> {
     /// the place of the last, and many are sorted.
     #[inline(always)]
     fn raise_least(&mut self)
-        requires { 0 < length self.old.events.items }
+        requires some { 0 < length self.old.events.items }
+        requires moment { IsOfOneMoment (by_key E.key self.old.events.items) }
         ensures same { by_key E.key self.new.events.items ≡ by_key E.key self.old.events.items }
         ensures first { IsSomeAnd (last_of self.new.events.items) (λ event. IsFirst (by_key E.key self.new.events.items) (E.key event) event) }
     {

@@ -9,9 +9,9 @@ returns-clause-laid c =
     let tail = drop c.args.end c.args.room.now in
     let last : drop c.lay_byte-end.result c.lay_byte-end.new.room ≡ lost_text c.args.row.now.lost ++ tail = c.lay_byte-end.ensures.laid ∙ ap (λ l. l ++ tail) c.lost_digit.ensures in
     one_more tail _ _ _ _ _ c.lay_number.ensures.laid (ap decimal c.ticks.ensures)
-    (one_more tail _ _ _ _ _ c.lay_text-end-4.ensures.laid c.member_name-2.ensures.value
-    (one_more tail _ _ _ _ _ c.lay_text-end-3.ensures.laid c.member_name.ensures.value
+    (one_more tail _ _ _ _ _ c.lay_name-end-2.ensures.laid refl
+    (one_more tail _ _ _ _ _ c.lay_name-end.ensures.laid refl
     (one_more tail _ _ _ _ _ c.lay_number-end-2.ensures.laid refl
-    (one_more tail _ _ _ _ _ c.lay_text-end-2.ensures.laid c.word_of.ensures.value
-    (one_more tail _ _ _ _ _ c.lay_text-end.ensures.laid c.about_name.ensures.value
+    (one_more tail _ _ _ _ _ c.lay_text-end.ensures.laid c.word_of.ensures.value
+    (one_more tail _ _ _ _ _ c.lay_about-end.ensures.laid refl
     (one_more tail _ _ _ _ _ c.lay_number-end.ensures.laid refl last))))))

@@ -1,5 +1,6 @@
-use Rattle.std.proofs.Common.{◌≡◌, map, sym, ap, ◌∙◌, List}
-use Rattle.std.specs.List.{range_with_len, list_any}
+use Rattle.std.proofs.Common.{◌≡◌, map, string_bytes, sym, ap, ◌∙◌, subst, List}
+use Rattle.scenario.specs.Labels.{IsLabelOf}
+use Rattle.std.specs.List.{range_with_len, list_any, AllZip}
 use Rattle.scenario.specs.Setup.{group_at, member_count, is_in_pause}
 use Rattle.scenario.specs.Script.{script_in}
 use Rattle.scenario.specs.SetupOf.{group_of, setup_in}
@@ -24,4 +25,5 @@ invariant_of-result c =
           );
       stops = λ m t. c.in_ok-stops.ensures m t ∙ ap (list_any (is_in_pause m t)) c.as_slice-4.ensures.value;
       scripts = λ m. c.in_ok-scripts.ensures m ∙ (λ i. script_in (c.as_slice-5.ensures.value i) (c.as_slice-6.ensures.value i) (c.as_slice-7.ensures.value i) m);
+      labels = subst (λ names. AllZip IsLabelOf names c.in_ok-labels.labels.items) (ap (map string_bytes) c.as_slice-8.ensures.value ∙ c.requires.named) c.in_ok-labels.ensures;
     }
