@@ -2,6 +2,7 @@
 ghost use Rattle.std.specs.Prelude.{◌<◌, ◌≤◌, length, IfOk, IfSome};
 
 use crate::stages::Stage;
+use memchr::memchr;
 use std::fs::OpenFile;
 use std::io;
 use std::io::{ErrorKind, Seek, SeekFrom, Write};
@@ -158,7 +159,7 @@ fn are_lines(bytes: &[u8]) -> bool {
 fn end_of_line(bytes: &[u8]) -> Option<usize>
     ensures { IfSome result (λ end. end < length bytes.now) }
 {
-    bytes.iter().position(|byte| *byte == b'\n')
+    memchr(b'\n', bytes)
 }
 
 impl<R: Files + AllocGlobal> Write for SystemFile<'_, R, R::File> {

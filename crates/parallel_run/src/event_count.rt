@@ -37,7 +37,7 @@ impl EventCount {
     }
 
     /// The thread is about to sleep, and looks once more for what came: how often it was notified. What comes from now on
-    /// notifies it. It ends by `wait` or `cancel_wait`.
+    /// notifies it. It ends by `wait` or `cancel_wait`, or the thread itself ends, after a fault.
     pub(crate) fn prepare_wait(&self) -> u64 {
         self.wakes.asleep.fetch_add(1, Ordering::SeqCst);
         self.wakes.notifications.load(Ordering::SeqCst)

@@ -1,5 +1,5 @@
 //! Lays rows as lines of CSV at the end of a room of bytes, from the last row to the first, each from its last field.
-ghost use Rattle.std.specs.Prelude.{◌≡◌, ◌+◌, ◌-◌, ◌*◌, ◌++◌, ◌∷◌, ◌<◌, ◌≤◌, [], decimal, length, drop, IfSome, All};
+ghost use Rattle.std.specs.Prelude.{◌≡◌, ◌+◌, ◌-◌, ◌*◌, ◌++◌, ◌∷◌, ◌<◌, ◌≤◌, [], decimal, length, get_or, drop, IfSome, All};
 ghost use Rattle.std.specs.List.{join_with_byte};
 ghost use Rattle.trace.specs.Text.{line_of, fields_of, rows_text, about_text, word_of, lost_text, NamesMembers};
 ghost use Rattle.scenario.specs.Setup.{member_count, name_of};
@@ -50,7 +50,7 @@ fn lay_fields(row: &Row, scenario: &Scenario, room: &mut [u8], end: usize) -> us
     let end = lay_byte(lost_digit(row.lost), room, end);
     let end = lay_number(row.value, room, end);
     let end = lay_about(row.about, scenario, room, end);
-    let end = lay_text(word_of(row.what), room, end);
+    let end = lay_word(row.what, room, end);
     let end = lay_number(row.number, room, end);
     let end = lay_name(row.from, scenario, room, end);
     let end = lay_name(row.member, scenario, room, end);
@@ -99,6 +99,57 @@ fn lay_name(member: MemberId, scenario: &Scenario, room: &mut [u8], end: usize) 
     }
 }
 
+/// Lays the word for what a row reports and a comma before a place, and answers where they start.
+#[inline(always)]
+fn lay_word(what: What, room: &mut [u8], end: usize) -> usize
+    requires { (17 ≤ end) × (end ≤ length room.old) }
+    ensures start { (result < end) × (end ≤ result + 10) }
+    ensures laid { drop result room.new ≡ word_of what ++ 44 ∷ drop end room.old }
+{
+    let end = lay_byte(b',', room, end);
+    let label = label_of(what);
+    lay_label(label, usize::from(label[0]), room, end)
+}
+
+/// The word for what a row reports at the end of 16 bytes, the first of which is its length.
+fn label_of(what: What) -> &'static [u8; 16]
+    ensures length { get_or result.now 0 0 ≡ length (word_of what) }
+    ensures short { length (word_of what) ≤ 9 }
+    ensures word { drop (16 - length (word_of what)) result.now ≡ word_of what }
+{
+    match what {
+        What::Start => b"\x05----------start",
+        What::Crash => b"\x05----------crash",
+        What::Joined => b"\x06---------joined",
+        What::Join => b"\x04-----------join",
+        What::Welcome => b"\x07--------welcome",
+        What::Ping => b"\x04-----------ping",
+        What::PingReq => b"\x08-------ping-req",
+        What::Ack => b"\x03------------ack",
+        What::Nack => b"\x04-----------nack",
+        What::Fail => b"\x04-----------fail",
+        What::Health => b"\x06---------health",
+        What::Alive => b"\x05----------alive",
+        What::Suspect => b"\x07--------suspect",
+        What::Confirm => b"\x07--------confirm",
+        What::Accuse => b"\x06---------accuse",
+        What::Refute => b"\x06---------refute",
+        What::Dead => b"\x04-----------dead",
+        What::Leave => b"\x05----------leave",
+        What::Bye => b"\x03------------bye",
+        What::Gossip => b"\x06---------gossip",
+        What::Call => b"\x04-----------call",
+        What::Answer => b"\x06---------answer",
+        What::Push => b"\x04-----------push",
+        What::Pull => b"\x04-----------pull",
+        What::Restart => b"\x07--------restart",
+        What::Exit => b"\x04-----------exit",
+        What::Left => b"\x04-----------left",
+        What::Forget => b"\x06---------forget",
+        What::Reconnect => b"\x09------reconnect",
+    }
+}
+
 /// Lays the last bytes of a label, as many as its name has, before a place, and answers where they start. What
 /// stands before them may change.
 #[inline(always)]
@@ -120,16 +171,6 @@ fn lay_long_name(member: MemberId, scenario: &Scenario, room: &mut [u8], end: us
     ensures laid { drop result room.new ≡ name_of scenario.now member ++ drop end room.old }
 {
     lay_bytes(member_name(member, scenario).as_bytes(), room, end)
-}
-
-/// Lays a text and a comma before a place, and answers where they start.
-fn lay_text(text: &str, room: &mut [u8], end: usize) -> usize
-    requires { (length text.now < end) × (end ≤ length room.old) }
-    ensures start { result + (length text.now + 1) ≡ end }
-    ensures laid { drop result room.new ≡ text.now ++ 44 ∷ drop end room.old }
-{
-    let end = lay_byte(b',', room, end);
-    lay_bytes(text.as_bytes(), room, end)
 }
 
 /// Lays bytes before a place, and answers where they start.
@@ -161,14 +202,6 @@ fn member_name(member: MemberId, scenario: &Scenario) -> &str
     ensures short { length result.now ≤ 97 }
 {
     scenario.name(member)
-}
-
-/// The word for what a row reports.
-fn word_of(what: What) -> &'static str
-    ensures value { result.now ≡ word_of what }
-    ensures short { length result.now ≤ 9 }
-{
-    what.word()
 }
 
 /// Whether what was sent was lost, as a digit.

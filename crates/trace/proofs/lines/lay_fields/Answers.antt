@@ -12,6 +12,6 @@ returns-clause-laid c =
     (one_more tail _ _ _ _ _ c.lay_name-end-2.ensures.laid refl
     (one_more tail _ _ _ _ _ c.lay_name-end.ensures.laid refl
     (one_more tail _ _ _ _ _ c.lay_number-end-2.ensures.laid refl
-    (one_more tail _ _ _ _ _ c.lay_text-end.ensures.laid c.word_of.ensures.value
+    (one_more tail _ _ _ _ _ c.lay_word-end.ensures.laid refl
     (one_more tail _ _ _ _ _ c.lay_about-end.ensures.laid refl
     (one_more tail _ _ _ _ _ c.lay_number-end.ensures.laid refl last))))))

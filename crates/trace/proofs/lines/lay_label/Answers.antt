@@ -1,4 +1,4 @@
-use Rattle.std.proofs.Common.{◌≡◌, ◌+◌, ap, sym, ◌∙◌, arith}
+use Rattle.std.proofs.Common.{arith}
 use Rattle.trace.proofs.ShortFields.{label_laid}
 use Rattle.trace.proofs.lines.lay_label.Goals as goal
 
