@@ -1,4 +1,5 @@
 pub mod Alive
+mod Joined
 mod Columns
 mod Sides
 mod Entries

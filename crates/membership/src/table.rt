@@ -4,6 +4,7 @@ ghost use Rattle.std.specs.Option.{option_map_or};
 ghost use Rattle.std.specs.FinMap.{empty, get, insert, remove};
 ghost use Rattle.membership.specs.Table.{all_alive, is_alive, known_of, live_count, known_count, alive_but, update_by, updates_by};
 ghost use Rattle.membership.specs.Columns.{entries_from, claim_at, claim_weight, known_weight};
+ghost use Rattle.membership.specs.Numbers.{numbers_of};
 ghost use Rattle.incarnation.specs.declared.Claim.TheVariants.{Alive};
 ghost use Rattle.membership.specs.Deaths.{since_of};
 ghost use Rattle.membership.specs.Candidates.{candidates_of, does_fit};
@@ -11,7 +12,7 @@ ghost use Rattle.membership.specs.Candidates.{candidates_of, does_fit};
 use crate::candidates::{Candidate, Fitting, append_known};
 use crate::claims::{is_alive, is_confirm};
 use crate::deaths::Deaths;
-use crate::numbers::{number_at, reach_number, write_number};
+use crate::numbers::Numbers;
 use base::{MemberId, Memory};
 use incarnation::{Claim, Update};
 use std::alloc::Global;
@@ -26,7 +27,7 @@ pub struct Table {
     claims: Vec<Option<Claim>>,
     /// The incarnation numbers in the same places, and 0 past the end: so as long as nobody has refuted
     /// anything, there are none.
-    incs: Vec<u64>,
+    incs: Numbers,
     /// How many members there are, oneself included. Each message asks for it.
     counts: Counts,
 }
@@ -49,12 +50,13 @@ impl Model for Table {
     ghost use Rattle.incarnation.specs.contracts.Claim as claim;
     ghost use Rattle.membership.specs.Table.{Known, known_of};
     ghost use Rattle.membership.specs.Columns.{entries_from, IsCounted};
+    ghost use Rattle.membership.specs.Numbers.{numbers_of};
 
     ghost Value = { Known };
 
     ghost coded = { code coded_ℕ (coded× claim.the_row.coded coded_ℕ) };
 
-    ghost view = { λ table. known_of (entries_from 0 table.claims.items table.incs.items) };
+    ghost view = { λ table. known_of (entries_from 0 table.claims.items (numbers_of table.incs)) };
 
     ghost invariant = { λ table. IsCounted table.claims.items table.counts.live table.counts.known };
 }
@@ -66,7 +68,7 @@ impl Table {
     {
         Table {
             claims: Vec::new(alloc),
-            incs: Vec::new(alloc),
+            incs: Numbers::new(alloc),
             counts: ALONE,
         }
     }
@@ -81,7 +83,7 @@ impl Table {
         let count = hold_alive(&mut claims, members);
         Ok(Table {
             claims,
-            incs: Vec::new(alloc),
+            incs: Numbers::new(alloc),
             counts: Counts {
                 live: count,
                 known: count,
@@ -98,7 +100,7 @@ impl Table {
             return None;
         }
         let claim = self.claims[place]?;
-        Some((claim, number_at(&self.incs, place)))
+        Some((claim, self.incs.at(place)))
     }
 
     /// The incarnation number at which a member is held, 0 where nothing is held of it. The numbers are
@@ -106,7 +108,7 @@ impl Table {
     pub fn number_of(&self, member: MemberId) -> u64
         ensures { result ≡ option_map_or (λ held. held.1) (get self.now member) 0 }
     {
-        if number_at(&self.incs, member.index()) == 0 {
+        if self.incs.at(member.index()) == 0 {
             return 0;
         }
         match self.get(member) {
@@ -121,10 +123,10 @@ impl Table {
         ensures err { OnErr result (self.new ≡ self.old) }
     {
         let place = usize::from(member.0);
-        reach_number(&mut self.incs, place, held.1)?;
+        self.incs.reach(place, held.1)?;
         reach_claim(&mut self.claims, place)?;
         self.counts = put_claim(&mut self.claims, place, held.0, self.counts);
-        write_number(&mut self.incs, place, held.1);
+        self.incs.write(place, held.1);
         Ok(())
     }
 
@@ -359,11 +361,11 @@ fn list_alive_but(
 fn list_updates(
     alloc: Global,
     claims: &[Option<Claim>],
-    incs: &[u64],
+    incs: &Numbers,
     accuser: MemberId,
 ) -> Result<Vec<Update>, Memory>
     requires { length claims.now ≤ 2 ^ 16 }
-    ensures { IfOk result (λ updates. updates.items ≡ map (update_by accuser) (entries_from 0 claims.now incs.now)) }
+    ensures { IfOk result (λ updates. updates.items ≡ map (update_by accuser) (entries_from 0 claims.now (numbers_of incs.now))) }
 {
     let mut updates = Vec::new(alloc);
     for (number, claim) in claims.iter().enumerate() {
@@ -371,7 +373,7 @@ fn list_updates(
         let update = Update {
             subject: MemberId(number as u16),
             claim: *claim,
-            inc: number_at(incs, number),
+            inc: incs.at(number),
             accuser,
         };
         updates.push(update)?;

@@ -1,4 +1,5 @@
 use Rattle.std.proofs.Common.{◌≡◌, ◌+◌, length, ap, ◌∙◌, arith}
+use Rattle.membership.specs.Numbers.{numbers_of}
 use Rattle.membership.specs.Deaths.{since_of}
 use Rattle.membership.specs.Candidates.{does_fit, candidates_of}
 use Rattle.membership.proofs.Sides.{all_listed, taken_is, dropped_is}
@@ -6,7 +7,7 @@ use Rattle.membership.proofs.table.Table.candidates.Goals as goal
 
 pub returns : goal.returns
 returns c =
-    let incs = c.self.inside.incs.items in
+    let incs = (numbers_of c.self.inside.incs) in
     let claims = c.self.inside.claims.items in
     let at : c.from-place.result ≡ c.args.own = c.from-place.ensures ∙ c.own.view_is in
     let long : c.len-end.result ≡ length claims = omega (arith, c.len-end.ensures) in
