@@ -1,5 +1,5 @@
 -- A tree of events as a set.
-use Rattle.std.proofs.Common.{◌≡◌, ℕ, ◌+◌, ◌≤◌, ◌<◌, Bool, true, false, cond, List, [], ◌∷◌, Option, Some, None, Ok, Err, Result, OnOk, OnErr, IfSome, IsSomeAnd, IsTrue, nat_eq, length, ap, ◌∙◌, sym, subst, refl, arith}
+use Rattle.std.proofs.Common.{◌≡◌, ℕ, ◌+◌, ◌≤◌, ◌<◌, Bool, true, false, cond, List, [], ◌∷◌, Option, Some, None, Ok, Err, Result, OnOk, OnErr, IfSome, IsSomeAnd, IsTrue, nat_eq, length, ap, ◌∙◌, sym, refl, arith}
 use Rattle.std.specs.Option.{is_some, IsSome, IfNone}
 use Rattle.std.specs.List.{AllByRecursion}
 use Rattle.std.specs.List.Sorted.{IsStrictlySortedBy}
@@ -110,25 +110,18 @@ pub above_by_cmp : (a b : ℕ) → false ≡ is_le (nat_cmp a b) → b < a
 above_by_cmp a b = above a b (nat_cmp a b) (ranks a b)
 
 -- what is stated of a value that is there
-pub at_some : {A : Type 0} (o : Option A) (x : A) (P : A → Type 0) → o ≡ Some x → IfSome o P → P x
-at_some o x P here told = subst (λ r. IfSome r P) here told
-
 pub some_and : {A : Type 0} (o : Option A) {P Q : A → Type 0} → IsSomeAnd o P → ((x : A) → P x → Q x) → IsSomeAnd o Q
 some_and (Some x) p f = f x p
 some_and None p f = p
 
+-- one is there
+pub some_of : {A : Type 0} (o : Option A) (P : A → Type 0) → IsSomeAnd o P → (x : A) × (o ≡ Some x)
+some_of (Some x) P p = (x, refl)
+some_of None P p = absurd p
+
 pub some_also : {A : Type 0} (o : Option A) {P Q R : A → Type 0} → IsSomeAnd o P → IfSome o Q → ((x : A) → P x → Q x → R x) → IsSomeAnd o R
 some_also (Some x) p q f = f x p q
 some_also None p q f = p
-
--- what follows of a value that is there, and of an equal one
-pub some_same : {A : Type 0} (o same : Option A) {P Q : A → Type 0} (R : Type 0) → same ≡ o → IsSomeAnd o P → IfSome same Q → ((x : A) → P x → Q x → R) → R
-some_same (Some x) same {P} {Q} R is p q f = f x p (subst (λ r. IfSome r Q) is q)
-some_same None same R is p q f = absurd p
-
-pub some_then : {A : Type 0} (o same : Option A) {P Q R : A → Type 0} → same ≡ o → IsSomeAnd o P → IfSome same Q → ((x : A) → P x → Q x → R x) → IfSome same R
-some_then (Some x) same {P} {Q} {R} is p q f = subst (λ r. IfSome r R) (sym is) (f x p (subst (λ r. IfSome r Q) is q))
-some_then None same is p q f = absurd p
 
 pub if_none : {A : Type 0} (o : Option A) (P : Type 0) → P → IfNone o P
 if_none None P given = given

@@ -1,17 +1,17 @@
--- The least event of a list, found place by place, and brought to its end.
-use Rattle.std.proofs.Common.{◌≡◌, ℕ, zero, suc, ◌+◌, ◌-◌, ◌<◌, ◌⊎◌, true, List, length, get_or, swap, IsSomeAnd, IsPermutation, ap, ◌∙◌, sym, subst, inl, inr, arith}
+-- The least event of a list, found place by place.
+use Rattle.std.proofs.Common.{◌≡◌, ℕ, zero, suc, ◌+◌, ◌<◌, ◌⊎◌, true, List, length, get_or, IsSomeAnd, ap, ◌∙◌, sym, subst, inl, inr, arith}
 use Rattle.std.proofs.lemmas.Bool.{cases_eq}
 use Rattle.std.proofs.lemmas.List.{get_or_default}
-use Rattle.std.proofs.lemmas.List.Sorted.{IsPermutation-swap, length_permutation}
 use Rattle.std.proofs.lemmas.Option.{get_or_from_slice_get}
 use Rattle.std.specs.Option.{is_some}
+use Rattle.std.specs.List.{slice_get}
 use Rattle.std.specs.FinMap.{contains_key}
 use Rattle.base.specs.declared.key.Key.{Key}
 use Rattle.base.specs.Order.{IsBefore}
 use Rattle.base.specs.Run.{IsFirst}
-use Rattle.worker_queue.specs.Slots.{by_key, AreUnlike, HaveOneMoment, IsLeastPlace, IsOfOneMoment, NoneIsBefore, last_of}
-use Rattle.worker_queue.proofs.Lists.{before_itself, not_both, not_before_through, get-by_key, is_found, one_with, unlike_moved, by_key-moved}
-use Rattle.worker_queue.proofs.Ends.{at_last}
+use Rattle.worker_queue.specs.Slots.{by_key, AreUnlike, HaveOneMoment, IsLeastPlace, IsOfOneMoment, NoneIsBefore}
+use Rattle.worker_queue.proofs.Lists.{before_itself, not_both, not_before_through, get-by_key, is_found, one_with}
+use Rattle.worker_queue.proofs.Ends.{at_place}
 
 module _ {E : Type 0} (key : E → Key) where
   module _ (xs : List E) where
@@ -54,10 +54,9 @@ module _ {E : Type 0} (key : E → Key) where
             let e = get_or xs k d in
             ap is_some (get-by_key key xs (key e) ∙ is_found key xs e unlike (k, within, get_or_default xs k e d within))
 
-    -- ---- the event at the place changes places with the last
-
-    module _ (place : ℕ) (within : place < length xs) (unlike : AreUnlike key xs) where
-      module _ (e : E) (is : e ≡ get_or xs place e) (least : IsLeastPlace key xs place) where
+    -- the event at the least place is the first of all
+    module _ (place : ℕ) (within : place < length xs) (unlike : AreUnlike key xs) (least : IsLeastPlace key xs place) where
+      module _ (e : E) (is : e ≡ get_or xs place e) where
         none_less : NoneIsBefore (by_key key xs) (key e)
         none_less q here =
             let one = one_with key xs q here in
@@ -67,19 +66,5 @@ module _ {E : Type 0} (key : E → Key) where
         first_of_list : IsFirst (by_key key xs) (key e) e
         first_of_list = record { here = get-by_key key xs (key e) ∙ is_found key xs e unlike (place, within, sym is); least = none_less }
 
-      module _ (ys : List E) (count : ℕ) (counted : count ≡ length xs) (swapped : ys ≡ swap xs place (count - 1)) where
-        moved : IsPermutation xs ys
-        moved = IsPermutation-swap xs ys place (count - 1) within (omega (arith, counted, within)) swapped
-
-        pub unlike_swapped : AreUnlike key ys
-        unlike_swapped = unlike_moved key xs ys moved unlike
-
-        pub same_swapped : by_key key ys ≡ by_key key xs
-        same_swapped = by_key-moved key xs ys moved unlike
-
-        pub first_swapped : IsLeastPlace key xs place → ((d : E) → get_or ys (count - 1) d ≡ get_or xs place d) → IsSomeAnd (last_of ys) (λ e. IsFirst (by_key key ys) (key e) e)
-        first_swapped least up =
-            let long : length ys ≡ length xs = length_permutation xs ys moved in
-            at_last key ys _ (omega arith) (λ e last.
-            let at : get_or ys (length ys - 1) e ≡ e = get_or_from_slice_get ys (length ys - 1) e e (sym last) in
-            subst (λ m. IsFirst m (key e) e) (sym same_swapped) (first_of_list e (sym at ∙ ap (λ n. get_or ys (n - 1) e) (long ∙ sym counted) ∙ up e) least))
+      pub first_at : IsSomeAnd (slice_get xs place) (λ e. IsFirst (by_key key xs) (key e) e)
+      first_at = at_place key xs place _ within (λ e at. first_of_list e (sym (get_or_from_slice_get xs place e e at)))

@@ -7,6 +7,7 @@ mod Lists
 mod Places
 mod Ranks
 mod Receivers
+mod Taken
 mod Turned
 mod Unions
 mod Wheels

@@ -8,7 +8,7 @@ use Rattle.std.specs.Cmp.{IsStrictWeakOrder, tied_itself, ranks}
 use Rattle.std.specs.FinMap.{FinMap, from_entries, empty, get, contains_key, insert, remove, find, get-from_entries, get-insert, get-remove, get-empty, same_map, from_entries_push}
 use Rattle.std.proofs.lemmas.Bool.{false≢true, cases_order}
 use Rattle.std.proofs.lemmas.Option.{same_Some}
-use Rattle.std.proofs.lemmas.List.{map_push, get_or_at, get_or_append_left, length_push}
+use Rattle.std.proofs.lemmas.List.{map_push, get_or_at, length_push}
 use Rattle.std.proofs.lemmas.List.Sums.{sum_by-cons, sum_by_push}
 use Rattle.std.proofs.lemmas.List.Sorted.{ranks_by, IsStrictWeakOrder-flip, sorted_far, Contains-permutation, sum_by-IsPermutation}
 use Rattle.std.proofs.lemmas.List.Elements.{All-contains}
@@ -88,7 +88,7 @@ module _ {E : Type 0} (key : E → Key) where
   found events q = find key_cmp q (map (λ e. (key e, e)) events)
 
   -- how many events of a list have this key
-  abbrev counted : List E → Key → ℕ
+  abbrev pub counted : List E → Key → ℕ
   counted events q = count_by (λ e. eq_by_cmp key_cmp q (key e)) events
 
   pub get-by_key : (events : List E) (q : Key) → get (by_key key events) q ≡ found events q
@@ -123,7 +123,7 @@ module _ {E : Type 0} (key : E → Key) where
       let all = (at_front e events q false is).1 in
       (at_front e events q false is).0 ∙ rest (omega arith)
 
-  none_found : (events : List E) (q : Key) → counted events q ≡ 0 → found events q ≡ None
+  pub none_found : (events : List E) (q : Key) → counted events q ≡ 0 → found events q ≡ None
   none_found [] q none = refl
   none_found (e ∷ events) q none = none_found_at e events q (eq_by_cmp key_cmp q (key e)) refl (none_found events q) none
 
@@ -142,7 +142,7 @@ module _ {E : Type 0} (key : E → Key) where
   found_is [] q e here = absurd (false≢true (ap is_some here))
   found_is (x ∷ events) q e here = found_is_at x events q e (eq_by_cmp key_cmp q (key x)) refl (found_is events q e) here
 
-  counted_here : (events : List E) (e : E) → Contains events e → 1 ≤ counted events (key e)
+  pub counted_here : (events : List E) (e : E) → Contains events e → 1 ≤ counted events (key e)
   counted_here [] e (k, within, at) = absurd (omega arith)
   counted_here (x ∷ events) e (zero, within, at) =
       let all = (at_front x events (key e) true (ap (λ y. eq_by_cmp key_cmp (key e) (key y)) at ∙ itself (key e))).1 in omega arith
@@ -151,10 +151,17 @@ module _ {E : Type 0} (key : E → Key) where
       let all = counted-cons x events (key e) in
       omega arith
 
-  unlike_rest : (x : E) (events : List E) → AreUnlike key (x ∷ events) → AreUnlike key events
+  pub unlike_rest : (x : E) (events : List E) → AreUnlike key (x ∷ events) → AreUnlike key events
   unlike_rest x events unlike q =
       let one : counted (x ∷ events) q ≤ 1 = unlike q in
       let all = counted-cons x events q in
+      omega arith
+
+  -- what stands before a list with no two alike isn't in it
+  pub none_in_rest : (x : E) (events : List E) → AreUnlike key (x ∷ events) → counted events (key x) ≡ 0
+  none_in_rest x events unlike =
+      let one : counted (x ∷ events) (key x) ≤ 1 = unlike (key x) in
+      let all = (at_front x events (key x) true (itself (key x))).1 in
       omega arith
 
   is_found_at : (x : E) (events : List E) (e : E) (b : Bool) → eq_by_cmp key_cmp (key e) (key x) ≡ b → AreUnlike key (x ∷ events) → Contains events e → found events (key e) ≡ Some e → found (x ∷ events) (key e) ≡ Some e
@@ -232,12 +239,6 @@ module _ {E : Type 0} (key : E → Key) where
   counted_front : (ys : List E) (e : E) (q : Key) → counted (ys ++ e ∷ []) q ≡ counted ys q + cond (eq_by_cmp key_cmp q (key e)) 1 0
   counted_front ys e q = sum_by_push (λ x. cond (eq_by_cmp key_cmp q (key x)) 1 0) ys e
 
-  pub unlike_front : (xs ys : List E) (e : E) → xs ≡ ys ++ e ∷ [] → AreUnlike key xs → AreUnlike key ys
-  unlike_front xs ys e is unlike q =
-      let one : counted (ys ++ e ∷ []) q ≤ 1 = subst (λ l. counted l q ≤ 1) is (unlike q) in
-      let all = counted_front ys e q in
-      omega arith
-
   not_in_front : (xs ys : List E) (e : E) → xs ≡ ys ++ e ∷ [] → AreUnlike key xs → found ys (key e) ≡ None
   not_in_front xs ys e is unlike =
       let one : counted (ys ++ e ∷ []) (key e) ≤ 1 = subst (λ l. counted l (key e) ≤ 1) is (unlike (key e)) in
@@ -249,10 +250,6 @@ module _ {E : Type 0} (key : E → Key) where
 
   pub with_last : (xs ys : List E) (e : E) → xs ≡ ys ++ e ∷ [] → AreUnlike key xs → by_key key xs ≡ insert (by_key key ys) (key e) e
   with_last xs ys e is unlike = ap (by_key key) is ∙ by_key-push ys e (new_in_front xs ys e is unlike)
-
-  pub by_key-front : (xs ys : List E) (e : E) → xs ≡ ys ++ e ∷ [] → AreUnlike key xs → by_key key ys ≡ remove (by_key key xs) (key e)
-  by_key-front xs ys e is unlike =
-      sym (ap (λ m. remove m (key e)) (with_last xs ys e is unlike) ∙ remove-insert (by_key key ys) (key e) e (new_in_front xs ys e is unlike))
 
   not_less : (a b : Key) → is_lt (key_cmp a b) ≡ false → ¬ (IsBefore a b)
   not_less a b not before = false≢true (sym not ∙ ap is_lt before)
@@ -270,13 +267,6 @@ module _ {E : Type 0} (key : E → Key) where
     here = ap (λ m. get m (key e)) (with_last xs ys e is unlike) ∙ get-insert key_total (by_key key ys) (key e) e (key e) ∙ ap (λ b. cond b (Some e) (get (by_key key ys) (key e))) (itself (key e));
     least = λ q here. not_before_last xs ys e is falling q (one_with xs q here);
   }
-
-  pub front_falls : (xs ys : List E) (e : E) → xs ≡ ys ++ e ∷ [] → AreFalling key xs → AreFalling key ys
-  front_falls xs ys e is falling k d from within =
-      let long : length xs ≡ length ys + 1 = ap length is ∙ length_push ys e in
-      let here : get_or xs k d ≡ get_or ys k d = ap (λ l. get_or l k d) is ∙ get_or_append_left ys (e ∷ []) d k (omega arith) in
-      let next : get_or xs (k + 1) d ≡ get_or ys (k + 1) d = ap (λ l. get_or l (k + 1) d) is ∙ get_or_append_left ys (e ∷ []) d (k + 1) (omega arith) in
-      ap (λ y. is_lt (key_cmp (key (get_or ys k d)) (key y))) (sym next) ∙ ap (λ y. is_lt (key_cmp (key y) (key (get_or xs (k + 1) d)))) (sym here) ∙ falling k d from (omega arith)
 
   pub set_empty : (events : List E) → events ≡ [] → by_key key events ≡ empty
   set_empty events is = ap (by_key key) is

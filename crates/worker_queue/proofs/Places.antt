@@ -8,7 +8,7 @@ use Rattle.worker_queue.specs.declared.stores.Place.{Place}
 use Rattle.worker_queue.specs.declared.stores.Place.TheVariants.{Slot, Late}
 use Rattle.worker_queue.specs.declared.stores.Stores.{Stores}
 use Rattle.worker_queue.specs.SetOf.{set_of}
-use Rattle.worker_queue.specs.Wheel.{events_in, last_at}
+use Rattle.worker_queue.specs.Wheel.{events_in, event_at}
 use Rattle.worker_queue.specs.Stores.{all_in, IsNext, IsNextAt}
 use Rattle.worker_queue.proofs.Unions.{from_first, from_second, some_left}
 
@@ -19,5 +19,5 @@ module _ {E : Type 0} {keyed : _} (key : E → Key) (stores : Stores E keyed) (b
 
   -- there is one
   pub some_at : (place : Place) → IsNextAt key stores bound place → 0 < count
-  some_at (Slot place) next = in_slot (last_at stores.wheel.slots.items place) next.1
+  some_at (Slot slot place) next = in_slot (event_at stores.wheel.slots.items slot place) next.1
   some_at Late (k, least, next) = some_left (all_in key stores) k count (from_second (events_in key stores.wheel.slots.items) (set_of stores.late) k least.here) counted

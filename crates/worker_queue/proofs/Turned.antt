@@ -1,21 +1,22 @@
 -- A wheel of which one slot has changed in memory.
-use Rattle.std.proofs.Common.{◌≡◌, ◌≢◌, OnErr, ℕ, zero, suc, ◌+◌, ◌%◌, ◌<◌, ◌≤◌, ◌⊎◌, true, false, cond, List, [], ◌∷◌, ◌++◌, map, length, set, get_or, Option, Some, None, IfSome, IfNone, IsSomeAnd, nat_le, Ok, Err, Result, ap, ◌∙◌, sym, subst, refl, inl, inr, arith}
-use Rattle.std.specs.Option.{is_some, option_to_list}
+use Rattle.std.proofs.Common.{◌≡◌, ◌≢◌, OnErr, ℕ, zero, suc, ◌+◌, ◌%◌, ◌<◌, ◌≤◌, ◌⊎◌, true, false, cond, List, [], ◌∷◌, ◌++◌, map, length, set, get_or, Option, Some, None, IfSome, IfNone, IsSomeAnd, Contains, nat_le, Ok, Err, Result, ap, ◌∙◌, sym, subst, refl, inl, inr, arith}
+use Rattle.std.specs.Option.{is_some}
+use Rattle.std.specs.List.{slice_get}
 use Rattle.std.specs.Ordering.{is_eq}
 use Rattle.std.specs.Cmp.{tied_itself}
 use Rattle.std.specs.FinMap.{empty, get, contains_key, insert, remove, get-empty, get-insert}
 use Rattle.std.proofs.lemmas.Bool.{false≢true, cases_eq, cases_Bool, leb-true, le-leb}
-use Rattle.std.proofs.lemmas.List.{length-set, length_push, nil_from_length}
+use Rattle.std.proofs.lemmas.List.{length-set, nil_from_length}
+use Rattle.std.proofs.lemmas.Option.{slice_get_within, get_or_from_slice_get}
 use Rattle.base.specs.declared.key.Key.{Key}
 use Rattle.base.specs.Order.{key_cmp, key_total}
 use Rattle.base.specs.Run.{IsFirst}
 use Rattle.worker_queue.specs.Marks.{mark_at}
 use Rattle.worker_queue.specs.Queue.{IsLeastKey}
-use Rattle.worker_queue.specs.Slots.{by_key, AreUnlike, IsOfOneMoment, NoneIsBefore, last_of}
+use Rattle.worker_queue.specs.Slots.{by_key, AreUnlike, IsOfOneMoment, NoneIsBefore}
 use Rattle.worker_queue.specs.Wheel.{slot_at, all_by_key, Spans, ArePlaced, AreMarked, IsFirstPlace}
 use Rattle.worker_queue.proofs.Lists.{get-by_key, is_found, list_empty, set_empty}
-use Rattle.worker_queue.proofs.Ends.{contains_last}
-use Rattle.worker_queue.proofs.Events.{at_some, some_and}
+use Rattle.worker_queue.proofs.Events.{some_of, some_and}
 use Rattle.worker_queue.proofs.Wheels as wheels
 
 -- slots without events, and one more
@@ -75,16 +76,44 @@ module _ {S E : Type 0} (key : E → Key) (f : S → List E) (slots : List S) (s
     new_in_slot k at new =
         ap (λ l. contains_key (by_key key l) k) (item ∙ ap (slot_at lists) (sym at)) ∙ ap is_some (sym (wheels.get_at key base lists (wheels.as_many f slots sized) placed k)) ∙ new
 
-    module _ (e : E) (last : Some e ≡ last_of (f old)) where
-      pub last_first : IsSomeAnd (last_of (slot_at (map f slots) place)) (λ e. IsFirst (all_by_key key (map f slots)) (key e) e) → IsFirst (all_by_key key (map f slots)) (key e) e
-      last_first first = subst (λ o. IsSomeAnd o (λ e. IsFirst (all_by_key key lists) (key e) e)) (ap last_of (sym item) ∙ sym last) first
+    module _ (index : ℕ) (e : E) (at : slice_get (f old) index ≡ Some e) where
+      in_list : Contains (f old) e
+      in_list = (index, slice_get_within (f old) index e at, get_or_from_slice_get (f old) index e e at)
+
+      found_at : AreUnlike key (f old) → get (by_key key (f old)) (key e) ≡ Some e
+      found_at unlike = get-by_key key (f old) (key e) ∙ is_found key (f old) e unlike in_list
 
       some : ¬ (slot_at lists place ≡ [])
-      some none = false≢true (sym (ap is_some (last ∙ ap last_of (item ∙ none))))
+      some none = let within = in_list.1 in let empty = ap length (item ∙ none) in omega arith
 
       own_place : AreUnlike key (f old) → (key e).at % 1024 ≡ place
-      own_place unlike =
-          (placed place below (key e) (ap (λ l. contains_key (by_key key l) (key e)) (sym item) ∙ ap is_some (get-by_key key (f old) (key e) ∙ is_found key (f old) e unlike (contains_last key (f old) e last)))).1
+      own_place unlike = (placed place below (key e) (ap (λ l. contains_key (by_key key l) (key e)) (sym item) ∙ ap is_some (found_at unlike))).1
+
+      module _ (first : IsSomeAnd (slice_get (slot_at (map f slots) place) index) (λ e. IsFirst (all_by_key key (map f slots)) (key e) e)) where
+        pub found_first : IsFirst (all_by_key key (map f slots)) (key e) e
+        found_first = subst (λ o. IsSomeAnd o (λ e. IsFirst (all_by_key key lists) (key e) e)) (ap (λ l. slice_get l index) (sym item) ∙ at) first
+
+        first_here : AreUnlike key (f old) → IsFirst (by_key key (f old)) (key e) e
+        first_here unlike = record {
+          here = found_at unlike;
+          least = λ q here.
+              let there : contains_key (by_key key (slot_at lists place)) q ≡ true = ap (λ l. contains_key (by_key key l) q) (sym item) ∙ here in
+              found_first.least q (ap is_some (wheels.get_in key base lists (wheels.as_many f slots sized) placed place q below there) ∙ there);
+        }
+
+      pub told_in_slot : slice_get (slot_at (map f slots) place) index ≡ Some e
+      told_in_slot = ap (λ l. slice_get l index) (sym item) ∙ at
+
+    -- the first of all is the first of its slot
+    module _ (index : ℕ) (first : IsSomeAnd (slice_get (slot_at (map f slots) place) index) (λ e. IsFirst (all_by_key key (map f slots)) (key e) e)) where
+      one : (e : E) × (slice_get (f old) index ≡ Some e)
+      one = let there = some_of (slice_get (slot_at lists place) index) _ first in (there.0, ap (λ l. slice_get l index) item ∙ there.1)
+
+      pub within_slot : index < length (f old)
+      within_slot = slice_get_within (f old) index one.0 one.1
+
+      pub first_in_slot : AreUnlike key (f old) → IsSomeAnd (slice_get (f old) index) (λ e. IsFirst (by_key key (f old)) (key e) e)
+      first_in_slot unlike = subst (λ o. IsSomeAnd o (λ e. IsFirst (by_key key (f old)) (key e) e)) (sym one.1) (first_here index one.0 one.1 first unlike)
 
     module _ (first : IsFirstPlace base (map f slots) place) where
       pub first_of_all : (k : Key) (e : E) → IsFirst (by_key key (f old)) k e → IsFirst (all_by_key key (map f slots)) k e
@@ -132,15 +161,15 @@ module _ {S E : Type 0} (key : E → Key) (f : S → List E) (slots : List S) (s
         λ none. (marked other there).1 (list_empty key (slot_at lists other) (sym (kept same other) ∙ set_empty key (slot_at after other) none)),
       )
 
-      -- the first of the slot, at its end, is the first of all
-      pub first_at_end : by_key key (f s) ≡ by_key key (f old) → IsFirstPlace base (map f slots) place → IsSomeAnd (last_of (f s)) (λ e. IsFirst (by_key key (f s)) (key e) e)
-          → IsSomeAnd (last_of (slot_at (map f (set slots place s)) place)) (λ e. IsFirst (all_by_key key (map f (set slots place s))) (key e) e)
-      first_at_end same first given =
-          subst (λ l. IsSomeAnd (last_of l) (λ e. IsFirst (all_by_key key after) (key e) e)) (sym here)
-          (some_and (last_of (f s)) given (λ e is. subst (λ m. IsFirst m (key e) e) (sym (all_kept same)) (first_of_all first (key e) e (subst (λ m. IsFirst m (key e) e) same is))))
+      -- the first of the slot is the first of all
+      pub first_at : (index : ℕ) → by_key key (f s) ≡ by_key key (f old) → IsFirstPlace base (map f slots) place → IsSomeAnd (slice_get (f s) index) (λ e. IsFirst (by_key key (f s)) (key e) e)
+          → IsSomeAnd (slice_get (slot_at (map f (set slots place s)) place) index) (λ e. IsFirst (all_by_key key (map f (set slots place s))) (key e) e)
+      first_at index same first given =
+          subst (λ l. IsSomeAnd (slice_get l index) (λ e. IsFirst (all_by_key key after) (key e) e)) (sym here)
+          (some_and (slice_get (f s) index) given (λ e is. subst (λ m. IsFirst m (key e) e) (sym (all_kept same)) (first_of_all first (key e) e (subst (λ m. IsFirst m (key e) e) same is))))
 
-      pub at_end : (P : E → Type 0) → IfSome (last_of (f s)) P → IfSome (last_of (slot_at (map f (set slots place s)) place)) P
-      at_end P given = subst (λ l. IfSome (last_of l) P) (sym here) given
+      pub told_at : (index : ℕ) (P : E → Type 0) → IfSome (slice_get (f s) index) P → IfSome (slice_get (slot_at (map f (set slots place s)) place) index) P
+      told_at index P given = subst (λ l. IfSome (slice_get l index) P) (sym here) given
 
       -- ---- an event more in it
 
@@ -165,37 +194,33 @@ module _ {S E : Type 0} (key : E → Key) (f : S → List E) (slots : List S) (s
             sym (ap is_some (get-empty key_cmp k)) ∙ sym (ap (λ m. contains_key m k) (set_empty key (f s) (sym here ∙ none))) ∙ ap (λ m. contains_key m k) pushed
             ∙ ap is_some (get-insert key_total (by_key key (f old)) k e k) ∙ ap (λ b. is_some (cond b (Some e) (get (by_key key (f old)) k))) (ap is_eq (tied_itself key_total k))))
 
-      -- ---- the last event taken out of it
+      -- ---- an event taken out of it
 
-      module _ (e : E) (last : Some e ≡ last_of (f old)) (unlike : AreUnlike key (f old)) (popped : Option E) (is_last : popped ≡ last_of (f old)) (taken : IfSome popped (λ e. by_key key (f s) ≡ remove (by_key key (f old)) (key e))) where
-        popped_here : by_key key (slot_at after place) ≡ remove (by_key key (slot_at lists place)) (key e)
-        popped_here = ap (by_key key) here ∙ at_some popped e _ (is_last ∙ sym last) taken ∙ ap (λ l. remove (by_key key l) (key e)) item
+      module _ (index : ℕ) (e : E) (at : slice_get (f old) index ≡ Some e) (unlike : AreUnlike key (f old)) (taken : by_key key (f s) ≡ remove (by_key key (f old)) (key e)) where
+        taken_here : by_key key (slot_at after place) ≡ remove (by_key key (slot_at lists place)) (key e)
+        taken_here = ap (by_key key) here ∙ taken ∙ ap (λ l. remove (by_key key l) (key e)) item
 
-        module _ (first : IsSomeAnd (last_of (slot_at (map f slots) place)) (λ e. IsFirst (all_by_key key (map f slots)) (key e) e)) where
-          pub placed_popped : (base' : ℕ) → base' ≡ (key e).at → ArePlaced key base' (map f (set slots place s))
-          placed_popped base' rises =
-              wheels.placed_popped key base base' lists after (wheels.as_many f slots sized) (wheels.still_as_many f slots place within s sized) placed place below (key e) (own_place e last unlike) others rises e (last_first e last first) popped_here
+        module _ (first : IsSomeAnd (slice_get (slot_at (map f slots) place) index) (λ e. IsFirst (all_by_key key (map f slots)) (key e) e)) where
+          pub placed_taken : (base' : ℕ) → base' ≡ (key e).at → ArePlaced key base' (map f (set slots place s))
+          placed_taken base' rises =
+              wheels.placed_popped key base base' lists after (wheels.as_many f slots sized) (wheels.still_as_many f slots place within s sized) placed place below (key e) (own_place index e at unlike) others rises e (found_first index e at first) taken_here
 
-          pub all_popped : IfSome popped (λ e. all_by_key key (map f (set slots place s)) ≡ remove (all_by_key key (map f slots)) (key e))
-          all_popped =
-              subst (λ o. IfSome o (λ e. all_by_key key after ≡ remove (all_by_key key lists) (key e))) (sym (is_last ∙ sym last))
-              (wheels.all_popped key base (key e).at lists after (wheels.as_many f slots sized) (wheels.still_as_many f slots place within s sized) placed place below (key e) (own_place e last unlike) others (placed_popped (key e).at refl) popped_here)
+          pub all_taken : all_by_key key (map f (set slots place s)) ≡ remove (all_by_key key (map f slots)) (key e)
+          all_taken =
+              wheels.all_popped key base (key e).at lists after (wheels.as_many f slots sized) (wheels.still_as_many f slots place within s sized) placed place below (key e) (own_place index e at unlike) others (placed_taken (key e).at refl) taken_here
 
-        module _ (count : ℕ) (counted : count ≡ length (f old)) (items : f old ≡ f s ++ option_to_list popped) where
-          one_less : count ≡ length (f s) + 1
-          one_less = counted ∙ ap length (items ∙ ap (λ o. f s ++ option_to_list o) (is_last ∙ sym last)) ∙ length_push (f s) e
-
+        module _ (count : ℕ) (counted : count ≡ length (f old)) (fewer : length (f s) + 1 ≡ length (f old)) where
           -- the mark goes with the only event
-          pub marked_popped : (words words' : List ℕ) → AreMarked words (map f slots) → (nat_le count 1 ≡ true → mark_at words' place ≡ 0) → (nat_le count 1 ≡ false → mark_at words' place ≡ mark_at words place)
+          pub marked_taken : (words words' : List ℕ) → AreMarked words (map f slots) → (nat_le count 1 ≡ true → mark_at words' place ≡ 0) → (nat_le count 1 ≡ false → mark_at words' place ≡ mark_at words place)
               → ((other : ℕ) → other < 1024 → other ≢ place → mark_at words' other ≡ mark_at words other) → AreMarked words' (map f (set slots place s))
-          marked_popped words words' marked cleared stays marks = by_test (cases_Bool (nat_le count 1))
+          marked_taken words words' marked cleared stays marks = by_test (cases_Bool (nat_le count 1))
             where
               by_test : (nat_le count 1 ≡ true) ⊎ (nat_le count 1 ≡ false) → AreMarked words' (map f (set slots place s))
               by_test (inl only) =
                   wheels.marked_clear key base base lists after (wheels.as_many f slots sized) (wheels.still_as_many f slots place within s sized) words words' marked place others marks (cleared only)
-                  (here ∙ nil_from_length (f s) (omega (arith, one_less, leb-true count 1 only)))
+                  (here ∙ nil_from_length (f s) (omega (arith, counted, fewer, leb-true count 1 only)))
               by_test (inr more) =
                   wheels.marked_but key base base lists after (wheels.as_many f slots sized) (wheels.still_as_many f slots place within s sized) words words' marked place others marks (
-                    λ unmarked. absurd (some e last ((marked place below).0 (sym (stays more) ∙ unmarked))),
-                    λ none. absurd (let empty = ap length (sym here ∙ none) in false≢true (sym more ∙ le-leb count 1 (omega (arith, one_less, empty)))),
+                    λ unmarked. absurd (some index e at ((marked place below).0 (sym (stays more) ∙ unmarked))),
+                    λ none. absurd (let empty = ap length (sym here ∙ none) in false≢true (sym more ∙ le-leb count 1 (omega (arith, counted, fewer, empty)))),
                   )

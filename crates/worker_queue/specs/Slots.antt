@@ -1,5 +1,5 @@
 -- Lists of events as sets.
-use Rattle.std.specs.Prelude.{◌≡◌, ◌+◌, ◌-◌, ◌*◌, ◌^◌, ◌<◌, ◌≤◌, ℕ, true, Option, List, length, map, slice_get, slice_index_or, count_by}
+use Rattle.std.specs.Prelude.{◌≡◌, ◌+◌, ◌*◌, ◌^◌, ◌<◌, ◌≤◌, ℕ, true, List, length, map, slice_index_or, count_by}
 use Rattle.std.specs.List.Sorted.{IsSortedBy}
 use Rattle.std.specs.Ordering.{is_lt, eq_by_cmp}
 use Rattle.std.specs.FinMap.{FinMap, from_entries, contains_key}
@@ -17,10 +17,6 @@ AreUnlike key events = (q : Key) → count_by (λ e. eq_by_cmp key_cmp q (key e)
 -- a list with the greatest key first
 abbrev pub AreFalling : {E : Type 0} → (E → Key) → List E → Type 0
 AreFalling key events = IsSortedBy (λ a b. is_lt (key_cmp (key b) (key a))) events
-
--- the last event of a list
-abbrev pub last_of : {E : Type 0} → List E → Option E
-last_of events = slice_get events (length events - 1)
 
 -- no event of a list comes before the one at this place
 abbrev pub IsLeastPlace : {E : Type 0} → (E → Key) → List E → ℕ → Type 0

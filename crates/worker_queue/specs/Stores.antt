@@ -11,7 +11,7 @@ use Rattle.worker_queue.specs.Queue.{IsLeastKey}
 use Rattle.worker_queue.specs.Slots.{NoneIsBefore}
 use Rattle.worker_queue.specs.Union.{union}
 use Rattle.worker_queue.specs.SetOf.{set_of}
-use Rattle.worker_queue.specs.Wheel.{events_in, last_at}
+use Rattle.worker_queue.specs.Wheel.{events_in, event_at}
 
 -- the events in the slots and the late ones
 abbrev pub all_in : {E : Type 0} {keyed : _} → (E → Key) → Stores E keyed → FinMap key_cmp E
@@ -24,6 +24,6 @@ pub record IsNext {C : Type 0} (others : FinMap key_cmp C) (bound : ℕ) (k : Ke
 
 -- the first of all events stands at a place, and its moment is below the bound
 abbrev pub IsNextAt : {E : Type 0} {keyed : _} → (E → Key) → Stores E keyed → ℕ → Place → Type 0
-IsNextAt key stores bound (Slot place) =
-    (place < 1024) × IsSomeAnd (last_at stores.wheel.slots.items place) (λ event. IsFirst (events_in key stores.wheel.slots.items) (key event) event × IsNext (set_of stores.late) bound (key event))
+IsNextAt key stores bound (Slot slot place) =
+    (slot < 1024) × IsSomeAnd (event_at stores.wheel.slots.items slot place) (λ event. IsFirst (events_in key stores.wheel.slots.items) (key event) event × IsNext (set_of stores.late) bound (key event))
 IsNextAt key stores bound Late = (k : Key) × IsLeastKey (set_of stores.late) k × IsNext (events_in key stores.wheel.slots.items) bound k

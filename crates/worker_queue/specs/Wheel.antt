@@ -1,12 +1,12 @@
 -- Events in slots, one for each of 1,024 moments from a base on.
-use Rattle.std.specs.Prelude.{◌≡◌, ◌↔◌, ℕ, ◌+◌, ◌-◌, ◌%◌, ◌<◌, ◌≤◌, true, Option, List, [], map, slice_index_or}
+use Rattle.std.specs.Prelude.{◌≡◌, ◌↔◌, ℕ, ◌+◌, ◌-◌, ◌%◌, ◌<◌, ◌≤◌, true, Option, List, [], map, slice_get, slice_index_or}
 use Rattle.std.specs.List.{flat_map}
 use Rattle.std.specs.FinMap.{FinMap, contains_key}
 use Rattle.base.specs.declared.key.Key.{Key}
 use Rattle.base.specs.Order.{key_cmp}
 use Rattle.worker_queue.specs.declared.slot.Slot.{Slot}
 use Rattle.worker_queue.specs.Marks.{mark_at}
-use Rattle.worker_queue.specs.Slots.{by_key, last_of}
+use Rattle.worker_queue.specs.Slots.{by_key}
 
 -- what stands in each slot
 abbrev pub lists_of : {E : Type 0} {keyed : _} → List (Slot E keyed) → List (List E)
@@ -16,9 +16,9 @@ lists_of slots = map (λ s. s.events.items) slots
 abbrev pub slot_at : {E : Type 0} → List (List E) → ℕ → List E
 slot_at lists place = slice_index_or lists place []
 
--- the last event of one
-abbrev pub last_at : {E : Type 0} {keyed : _} → List (Slot E keyed) → ℕ → Option E
-last_at slots place = last_of (slot_at (lists_of slots) place)
+-- the event at a place of one
+abbrev pub event_at : {E : Type 0} {keyed : _} → List (Slot E keyed) → ℕ → ℕ → Option E
+event_at slots slot place = slice_get (slot_at (lists_of slots) slot) place
 
 -- the events of all lists, by their keys
 abbrev pub all_by_key : {E : Type 0} → (E → Key) → List (List E) → FinMap key_cmp E

@@ -1,10 +1,10 @@
 //! A slot of the wheel holds the events of one moment: it scans few of them for the least, and sorts many.
-ghost use Rattle.std.specs.Prelude.{◌≡◌, ◌<◌, ◌++◌, length, [], true, false, IsTrue, IsFalse, IsSomeAnd, IfSome, IfNone, IfErr, OnOk, OnErr, option_to_list, vec_len, vec_capacity};
+ghost use Rattle.std.specs.Prelude.{◌≡◌, ◌+◌, ◌<◌, length, [], true, false, Some, IsTrue, IsSomeAnd, IfSome, IfNone, IfErr, OnOk, OnErr, slice_get, vec_len, vec_capacity};
 ghost use Rattle.std.specs.FinMap.{contains_key, insert, remove, empty};
 ghost use Rattle.base.specs.Order.{IsBefore};
 ghost use Rattle.base.specs.Run.{IsFirst};
 ghost use Rattle.worker_queue.specs.Queue.{IsLeastKey};
-ghost use Rattle.worker_queue.specs.Slots.{by_key, AreUnlike, AreFalling, IsOfOneMoment, NoneIsBefore, last_of};
+ghost use Rattle.worker_queue.specs.Slots.{by_key, AreUnlike, AreFalling, IsOfOneMoment, NoneIsBefore};
 
 use crate::falling::{least_key, least_place, sort_falling};
 use crate::least::{first_key, is_before};
@@ -59,59 +59,61 @@ impl<E: Keyed + Drop> Slot<E> {
         least_key(&self.events)
     }
 
-    /// Brings the event with the least key to the end, if that is before the limit: `false` where no
-    /// event's is.
+    /// The place of the event with the least key, if that is before the limit: `None` where no event's is.
+    /// Where they are many, they are sorted first.
     #[inline(always)]
-    pub(crate) fn bring_up(&mut self, limit: &Key) -> bool
+    pub(crate) fn find(&mut self, limit: &Key) -> Option<usize>
         requires { IsOfOneMoment (by_key E.key self.old.events.items) }
         ensures same { by_key E.key self.new.events.items ≡ by_key E.key self.old.events.items }
-        ensures first { IsTrue result → IsSomeAnd (last_of self.new.events.items) (λ event. IsFirst (by_key E.key self.new.events.items) (E.key event) event) }
-        ensures before { IsTrue result → IfSome (last_of self.new.events.items) (λ event. IsBefore (E.key event) limit.now) }
-        ensures none { IsFalse result → NoneIsBefore (by_key E.key self.old.events.items) limit.now }
+        ensures first { IfSome result (λ place. IsSomeAnd (slice_get self.new.events.items place) (λ event. IsFirst (by_key E.key self.new.events.items) (E.key event) event)) }
+        ensures before { IfSome result (λ place. IfSome (slice_get self.new.events.items place) (λ event. IsBefore (E.key event) limit.now)) }
+        ensures none { IfNone result (NoneIsBefore (by_key E.key self.old.events.items) limit.now) }
     {
         let Some(any) = self.events.last() else {
-            return false;
+            return None;
         };
         if !is_before(&first_key(any.key().at), limit) {
-            return false;
+            return None;
         }
-        self.raise_least();
-        let Some(last) = self.events.last() else {
-            return false;
-        };
-        is_before(&last.key(), limit)
+        let place = self.find_least();
+        if is_before(&self.events[place].key(), limit) {
+            Some(place)
+        } else {
+            None
+        }
     }
 
-    /// Brings the event with the least key to the end, of a slot that has an event: of few events it takes
-    /// the place of the last, and many are sorted.
+    /// The place of the event with the least key, of a slot that has an event: of few events it is looked
+    /// for, and many are sorted, which makes it the last.
     #[inline(always)]
-    fn raise_least(&mut self)
+    fn find_least(&mut self) -> usize
         requires some { 0 < length self.old.events.items }
         requires moment { IsOfOneMoment (by_key E.key self.old.events.items) }
         ensures same { by_key E.key self.new.events.items ≡ by_key E.key self.old.events.items }
-        ensures first { IsSomeAnd (last_of self.new.events.items) (λ event. IsFirst (by_key E.key self.new.events.items) (E.key event) event) }
+        ensures within { result < length self.new.events.items }
+        ensures first { IsSomeAnd (slice_get self.new.events.items result) (λ event. IsFirst (by_key E.key self.new.events.items) (E.key event) event) }
     {
         if self.is_sorted {
-            return;
+            return self.events.len() - 1;
         }
         if self.events.len() > FEW {
             sort_falling(&mut self.events);
             self.is_sorted = true;
-            return;
+            return self.events.len() - 1;
         }
-        let place = least_place(&self.events);
-        let end = self.events.len() - 1;
-        self.events.swap(place, end);
+        least_place(&self.events)
     }
 
-    /// Takes out the last event: `None` where there is none.
+    /// Takes out the event at a place, which is the first of all. The last one takes its place: of sorted
+    /// events the first of all is the last, so that they stay sorted.
     #[inline(always)]
-    pub(crate) fn pop(&mut self) -> Option<E>
-        ensures last { result ≡ last_of self.old.events.items }
-        ensures items { self.old.events.items ≡ self.new.events.items ++ option_to_list result }
-        ensures taken { IfSome result (λ event. by_key E.key self.new.events.items ≡ remove (by_key E.key self.old.events.items) (E.key event)) }
+    pub(crate) fn take(&mut self, place: usize) -> E
+        requires { IsSomeAnd (slice_get self.old.events.items place) (λ event. IsFirst (by_key E.key self.old.events.items) (E.key event) event) }
+        ensures here { slice_get self.old.events.items place ≡ Some result }
+        ensures fewer { length self.new.events.items + 1 ≡ length self.old.events.items }
+        ensures taken { by_key E.key self.new.events.items ≡ remove (by_key E.key self.old.events.items) (E.key result) }
     {
-        self.events.pop()
+        self.events.swap_remove(place)
     }
 }
 

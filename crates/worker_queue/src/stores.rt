@@ -18,10 +18,11 @@ use crate::wheel::Wheel;
 use base::{Key, Keyed, Memory, Moment};
 use std::alloc::Global;
 
-/// Where the first of all events stands: last in the slot of this place, or in the tree.
+/// Where the first of all events stands: in a slot, of which this names the place and then that of the event
+/// in it, or in the tree.
 #[derive(Clone, Copy)]
 pub(crate) enum Place {
-    Slot(usize),
+    Slot(usize, usize),
     Late,
 }
 
@@ -80,16 +81,16 @@ impl<E: Keyed + Drop> Stores<E> {
     }
 
     /// Finds the place of the event with the least key, if its moment is below the bound: `None` where no
-    /// event's is. In a slot it is brought to the end.
+    /// event's is.
     #[inline(always)]
-    pub(crate) fn bring_up(&mut self, bound: Moment) -> Option<Place>
+    pub(crate) fn find(&mut self, bound: Moment) -> Option<Place>
         ensures same { all_in E.key self.new ≡ all_in E.key self.old }
         ensures next { IfSome result (λ place. IsNextAt E.key self.new bound place) }
         ensures none { IfNone result (NoneIsBelow (all_in E.key self.old) bound) }
     {
         let limit = self.limit(bound);
-        if let Some(place) = self.wheel.bring_up(&limit) {
-            return Some(Place::Slot(place));
+        if let Some((slot, place)) = self.wheel.find(&limit) {
+            return Some(Place::Slot(slot, place));
         }
         if limit.at.ticks() < bound.ticks() {
             Some(Place::Late)
@@ -108,7 +109,7 @@ impl<E: Keyed + Drop> Stores<E> {
         ensures taken { IfSome result (λ event. all_in E.key self.new ≡ remove (all_in E.key self.old) (E.key event)) }
     {
         match place {
-            Place::Slot(place) => self.wheel.pop_at(place),
+            Place::Slot(slot, place) => Some(self.wheel.pop_at(slot, place)),
             Place::Late => self.pop_late(bound),
         }
     }

@@ -1,12 +1,12 @@
 //! A timing wheel: one slot for each of 1,024 moments from a base on, which rises to the moment of each popped event.
-ghost use Rattle.std.specs.Prelude.{◌≡◌, ◌↔◌, ◌<◌, ◌≤◌, ◌%◌, ℕ, length, IsTrue, true, false, IsSomeAnd, IfOk, IfSome, IfNone, IfErr, OnOk, OnErr, []};
+ghost use Rattle.std.specs.Prelude.{◌≡◌, ◌↔◌, ◌<◌, ◌≤◌, ◌%◌, ℕ, length, Some, IsTrue, true, false, IsSomeAnd, IfOk, IfSome, IfNone, IfErr, OnOk, OnErr, []};
 ghost use Rattle.std.specs.FinMap.{contains_key, insert, remove, empty};
 ghost use Rattle.base.specs.declared.key.Key.{Key as AKey};
 ghost use Rattle.base.specs.Order.{IsBefore};
 ghost use Rattle.base.specs.Run.{IsFirst};
 ghost use Rattle.worker_queue.specs.Queue.{IsLeastKey};
 ghost use Rattle.worker_queue.specs.Slots.{NoneIsBefore};
-ghost use Rattle.worker_queue.specs.Wheel.{lists_of, slot_at, last_at, events_in, Spans, ArePlaced, AreMarked, IsFirstPlace};
+ghost use Rattle.worker_queue.specs.Wheel.{lists_of, slot_at, event_at, events_in, Spans, ArePlaced, AreMarked, IsFirstPlace};
 
 use crate::marks::{Marks, PLACES};
 use crate::slot::Slot;
@@ -93,40 +93,34 @@ impl<E: Keyed + Drop> Wheel<E> {
         self.slots[place].least()
     }
 
-    /// Brings the event with the least key to the end of its slot, if that is before the limit, and gives
-    /// the place of the slot: `None` where no event's is.
+    /// Finds the event with the least key, if that is before the limit, and gives the place of its slot and
+    /// its own place in that: `None` where no event's is.
     #[inline(always)]
-    pub(crate) fn bring_up(&mut self, limit: &Key) -> Option<usize>
+    pub(crate) fn find(&mut self, limit: &Key) -> Option<(usize, usize)>
         ensures same { events_in E.key self.new.slots.items ≡ events_in E.key self.old.slots.items }
-        ensures within { IfSome result (λ place. place < 1024) }
-        ensures first { IfSome result (λ place. IsSomeAnd (last_at self.new.slots.items place) (λ event. IsFirst (events_in E.key self.new.slots.items) (E.key event) event)) }
-        ensures before { IfSome result (λ place. IfSome (last_at self.new.slots.items place) (λ event. IsBefore (E.key event) limit.now)) }
+        ensures within { IfSome result (λ found. found.0 < 1024) }
+        ensures first { IfSome result (λ found. IsSomeAnd (event_at self.new.slots.items found.0 found.1) (λ event. IsFirst (events_in E.key self.new.slots.items) (E.key event) event)) }
+        ensures before { IfSome result (λ found. IfSome (event_at self.new.slots.items found.0 found.1) (λ event. IsBefore (E.key event) limit.now)) }
         ensures none { IfNone result (NoneIsBefore (events_in E.key self.old.slots.items) limit.now) }
     {
-        let place = self.first_place()?;
-        if self.slots[place].bring_up(limit) {
-            Some(place)
-        } else {
-            None
-        }
+        let slot = self.first_place()?;
+        let place = self.slots[slot].find(limit)?;
+        Some((slot, place))
     }
 
-    /// Takes out the last event of a slot, the first of all. From then on the wheel spans the moments from
-    /// that event's on.
+    /// Takes out the event at a place of a slot, the first of all. From then on the wheel spans the moments
+    /// from that event's on.
     #[inline(always)]
-    pub(crate) fn pop_at(&mut self, place: usize) -> Option<E>
-        requires within { place < 1024 }
-        requires first { IsSomeAnd (last_at self.old.slots.items place) (λ event. IsFirst (events_in E.key self.old.slots.items) (E.key event) event) }
-        ensures last { result ≡ last_at self.old.slots.items place }
-        ensures taken { IfSome result (λ event. events_in E.key self.new.slots.items ≡ remove (events_in E.key self.old.slots.items) (E.key event)) }
+    pub(crate) fn pop_at(&mut self, slot: usize, place: usize) -> E
+        requires within { slot < 1024 }
+        requires first { IsSomeAnd (event_at self.old.slots.items slot place) (λ event. IsFirst (events_in E.key self.old.slots.items) (E.key event) event) }
+        ensures here { event_at self.old.slots.items slot place ≡ Some result }
+        ensures taken { events_in E.key self.new.slots.items ≡ remove (events_in E.key self.old.slots.items) (E.key result) }
     {
-        let slot = &mut self.slots[place];
-        let Some(last) = slot.events.last() else {
-            return None;
-        };
-        self.base = last.key().at.ticks();
-        self.marks.clear_if(place, slot.events.len() <= 1);
-        slot.pop()
+        let held = &mut self.slots[slot];
+        self.base = held.events[place].key().at.ticks();
+        self.marks.clear_if(slot, held.events.len() <= 1);
+        held.take(place)
     }
 
     /// Spans the moments from this one on, unless it does so from a later one on. It has no earlier event.

@@ -52,7 +52,7 @@ impl<E: Keyed + Drop> EventQueue<E> for WheelQueue<E> {
     #[inline(always)]
     fn pop_below(&mut self, bound: Moment) -> Option<E> {
         // (the event moves once, from where it stands to the caller)
-        let place = self.stores.bring_up(bound)?;
+        let place = self.stores.find(bound)?;
         self.count -= 1;
         self.stores.pop_at(place, bound)
     }
