@@ -102,7 +102,8 @@ def add_streams(rng, document, period, least):
 def groups_of(rng, version):
     """One to four groups, most with some members each."""
     most = rng.choice([1, 2, 3, 8, 8, 16, 24, 24, 24]) if chance(rng, 96) else 128
-    short = [letter + end for letter in LETTERS for end in ('', '7', 'zz', '0123456789abcdf')]
+    # members' names of 15 bytes and fewer are copied in one piece, longer ones aren't
+    short = [letter + end for letter in LETTERS for end in ('', '7', 'zz', '0123456789ab', '0123456789abcdf')]
     names = rng.sample(short if version < 4 else NAMES, 4)
     groups, left = [], most
     for name in names[:rng.randint(1, 4)]:
