@@ -9,7 +9,7 @@ use Rattle.std.specs.Cmp.{nat_cmp_total, unsigned_tied, nat_cmp_is}
 use Rattle.std.specs.declared.cmp.Ordering.TheVariants.{Less}
 use Rattle.std.specs.FinMap.{get, insert, remove, find, get-from_entries, get-insert, get-remove, same_map, nat_cmp-IsAntisymmetric}
 use Rattle.std.proofs.lemmas.Bool.{eqb-true, eqb-false, eq-eqb, ne_eqb}
-use Rattle.std.proofs.lemmas.List.{get_or-set_same, get_or-set_other, get_or_past, append-nil, map-append, take_more, length-take-le, get_or_read}
+use Rattle.std.proofs.lemmas.List.{get_or-set_same, get_or-set_other, get_or_past, append-nil, map-append, length-take-le, length-map, map_more, take_all}
 use Rattle.std.proofs.lemmas.List.Elements.{filter-append}
 use Rattle.std.proofs.lemmas.List.Sums.{sum_by-cons, sum_by_push}
 use Rattle.incarnation.specs.declared.Claim.{Claim}
@@ -17,7 +17,11 @@ use Rattle.incarnation.specs.declared.Update.{Update}
 use Rattle.membership.specs.Table.{known_of, all_alive, is_alive, is_confirm, live_count, known_count, update_by}
 use Rattle.membership.proofs.Entries.{live_count-entries, known_count-entries}
 use Rattle.membership.proofs.Alive.{get-alive}
+use Rattle.membership.proofs.OneByte.{claim_read}
+use Rattle.membership.specs.declared.held.Held.{Held}
+use Rattle.membership.specs.declared.held.Held.TheVariants.{Nothing}
 use Rattle.membership.specs.Columns.{entries_from, claim_at, held_at, claim_weight, known_weight}
+use Rattle.membership.specs.Held.{claim_of, claims_in}
 
 abbrev pub Entry : Type 0
 Entry = ℕ × (Claim × ℕ)
@@ -140,18 +144,23 @@ nobody_known (c ∷ claims) none =
     let first : known_weight c ≡ 0 = ap known_weight (none 0) in
     omega arith
 
-pub nobody_replicated : (n k : ℕ) → claim_at (replicate n None) k ≡ None
+pub nobody_replicated : (n k : ℕ) → claim_at (claims_in (replicate n Nothing)) k ≡ None
 nobody_replicated zero k = refl
 nobody_replicated (suc n) zero = refl
 nobody_replicated (suc n) (suc k) = nobody_replicated n k
 
+pub nobody_made : (held : List Held) (n m k : ℕ) → held ≡ [] → claim_at (claims_in (take n held ++ replicate m Nothing)) k ≡ None
+nobody_made held n m k is =
+    let none : length held ≡ 0 = ap length is in
+    ap (λ l. claim_at (claims_in (l ++ replicate m Nothing)) k) (take_all n held (omega arith) ∙ is) ∙ nobody_replicated m k
+
 -- ---- longer columns
 
-pub claim_more : (claims : List (Option Claim)) (k : ℕ) → claim_at (claims ++ None ∷ []) k ≡ claim_at claims k
+pub claim_more : (held : List Held) (k : ℕ) → claim_at (claims_in (held ++ Nothing ∷ [])) k ≡ claim_at (claims_in held) k
 claim_more [] zero = refl
 claim_more [] (suc k) = refl
-claim_more (c ∷ claims) zero = refl
-claim_more (c ∷ claims) (suc k) = claim_more claims k
+claim_more (h ∷ held) zero = refl
+claim_more (h ∷ held) (suc k) = claim_more held k
 
 pub number_more : (incs : List ℕ) (k : ℕ) → slice_index (incs ++ 0 ∷ []) k ≡ slice_index incs k
 number_more [] zero = refl
@@ -159,11 +168,11 @@ number_more [] (suc k) = refl
 number_more (i ∷ incs) zero = refl
 number_more (i ∷ incs) (suc k) = number_more incs k
 
-pub weight_more : (claims : List (Option Claim)) → sum_by claim_weight (claims ++ None ∷ []) ≡ sum_by claim_weight claims
-weight_more claims = let more = sum_by_push claim_weight claims None in omega arith
+pub weight_more : (held : List Held) → sum_by claim_weight (claims_in (held ++ Nothing ∷ [])) ≡ sum_by claim_weight (claims_in held)
+weight_more held = ap (sum_by claim_weight) (map-append claim_of held (Nothing ∷ [])) ∙ (let more = sum_by_push claim_weight (claims_in held) None in omega arith)
 
-pub known_more : (claims : List (Option Claim)) → sum_by known_weight (claims ++ None ∷ []) ≡ sum_by known_weight claims
-known_more claims = let more = sum_by_push known_weight claims None in omega arith
+pub known_more : (held : List Held) → sum_by known_weight (claims_in (held ++ Nothing ∷ [])) ≡ sum_by known_weight (claims_in held)
+known_more held = ap (sum_by known_weight) (map-append claim_of held (Nothing ∷ [])) ∙ (let more = sum_by_push known_weight (claims_in held) None in omega arith)
 
 -- ---- the count
 
@@ -257,18 +266,21 @@ module _ (incs : List ℕ) where
   entries_push (None ∷ claims) n m x is = entries_push claims (n + 1) m x (omega arith)
   entries_push (Some c ∷ claims) n m x is = ap (λ l. (n, (c, slice_index incs n)) ∷ l) (entries_push claims (n + 1) m x (omega arith))
 
-  pub entries_more_from : (claims : List (Option Claim)) (a n m : ℕ) (x : Option Claim) → m ≡ a + n → n < length claims → get_or claims n None ≡ x → entries_from a (take (n + 1) claims) incs ≡ entries_from a (take n claims) incs ++ entry_at m x
-  entries_more_from claims a n m x at within is =
-      let long : length (take n claims) ≡ n = length-take-le n claims (omega arith) in
-      ap (λ l. entries_from a l incs) (take_more claims n None within) ∙ entries_push (take n claims) a m (get_or claims n None) (omega arith) ∙ ap (λ c. entries_from a (take n claims) incs ++ entry_at m c) is
+  pub entries_more_from : (held : List Held) (d : Held) (a n m : ℕ) (x : Option Claim) → m ≡ a + n → n < length held → claim_of (get_or held n d) ≡ x
+      → entries_from a (claims_in (take (n + 1) held)) incs ≡ entries_from a (claims_in (take n held)) incs ++ entry_at m x
+  entries_more_from held d a n m x at within is =
+      let long : length (claims_in (take n held)) ≡ n = length-map (take n held) claim_of ∙ length-take-le n held (omega arith) in
+      ap (λ l. entries_from a l incs) (map_more claim_of held n d within) ∙ entries_push (claims_in (take n held)) a m (claim_of (get_or held n d)) (omega arith)
+      ∙ ap (λ c. entries_from a (claims_in (take n held)) incs ++ entry_at m c) is
 
-  pub entries_more : (claims : List (Option Claim)) (n : ℕ) (x : Option Claim) → n < length claims → get_or claims n None ≡ x → entries_from 0 (take (n + 1) claims) incs ≡ entries_from 0 (take n claims) incs ++ entry_at n x
-  entries_more claims n x within is = entries_more_from claims 0 n n x (omega arith) within is
+  pub entries_more : (held : List Held) (d : Held) (n : ℕ) (x : Option Claim) → n < length held → claim_of (get_or held n d) ≡ x
+      → entries_from 0 (claims_in (take (n + 1) held)) incs ≡ entries_from 0 (claims_in (take n held)) incs ++ entry_at n x
+  entries_more held d n x within is = entries_more_from held d 0 n n x (omega arith) within is
 
 -- a claim that was read, with its number
-pub get_read : (claims : List (Option Claim)) (incs : List ℕ) (place : ℕ) (x : Option Claim) → place < length claims → x ≡ get_or claims place x
-    → get (known_of (entries_from 0 claims incs)) place ≡ option_map (λ c. (c, slice_index incs place)) x
-get_read claims incs place x within is = get_held incs claims place ∙ ap (option_map (λ c. (c, slice_index incs place))) (sym (get_or_read claims place x within is None))
+pub get_read : (held : List Held) (incs : List ℕ) (place : ℕ) (h : Held) → place < length held → h ≡ get_or held place h
+    → get (known_of (entries_from 0 (claims_in held) incs)) place ≡ option_map (λ c. (c, slice_index incs place)) (claim_of h)
+get_read held incs place h within is = get_held incs (claims_in held) place ∙ ap (option_map (λ c. (c, slice_index incs place))) (sym (claim_read held place h within is))
 
 -- the count
 pub live_is : (claims : List (Option Claim)) (incs : List ℕ) (live : ℕ) → live ≡ sum_by claim_weight claims + 1 → live ≡ live_count (known_of (entries_from 0 claims incs))
@@ -292,32 +304,32 @@ little_weight c = weight_small c
 abbrev pub up_in : ℕ → List (Option Claim) → List ℕ → List ℕ
 up_in member claims incs = map (λ (e : Entry). e.0) (filter (λ (e : Entry). is_alive e.1.0 && not (nat_eq e.0 member)) (entries_from 0 claims incs))
 
-pub none_more : (incs : List ℕ) (claims : List (Option Claim)) (n : ℕ) → n < length claims → get_or claims n None ≡ None → entries_from 0 (take (n + 1) claims) incs ≡ entries_from 0 (take n claims) incs
-none_more incs claims n within is = entries_more incs claims n None within is ∙ append-nil (entries_from 0 (take n claims) incs)
+pub none_more : (incs : List ℕ) (held : List Held) (d : Held) (n : ℕ) → n < length held → claim_of (get_or held n d) ≡ None → entries_from 0 (claims_in (take (n + 1) held)) incs ≡ entries_from 0 (claims_in (take n held)) incs
+none_more incs held d n within is = entries_more incs held d n None within is ∙ append-nil (entries_from 0 (claims_in (take n held)) incs)
 
-pub up_more : (member : ℕ) (claims : List (Option Claim)) (incs : List ℕ) (n : ℕ) (c : Claim) → n < length claims → get_or claims n None ≡ Some c → (before after : List ℕ) (b : Bool)
-    → b ≡ (is_alive c && not (nat_eq n member)) → before ≡ up_in member (take n claims) incs → after ≡ cond b (before ++ n ∷ []) before → after ≡ up_in member (take (n + 1) claims) incs
-up_more member claims incs n c within is before after b test so_far more =
+pub up_more : (member : ℕ) (held : List Held) (d : Held) (incs : List ℕ) (n : ℕ) (c : Claim) → n < length held → claim_of (get_or held n d) ≡ Some c → (before after : List ℕ) (b : Bool)
+    → b ≡ (is_alive c && not (nat_eq n member)) → before ≡ up_in member (claims_in (take n held)) incs → after ≡ cond b (before ++ n ∷ []) before → after ≡ up_in member (claims_in (take (n + 1) held)) incs
+up_more member held d incs n c within is before after b test so_far more =
     more ∙ ap (λ l. cond b (l ++ n ∷ []) l) so_far ∙ by_test b test ∙ sym all
   where
-    all : up_in member (take (n + 1) claims) incs ≡ up_in member (take n claims) incs ++ map (λ (e : Entry). e.0) (filter (λ (e : Entry). is_alive e.1.0 && not (nat_eq e.0 member)) ((n, (c, slice_index incs n)) ∷ []))
+    all : up_in member (claims_in (take (n + 1) held)) incs ≡ up_in member (claims_in (take n held)) incs ++ map (λ (e : Entry). e.0) (filter (λ (e : Entry). is_alive e.1.0 && not (nat_eq e.0 member)) ((n, (c, slice_index incs n)) ∷ []))
     all =
-        ap (λ l. map (λ (e : Entry). e.0) (filter (λ (e : Entry). is_alive e.1.0 && not (nat_eq e.0 member)) l)) (entries_more incs claims n (Some c) within is)
-        ∙ ap (map (λ (e : Entry). e.0)) (filter-append (λ (e : Entry). is_alive e.1.0 && not (nat_eq e.0 member)) (entries_from 0 (take n claims) incs) ((n, (c, slice_index incs n)) ∷ []))
-        ∙ map-append (λ (e : Entry). e.0) (filter (λ (e : Entry). is_alive e.1.0 && not (nat_eq e.0 member)) (entries_from 0 (take n claims) incs))
+        ap (λ l. map (λ (e : Entry). e.0) (filter (λ (e : Entry). is_alive e.1.0 && not (nat_eq e.0 member)) l)) (entries_more incs held d n (Some c) within is)
+        ∙ ap (map (λ (e : Entry). e.0)) (filter-append (λ (e : Entry). is_alive e.1.0 && not (nat_eq e.0 member)) (entries_from 0 (claims_in (take n held)) incs) ((n, (c, slice_index incs n)) ∷ []))
+        ∙ map-append (λ (e : Entry). e.0) (filter (λ (e : Entry). is_alive e.1.0 && not (nat_eq e.0 member)) (entries_from 0 (claims_in (take n held)) incs))
         (filter (λ (e : Entry). is_alive e.1.0 && not (nat_eq e.0 member)) ((n, (c, slice_index incs n)) ∷ []))
 
-    by_test : (b : Bool) → b ≡ (is_alive c && not (nat_eq n member)) → cond b (up_in member (take n claims) incs ++ n ∷ []) (up_in member (take n claims) incs)
-        ≡ up_in member (take n claims) incs ++ map (λ (e : Entry). e.0) (filter (λ (e : Entry). is_alive e.1.0 && not (nat_eq e.0 member)) ((n, (c, slice_index incs n)) ∷ []))
-    by_test true h = ap (λ t. up_in member (take n claims) incs ++ map (λ (e : Entry). e.0) (cond t ((n, (c, slice_index incs n)) ∷ []) [])) h
-    by_test false h = sym (append-nil (up_in member (take n claims) incs)) ∙ ap (λ t. up_in member (take n claims) incs ++ map (λ (e : Entry). e.0) (cond t ((n, (c, slice_index incs n)) ∷ []) [])) h
+    by_test : (b : Bool) → b ≡ (is_alive c && not (nat_eq n member)) → cond b (up_in member (claims_in (take n held)) incs ++ n ∷ []) (up_in member (claims_in (take n held)) incs)
+        ≡ up_in member (claims_in (take n held)) incs ++ map (λ (e : Entry). e.0) (filter (λ (e : Entry). is_alive e.1.0 && not (nat_eq e.0 member)) ((n, (c, slice_index incs n)) ∷ []))
+    by_test true h = ap (λ t. up_in member (claims_in (take n held)) incs ++ map (λ (e : Entry). e.0) (cond t ((n, (c, slice_index incs n)) ∷ []) [])) h
+    by_test false h = sym (append-nil (up_in member (claims_in (take n held)) incs)) ∙ ap (λ t. up_in member (claims_in (take n held)) incs ++ map (λ (e : Entry). e.0) (cond t ((n, (c, slice_index incs n)) ∷ []) [])) h
 
-pub updates_more : (accuser : ℕ) (claims : List (Option Claim)) (incs : List ℕ) (n : ℕ) (c : Claim) → n < length claims → get_or claims n None ≡ Some c → (before after : List Update)
-    → before ≡ map (update_by accuser) (entries_from 0 (take n claims) incs) → after ≡ before ++ update_by accuser (n, (c, slice_index incs n)) ∷ []
-    → after ≡ map (update_by accuser) (entries_from 0 (take (n + 1) claims) incs)
-updates_more accuser claims incs n c within is before after so_far more =
+pub updates_more : (accuser : ℕ) (held : List Held) (d : Held) (incs : List ℕ) (n : ℕ) (c : Claim) → n < length held → claim_of (get_or held n d) ≡ Some c → (before after : List Update)
+    → before ≡ map (update_by accuser) (entries_from 0 (claims_in (take n held)) incs) → after ≡ before ++ update_by accuser (n, (c, slice_index incs n)) ∷ []
+    → after ≡ map (update_by accuser) (entries_from 0 (claims_in (take (n + 1) held)) incs)
+updates_more accuser held d incs n c within is before after so_far more =
     more ∙ ap (λ l. l ++ update_by accuser (n, (c, slice_index incs n)) ∷ []) so_far
-    ∙ sym (ap (map (update_by accuser)) (entries_more incs claims n (Some c) within is) ∙ map-append (update_by accuser) (entries_from 0 (take n claims) incs) ((n, (c, slice_index incs n)) ∷ []))
+    ∙ sym (ap (map (update_by accuser)) (entries_more incs held d n (Some c) within is) ∙ map-append (update_by accuser) (entries_from 0 (claims_in (take n held)) incs) ((n, (c, slice_index incs n)) ∷ []))
 
 -- ---- what is stated of a result
 

@@ -1,5 +1,6 @@
 pub mod Alive
 mod Joined
+mod OneByte
 mod Columns
 mod Sides
 mod Entries

@@ -1,12 +1,14 @@
 -- The members before and after one: in columns and in the table.
 use Rattle.std.proofs.Common.{◌≡◌, ℕ, zero, suc, ◌+◌, ◌-◌, ◌<◌, ◌≤◌, Bool, false, cond, ltb, List, [], ◌∷◌, ◌++◌, map, filter, length, get_or, take, drop, min, Option, Some, None, slice_index, refl, sym, ap, ◌∙◌, arith}
 use Rattle.std.proofs.lemmas.Bool.{lt-ltb, le-ltb}
-use Rattle.std.proofs.lemmas.List.{map-append, append-nil, append_assoc, take_min, drop_min, take_all, length-drop}
+use Rattle.std.proofs.lemmas.List.{map-append, append-nil, append_assoc, take_min, drop_min, take_all, length-drop, take-map, drop-map}
 use Rattle.incarnation.specs.declared.Claim.{Claim}
 use Rattle.membership.specs.declared.candidates.Candidate.{Candidate}
 use Rattle.membership.specs.Table.{known_of}
 use Rattle.membership.specs.Columns.{entries_from}
 use Rattle.membership.specs.Candidates.{known_candidate, candidates_of}
+use Rattle.membership.specs.declared.held.Held.{Held}
+use Rattle.membership.specs.Held.{claim_of, claims_in}
 use Rattle.membership.proofs.Columns.{Entry, entries_rise, entry_at, entries_more_from}
 use Rattle.membership.proofs.Entries.{entries-known_of}
 
@@ -58,25 +60,25 @@ module _ (incs : List ℕ) where
 
   -- ---- one candidate more
 
-  pub none_known : (fits : ℕ → Claim → Bool) (claims : List (Option Claim)) (a n : ℕ) → n < length claims → get_or claims n None ≡ None
-      → map (known_candidate fits) (entries_from a (take (n + 1) claims) incs) ≡ map (known_candidate fits) (entries_from a (take n claims) incs)
-  none_known fits claims a n within is =
-      ap (map (known_candidate fits)) (entries_more_from incs claims a n (a + n) None refl within is ∙ append-nil (entries_from a (take n claims) incs))
+  pub none_known : (fits : ℕ → Claim → Bool) (held : List Held) (d : Held) (a n : ℕ) → n < length held → claim_of (get_or held n d) ≡ None
+      → map (known_candidate fits) (entries_from a (claims_in (take (n + 1) held)) incs) ≡ map (known_candidate fits) (entries_from a (claims_in (take n held)) incs)
+  none_known fits held d a n within is =
+      ap (map (known_candidate fits)) (entries_more_from incs held d a n (a + n) None refl within is ∙ append-nil (entries_from a (claims_in (take n held)) incs))
 
-  pub one_known : (fits : ℕ → Claim → Bool) (claims : List (Option Claim)) (a n : ℕ) (c : Claim) → n < length claims → get_or claims n None ≡ Some c
-      → map (known_candidate fits) (entries_from a (take (n + 1) claims) incs)
-      ≡ map (known_candidate fits) (entries_from a (take n claims) incs) ++ record { member = a + n; fits = fits (a + n) c } ∷ []
-  one_known fits claims a n c within is =
-      ap (map (known_candidate fits)) (entries_more_from incs claims a n (a + n) (Some c) refl within is)
-      ∙ map-append (known_candidate fits) (entries_from a (take n claims) incs) (entry_at incs (a + n) (Some c))
+  pub one_known : (fits : ℕ → Claim → Bool) (held : List Held) (d : Held) (a n : ℕ) (c : Claim) → n < length held → claim_of (get_or held n d) ≡ Some c
+      → map (known_candidate fits) (entries_from a (claims_in (take (n + 1) held)) incs)
+      ≡ map (known_candidate fits) (entries_from a (claims_in (take n held)) incs) ++ record { member = a + n; fits = fits (a + n) c } ∷ []
+  one_known fits held d a n c within is =
+      ap (map (known_candidate fits)) (entries_more_from incs held d a n (a + n) (Some c) refl within is)
+      ∙ map-append (known_candidate fits) (entries_from a (claims_in (take n held)) incs) (entry_at incs (a + n) (Some c))
 
-  pub one_pushed : (fits : ℕ → Claim → Bool) (claims : List (Option Claim)) (a n : ℕ) (c : Claim) (old before after : List Candidate) (b : Bool) → n < length claims → get_or claims n None ≡ Some c
-      → before ≡ old ++ map (known_candidate fits) (entries_from a (take n claims) incs) → b ≡ fits (a + n) c → after ≡ before ++ record { member = a + n; fits = b } ∷ []
-      → after ≡ old ++ map (known_candidate fits) (entries_from a (take (n + 1) claims) incs)
-  one_pushed fits claims a n c old before after b within is so_far judged pushed =
+  pub one_pushed : (fits : ℕ → Claim → Bool) (held : List Held) (d : Held) (a n : ℕ) (c : Claim) (old before after : List Candidate) (b : Bool) → n < length held → claim_of (get_or held n d) ≡ Some c
+      → before ≡ old ++ map (known_candidate fits) (entries_from a (claims_in (take n held)) incs) → b ≡ fits (a + n) c → after ≡ before ++ record { member = a + n; fits = b } ∷ []
+      → after ≡ old ++ map (known_candidate fits) (entries_from a (claims_in (take (n + 1) held)) incs)
+  one_pushed fits held d a n c old before after b within is so_far judged pushed =
       pushed ∙ (λ i. so_far i ++ record { member = a + n; fits = judged i } ∷ [])
-      ∙ append_assoc old (map (known_candidate fits) (entries_from a (take n claims) incs)) (record { member = a + n; fits = fits (a + n) c } ∷ [])
-      ∙ ap (λ (l : List Candidate). old ++ l) (sym (one_known fits claims a n c within is))
+      ∙ append_assoc old (map (known_candidate fits) (entries_from a (claims_in (take n held)) incs)) (record { member = a + n; fits = fits (a + n) c } ∷ [])
+      ∙ ap (λ (l : List Candidate). old ++ l) (sym (one_known fits held d a n c within is))
 
   -- ---- all candidates
 
@@ -97,10 +99,12 @@ module _ (incs : List ℕ) where
       ∙ sym (candidates_are fits claims me)
 
 -- slices of the column
-pub taken_is : (xs claims : List (Option Claim)) (n place me len : ℕ) → xs ≡ claims → n ≡ min place len → place ≡ me → len ≡ length claims → take n xs ≡ take me claims
-taken_is xs claims n place me len same least at long = (λ i. take (least i) (same i)) ∙ (λ i. take (min (at i) (long i)) claims) ∙ take_min me claims
+pub taken_is : (xs held : List Held) (n place me len : ℕ) → xs ≡ held → n ≡ min place len → place ≡ me → len ≡ length held → claims_in (take n xs) ≡ take me (claims_in held)
+taken_is xs held n place me len same least at long =
+    ap claims_in ((λ i. take (least i) (same i)) ∙ (λ i. take (min (at i) (long i)) held) ∙ take_min me held) ∙ sym (take-map claim_of me held)
 
-pub dropped_is : (xs claims : List (Option Claim)) (n next me len : ℕ) → xs ≡ claims → n ≡ min next len → next ≡ me → len ≡ length claims → take (length xs - n) (drop n xs) ≡ drop me claims
-dropped_is xs claims n next me len same least at long =
-    take_all (length xs - n) (drop n xs) (omega (arith, length-drop n xs))
-    ∙ (λ i. drop (least i) (same i)) ∙ (λ i. drop (min (at i) (long i)) claims) ∙ drop_min me claims
+pub dropped_is : (xs held : List Held) (n next me len : ℕ) → xs ≡ held → n ≡ min next len → next ≡ me → len ≡ length held
+    → claims_in (take (length xs - n) (drop n xs)) ≡ drop me (claims_in held)
+dropped_is xs held n next me len same least at long =
+    ap claims_in (take_all (length xs - n) (drop n xs) (omega (arith, length-drop n xs))
+    ∙ (λ i. drop (least i) (same i)) ∙ (λ i. drop (min (at i) (long i)) held) ∙ drop_min me held) ∙ sym (drop-map claim_of me held)

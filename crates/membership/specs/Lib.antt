@@ -1,4 +1,5 @@
 pub mod Numbers
+pub mod Held
 pub mod Columns
 pub mod Table
 pub mod Deaths

@@ -2,11 +2,13 @@
 //! anybody but those who were declared dead some time ago (memberlist's rules).
 ghost use Rattle.std.specs.Prelude.{◌≡◌, ◌^◌, ◌+◌, ◌<◌, ◌≤◌, ◌++◌, ℕ, List, map, length, nat_le, OnOk};
 ghost use Rattle.membership.specs.Columns.{entries_from};
+ghost use Rattle.membership.specs.Held.{claims_in};
 ghost use Rattle.membership.specs.Deaths.{since_of};
 ghost use Rattle.membership.specs.Candidates.{does_fit, known_candidate};
 
 use crate::claims::{is_alive, is_confirm, is_left};
 use crate::deaths::Deaths;
+use crate::held::{Held, claim_of};
 use base::{MemberId, Memory, Moment};
 use incarnation::Claim;
 
@@ -50,19 +52,21 @@ fn is_lately(since: Moment, now: Moment, ticks: u64) -> bool
 /// `first`.
 pub(crate) fn append_known(
     them: &mut Vec<Candidate>,
-    claims: &[Option<Claim>],
+    claims: &[Held],
     first: usize,
     fitting: &Fitting,
     deaths: &Deaths,
 ) -> Result<(), Memory>
     requires { first + length claims.now ≤ 2 ^ 16 }
     ensures { OnOk result ((incs : List ℕ) → them.new.items ≡ them.old.items
-        ++ map (known_candidate (does_fit fitting.now (since_of deaths.now))) (entries_from first claims.now incs)) }
+        ++ map (known_candidate (does_fit fitting.now (since_of deaths.now))) (entries_from first (claims_in claims.now) incs)) }
 {
-    for (place, claim) in claims.iter().enumerate() {
-        let Some(claim) = claim else { continue };
+    for (place, held) in claims.iter().enumerate() {
+        let Some(claim) = claim_of(*held) else {
+            continue
+        };
         let member = MemberId((first + place) as u16);
-        let fits = does_fit(fitting, deaths, member, *claim);
+        let fits = does_fit(fitting, deaths, member, claim);
         them.push(Candidate { member, fits })?;
     }
     Ok(())

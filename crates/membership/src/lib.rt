@@ -4,6 +4,7 @@
 mod candidates;
 mod claims;
 mod deaths;
+mod held;
 mod numbers;
 mod table;
 

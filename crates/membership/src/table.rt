@@ -4,6 +4,7 @@ ghost use Rattle.std.specs.Option.{option_map_or};
 ghost use Rattle.std.specs.FinMap.{empty, get, insert, remove};
 ghost use Rattle.membership.specs.Table.{all_alive, is_alive, known_of, live_count, known_count, alive_but, update_by, updates_by};
 ghost use Rattle.membership.specs.Columns.{entries_from, claim_at, claim_weight, known_weight};
+ghost use Rattle.membership.specs.Held.{claims_in};
 ghost use Rattle.membership.specs.Numbers.{numbers_of};
 ghost use Rattle.incarnation.specs.declared.Claim.TheVariants.{Alive};
 ghost use Rattle.membership.specs.Deaths.{since_of};
@@ -12,6 +13,7 @@ ghost use Rattle.membership.specs.Candidates.{candidates_of, does_fit};
 use crate::candidates::{Candidate, Fitting, append_known};
 use crate::claims::{is_alive, is_confirm};
 use crate::deaths::Deaths;
+use crate::held::{Held, claim_of, held_of};
 use crate::numbers::Numbers;
 use base::{MemberId, Memory};
 use incarnation::{Claim, Update};
@@ -23,8 +25,8 @@ use std::marker::Model;
 #[derive(Drop)]
 pub struct Table {
     /// The claims, by the numbers of the members they are about: every member of a cluster has a table of
-    /// nearly all others, so the column is dense.
-    claims: Vec<Option<Claim>>,
+    /// nearly all others, so the column is dense. Each takes one byte.
+    claims: Vec<Held>,
     /// The incarnation numbers in the same places, and 0 past the end: so as long as nobody has refuted
     /// anything, there are none.
     incs: Numbers,
@@ -50,15 +52,16 @@ impl Model for Table {
     ghost use Rattle.incarnation.specs.contracts.Claim as claim;
     ghost use Rattle.membership.specs.Table.{Known, known_of};
     ghost use Rattle.membership.specs.Columns.{entries_from, IsCounted};
+    ghost use Rattle.membership.specs.Held.{claims_in};
     ghost use Rattle.membership.specs.Numbers.{numbers_of};
 
     ghost Value = { Known };
 
     ghost coded = { code coded_ℕ (coded× claim.the_row.coded coded_ℕ) };
 
-    ghost view = { λ table. known_of (entries_from 0 table.claims.items (numbers_of table.incs)) };
+    ghost view = { λ table. known_of (entries_from 0 (claims_in table.claims.items) (numbers_of table.incs)) };
 
-    ghost invariant = { λ table. IsCounted table.claims.items table.counts.live table.counts.known };
+    ghost invariant = { λ table. IsCounted (claims_in table.claims.items) table.counts.live table.counts.known };
 }
 
 impl Table {
@@ -99,7 +102,7 @@ impl Table {
         if self.claims.len() <= place {
             return None;
         }
-        let claim = self.claims[place]?;
+        let claim = claim_of(self.claims[place])?;
         Some((claim, self.incs.at(place)))
     }
 
@@ -136,9 +139,9 @@ impl Table {
     {
         let place = member.index();
         if place < self.claims.len() {
-            self.counts.live -= weight(self.claims[place]);
-            self.counts.known -= known_weight(self.claims[place]);
-            self.claims[place] = None;
+            self.counts.live -= weight(claim_of(self.claims[place]));
+            self.counts.known -= known_weight(claim_of(self.claims[place]));
+            self.claims[place] = Held::Nothing;
         }
     }
 
@@ -211,16 +214,16 @@ impl Table {
 }
 
 // Has a place for a claim, with nothing held where there was none.
-fn reach_claim(claims: &mut Vec<Option<Claim>>, place: usize) -> Result<(), Memory>
+fn reach_claim(claims: &mut Vec<Held>, place: usize) -> Result<(), Memory>
     requires { place < 2 ^ 16 }
     ensures place { OnOk result (place < vec_len claims.new) }
-    ensures same { (k : ℕ) → claim_at claims.new.items k ≡ claim_at claims.old.items k }
-    ensures weight { sum_by claim_weight claims.new.items ≡ sum_by claim_weight claims.old.items }
-    ensures known { sum_by known_weight claims.new.items ≡ sum_by known_weight claims.old.items }
+    ensures same { (k : ℕ) → claim_at (claims_in claims.new.items) k ≡ claim_at (claims_in claims.old.items) k }
+    ensures weight { sum_by claim_weight (claims_in claims.new.items) ≡ sum_by claim_weight (claims_in claims.old.items) }
+    ensures known { sum_by known_weight (claims_in claims.new.items) ≡ sum_by known_weight (claims_in claims.old.items) }
     ensures bound { length claims.new.items ≤ max (length claims.old.items) (place + 1) }
 {
     while claims.len() <= place {
-        claims.push(None)?;
+        claims.push(Held::Nothing)?;
     }
     Ok(())
 }
@@ -246,29 +249,30 @@ fn past_all(members: &[MemberId]) -> usize
 }
 
 // So many places, with nothing held of anybody.
-fn nobody(alloc: Global, places: usize) -> Result<Vec<Option<Claim>>, Memory>
-    ensures none { IfOk result (λ claims. (k : ℕ) → claim_at claims.items k ≡ None) }
+fn nobody(alloc: Global, places: usize) -> Result<Vec<Held>, Memory>
+    ensures none { IfOk result (λ claims. (k : ℕ) → claim_at (claims_in claims.items) k ≡ None) }
     ensures len { IfOk result (λ claims. length claims.items ≡ places) }
 {
     let mut claims = Vec::new(alloc);
-    claims.resize(places, None)?;
+    claims.resize(places, Held::Nothing)?;
     Ok(claims)
 }
 
 // Holds a claim at a place from now on. Given how many members there are, oneself included, it returns how many
 // there are then.
-fn put_claim(claims: &mut Vec<Option<Claim>>, place: usize, claim: Claim, counts: Counts) -> Counts
+fn put_claim(claims: &mut Vec<Held>, place: usize, claim: Claim, counts: Counts) -> Counts
     requires place { place < length claims.old.items }
     requires few { length claims.old.items ≤ 2 ^ 16 }
-    requires counted { counts.live ≡ sum_by claim_weight claims.old.items + 1 }
-    requires all { counts.known ≡ sum_by known_weight claims.old.items + 1 }
-    ensures put { claims.new.items ≡ set claims.old.items place (Some claim) }
-    ensures counted { result.live ≡ sum_by claim_weight claims.new.items + 1 }
-    ensures all { result.known ≡ sum_by known_weight claims.new.items + 1 }
+    requires counted { counts.live ≡ sum_by claim_weight (claims_in claims.old.items) + 1 }
+    requires all { counts.known ≡ sum_by known_weight (claims_in claims.old.items) + 1 }
+    ensures put { claims_in claims.new.items ≡ set (claims_in claims.old.items) place (Some claim) }
+    ensures len { length claims.new.items ≡ length claims.old.items }
+    ensures counted { result.live ≡ sum_by claim_weight (claims_in claims.new.items) + 1 }
+    ensures all { result.known ≡ sum_by known_weight (claims_in claims.new.items) + 1 }
 {
-    let old = weight(claims[place]);
-    let was_known = known_weight(claims[place]);
-    claims[place] = Some(claim);
+    let old = weight(claim_of(claims[place]));
+    let was_known = known_weight(claim_of(claims[place]));
+    claims[place] = held_of(claim);
     Counts {
         live: counts.live + weight(Some(claim)) - old,
         known: counts.known + 1 - was_known,
@@ -278,30 +282,31 @@ fn put_claim(claims: &mut Vec<Option<Claim>>, place: usize, claim: Claim, counts
 // Holds the member at a place to be up, where nobody is held to be down. Given how many members there are, oneself
 // included, it returns how many there are then.
 #[inline(always)]
-fn put_alive(claims: &mut Vec<Option<Claim>>, place: usize, count: usize) -> usize
+fn put_alive(claims: &mut Vec<Held>, place: usize, count: usize) -> usize
     requires place { place < length claims.old.items }
     requires few { length claims.old.items ≤ 2 ^ 16 }
-    requires counted { count ≡ sum_by claim_weight claims.old.items + 1 }
-    requires all { count ≡ sum_by known_weight claims.old.items + 1 }
-    ensures put { claims.new.items ≡ set claims.old.items place (Some Alive) }
-    ensures counted { result ≡ sum_by claim_weight claims.new.items + 1 }
-    ensures all { result ≡ sum_by known_weight claims.new.items + 1 }
+    requires counted { count ≡ sum_by claim_weight (claims_in claims.old.items) + 1 }
+    requires all { count ≡ sum_by known_weight (claims_in claims.old.items) + 1 }
+    ensures put { claims_in claims.new.items ≡ set (claims_in claims.old.items) place (Some Alive) }
+    ensures len { length claims.new.items ≡ length claims.old.items }
+    ensures counted { result ≡ sum_by claim_weight (claims_in claims.new.items) + 1 }
+    ensures all { result ≡ sum_by known_weight (claims_in claims.new.items) + 1 }
 {
-    let was_known = known_weight(claims[place]);
-    claims[place] = Some(Claim::Alive);
+    let was_known = known_weight(claim_of(claims[place]));
+    claims[place] = Held::Alive;
     count + 1 - was_known
 }
 
 // Holds each of these members to be up, where nothing is held of anybody. Returns how many members there are
 // then, oneself included.
-fn hold_alive(claims: &mut Vec<Option<Claim>>, members: &[MemberId]) -> usize
-    requires nobody { (k : ℕ) → claim_at claims.old.items k ≡ None }
+fn hold_alive(claims: &mut Vec<Held>, members: &[MemberId]) -> usize
+    requires nobody { (k : ℕ) → claim_at (claims_in claims.old.items) k ≡ None }
     requires places { EachIndex members.now (λ k. slice_index members.now k < length claims.old.items) }
     requires few { length claims.old.items ≤ 2 ^ 16 }
-    ensures held { known_of (entries_from 0 claims.new.items []) ≡ all_alive members.now }
+    ensures held { known_of (entries_from 0 (claims_in claims.new.items) []) ≡ all_alive members.now }
     ensures few { length claims.new.items ≤ 2 ^ 16 }
-    ensures counted { result ≡ sum_by claim_weight claims.new.items + 1 }
-    ensures all { result ≡ sum_by known_weight claims.new.items + 1 }
+    ensures counted { result ≡ sum_by claim_weight (claims_in claims.new.items) + 1 }
+    ensures all { result ≡ sum_by known_weight (claims_in claims.new.items) + 1 }
 {
     let mut count = 1;
     for member in members {
@@ -338,19 +343,17 @@ fn helps(claim: Claim, number: usize, member: MemberId) -> bool
 }
 
 // Those that are held to be up, but one.
-fn list_alive_but(
-    alloc: Global,
-    claims: &[Option<Claim>],
-    member: MemberId,
-) -> Result<Vec<MemberId>, Memory>
+fn list_alive_but(alloc: Global, claims: &[Held], member: MemberId) -> Result<Vec<MemberId>, Memory>
     requires { length claims.now ≤ 2 ^ 16 }
     ensures { IfOk result (λ members. (incs : List ℕ) → members.items
-        ≡ map (λ e. e.0) (filter (λ e. is_alive e.1.0 && not (nat_eq e.0 member)) (entries_from 0 claims.now incs))) }
+        ≡ map (λ e. e.0) (filter (λ e. is_alive e.1.0 && not (nat_eq e.0 member)) (entries_from 0 (claims_in claims.now) incs))) }
 {
     let mut members = Vec::new(alloc);
-    for (number, claim) in claims.iter().enumerate() {
-        let Some(claim) = claim else { continue };
-        if helps(*claim, number, member) {
+    for (number, held) in claims.iter().enumerate() {
+        let Some(claim) = claim_of(*held) else {
+            continue
+        };
+        if helps(claim, number, member) {
             members.push(MemberId(number as u16))?;
         }
     }
@@ -360,19 +363,21 @@ fn list_alive_but(
 // Each entry as an update of one accuser.
 fn list_updates(
     alloc: Global,
-    claims: &[Option<Claim>],
+    claims: &[Held],
     incs: &Numbers,
     accuser: MemberId,
 ) -> Result<Vec<Update>, Memory>
     requires { length claims.now ≤ 2 ^ 16 }
-    ensures { IfOk result (λ updates. updates.items ≡ map (update_by accuser) (entries_from 0 claims.now (numbers_of incs.now))) }
+    ensures { IfOk result (λ updates. updates.items ≡ map (update_by accuser) (entries_from 0 (claims_in claims.now) (numbers_of incs.now))) }
 {
     let mut updates = Vec::new(alloc);
-    for (number, claim) in claims.iter().enumerate() {
-        let Some(claim) = claim else { continue };
+    for (number, held) in claims.iter().enumerate() {
+        let Some(claim) = claim_of(*held) else {
+            continue
+        };
         let update = Update {
             subject: MemberId(number as u16),
-            claim: *claim,
+            claim,
             inc: incs.at(number),
             accuser,
         };

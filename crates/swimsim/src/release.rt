@@ -1,7 +1,7 @@
 //! Which release of the program this is.
 
 /// The number of the version.
-pub const VERSION: &str = "1.24.0";
+pub const VERSION: &str = "1.25.0";
 /// The digest of the sources.
 pub const SOURCES: &str = "f7be6da97f64923f019279d3f89a4b80c35fc88abafd3bde869b8d55b990b23f";
 /// The kit.
