@@ -27,11 +27,11 @@ pub enum Claim {
 /// A claim as it travels: of whom, with which incarnation number, and who made it.
 #[derive(Clone, Copy, Debug, PartialEq, Eq, Hash)]
 pub struct Update {
-    pub subject: MemberId,
-    pub claim: Claim,
-    /// The incarnation number of the subject that the claim speaks of.
+    /// The incarnation number of the subject that the claim speaks of. It comes first, so that an update takes 16 bytes.
     pub inc: u64,
+    pub subject: MemberId,
     pub accuser: MemberId,
+    pub claim: Claim,
 }
 
 /// Whether the claim `new` takes the place of the claim `old` about the same member, each with its

@@ -181,7 +181,7 @@ impl Table {
     {
         let end = self.claims.len();
         let place = usize::from(own.0);
-        let mut them = Vec::new(alloc);
+        let mut them = Vec::with_capacity(alloc, end + 1)?;
         append_known(
             &mut them,
             &self.claims[..place.min(end)],
@@ -348,7 +348,7 @@ fn list_alive_but(alloc: Global, claims: &[Held], member: MemberId) -> Result<Ve
     ensures { IfOk result (λ members. (incs : List ℕ) → members.items
         ≡ map (λ e. e.0) (filter (λ e. is_alive e.1.0 && not (nat_eq e.0 member)) (entries_from 0 (claims_in claims.now) incs))) }
 {
-    let mut members = Vec::new(alloc);
+    let mut members = Vec::with_capacity(alloc, claims.len())?;
     for (number, held) in claims.iter().enumerate() {
         let Some(claim) = claim_of(*held) else {
             continue
@@ -370,7 +370,7 @@ fn list_updates(
     requires { length claims.now ≤ 2 ^ 16 }
     ensures { IfOk result (λ updates. updates.items ≡ map (update_by accuser) (entries_from 0 (claims_in claims.now) (numbers_of incs.now))) }
 {
-    let mut updates = Vec::new(alloc);
+    let mut updates = Vec::with_capacity(alloc, claims.len())?;
     for (number, held) in claims.iter().enumerate() {
         let Some(claim) = claim_of(*held) else {
             continue
