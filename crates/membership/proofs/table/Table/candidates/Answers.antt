@@ -13,8 +13,8 @@ returns c =
     let at : c.from-place.result ≡ c.args.own = c.from-place.ensures ∙ c.own.view_is in
     let long : c.len-end.result ≡ length claims = omega (arith, c.len-end.ensures) in
     let next : c.from-place.result + 1 ≡ c.args.own + 1 = omega (arith, at) in
-    all_listed incs (does_fit c.args.fitting.now (since_of c.args.deaths.now)) (claims_in claims) _ _ c.args.own (c.from-place.result + 1) c.new-them.result.items c.append_known.new.them.items c.push.new.self.items
-    c.append_known-2.new.them.items c.new-them.ensures.items
+    all_listed incs (does_fit c.args.fitting.now (since_of c.args.deaths.now)) (claims_in claims) _ _ c.args.own (c.from-place.result + 1) c.in_ok-them.them.items c.append_known.new.them.items c.push.new.self.items
+    c.append_known-2.new.them.items c.in_ok-them.ensures.items
     (taken_is c.deref.result.now claims c.min.result c.from-place.result c.args.own c.len-end.result c.deref.ensures.value c.min.ensures at long)
     (dropped_is c.deref-2.result.now claims c.min-2.result (c.from-place.result + 1) (c.args.own + 1) c.len-end.result c.deref-2.ensures.value c.min-2.ensures next long)
     next (c.in_ok-append_known.ensures incs) c.in_ok-push.ensures.items (c.in_ok-append_known-2.ensures incs)
