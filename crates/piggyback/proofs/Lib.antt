@@ -9,3 +9,4 @@ pub mod Sending
 pub mod Counting
 pub mod Holding
 pub mod Merging
+pub mod Block

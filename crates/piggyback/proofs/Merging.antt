@@ -34,7 +34,7 @@ none_before_first x [] h = tt
 none_before_first x (z ∷ xs) h = (not_after x z h.0.0, none_before_first x xs h.1)
 
 -- the next of the others comes first
-next_first : (x y : Counted) (ys xs : List Counted) → IsInOrder (x ∷ xs) → goes_before x y ≡ false → all_placed (y ∷ ys) (x ∷ xs) ≡ y ∷ all_placed ys (x ∷ xs)
+pub next_first : (x y : Counted) (ys xs : List Counted) → IsInOrder (x ∷ xs) → goes_before x y ≡ false → all_placed (y ∷ ys) (x ∷ xs) ≡ y ∷ all_placed ys (x ∷ xs)
 next_first x y ys xs ordered later = first_stays y ys (x ∷ xs) (later, none_before_too x y xs later ordered.0)
 
 placed_first : (x : Counted) (ys : List Counted) → goes_first x ys ≡ true → placed x ys ≡ x ∷ ys
@@ -45,7 +45,7 @@ placed_first x (y ∷ ys) first = rw first refl
 sent_first : (x : Counted) (ys xs : List Counted) → IsInOrder (x ∷ xs) → goes_first x ys ≡ true → all_placed ys (x ∷ xs) ≡ x ∷ all_placed ys xs
 sent_first x ys xs ordered first = ap (λ l. all_placed l xs) (placed_first x ys first) ∙ first_stays x ys xs (none_before_first x xs ordered.0)
 
-in_order-drop : (n : ℕ) (xs : List Counted) → IsInOrder xs → IsInOrder (drop n xs)
+pub in_order-drop : (n : ℕ) (xs : List Counted) → IsInOrder xs → IsInOrder (drop n xs)
 in_order-drop zero xs h = h
 in_order-drop (suc n) [] h = tt
 in_order-drop (suc n) (x ∷ xs) h = in_order-drop n xs h.1
@@ -55,7 +55,7 @@ all-drop P zero xs h = h
 all-drop P (suc n) [] h = tt
 all-drop P (suc n) (x ∷ xs) h = all-drop P n xs h.1
 
-drop_at : {X : Type 0} (these : List X) (i : ℕ) (x : X) → i < length these → x ≡ get_or these i x → drop i these ≡ x ∷ drop (i + 1) these
+pub drop_at : {X : Type 0} (these : List X) (i : ℕ) (x : X) → i < length these → x ≡ get_or these i x → drop i these ≡ x ∷ drop (i + 1) these
 drop_at these i x lt is =
     drop-cons these i x lt ∙ ap (λ y. y ∷ drop (suc i) these) (sym is) ∙ ap (λ n. x ∷ drop n these) (suc_is i)
 
@@ -192,6 +192,9 @@ module _ (us : List Update) (these : List Counted) (ordered : is_in_order these 
 
   inside : IsInOrder (map counted_once (take (length us) these))
   inside = order_is _ front_in_order
+
+  pub rest_in_order : is_in_order (drop (length us) these) ≡ true
+  rest_in_order = order_test _ (in_order-drop (length us) these (order_is these ordered))
 
   pub merged_in_order : is_in_order (all_placed (drop (length us) these) (map counted_once (take (length us) these))) ≡ true
   merged_in_order =

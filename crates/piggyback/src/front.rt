@@ -1,9 +1,11 @@
 //! A faster way to count updates as sent: they are taken from the buffer's front together, and merged back in order.
-ghost use Rattle.std.specs.Prelude.{◌≡◌, ◌≤◌, IsTrue, IfOk, length, map, drop, take, vec_len};
+ghost use Rattle.std.specs.Prelude.{◌≡◌, ◌+◌, ◌≤◌, IsTrue, IfOk, length, map, drop, take, vec_len};
 ghost use Rattle.std.specs.Bool.{OnTrue, OnFalse};
+ghost use Rattle.std.specs.List.{position_or_len};
+ghost use Rattle.piggyback.specs.Picked.{goes_before};
 ghost use Rattle.piggyback.specs.Keyed.{all_placed, begins_with, counted_once, goes_first, is_in_order, stands_first};
 
-use crate::order::precedes;
+use crate::order::{place_among, precedes};
 use incarnation::Update;
 use std::alloc::{AllocError, Global};
 
@@ -70,10 +72,37 @@ fn merge(entries: &mut [(Update, u64)], sent: &[(Update, u64)])
     }
 }
 
+// How many of the entries behind so many places stay before this one, where those are in order.
+fn passed_behind(entries: &[(Update, u64)], many: usize, first: &(Update, u64)) -> usize
+    requires within { many ≤ length entries.now }
+    requires ordered { IsTrue (is_in_order (drop many entries.now)) }
+    ensures within { many + result ≤ length entries.now }
+    ensures passed { result ≡ position_or_len (goes_before first.now) (drop many entries.now) }
+{
+    place_among(&entries[many..], first)
+}
+
+// Merges these into the entries behind as many places as they are, which are free, where the others are in order:
+// those that go before all of these move forward at once.
+fn place_sent(entries: &mut [(Update, u64)], sent: &[(Update, u64)])
+    requires room { length sent.now ≤ length entries.old }
+    requires ordered { IsTrue (is_in_order sent.now) }
+    requires others { IsTrue (is_in_order (drop (length sent.now) entries.old)) }
+    ensures { entries.new ≡ all_placed (drop (length sent.now) entries.old) sent.now }
+{
+    if sent.is_empty() {
+        return;
+    }
+    let before = passed_behind(entries, sent.len(), &sent[0]);
+    entries[..sent.len() + before].rotate_left(sent.len());
+    merge(&mut entries[before..], sent);
+}
+
 // Counts so many entries at the front as sent once more. False where memory for it was refused.
 pub(crate) fn count_front(entries: &mut Vec<(Update, u64)>, many: usize) -> bool
     requires within { many ≤ vec_len entries.old }
     requires ordered { IsTrue (is_in_order (map counted_once (take many entries.old.items))) }
+    requires others { IsTrue (is_in_order (drop many entries.old.items)) }
     ensures went { let old = entries.old.items in
         OnTrue result (entries.new.items ≡ all_placed (drop many old) (map counted_once (take many old))) }
     ensures same { OnFalse result (entries.new.items ≡ entries.old.items) }
@@ -82,6 +111,6 @@ pub(crate) fn count_front(entries: &mut Vec<(Update, u64)>, many: usize) -> bool
     let Ok(sent) = counted(alloc, &entries[..many]) else {
         return false;
     };
-    merge(entries, &sent);
+    place_sent(entries, &sent);
     true
 }
