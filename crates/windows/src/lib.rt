@@ -25,3 +25,4 @@ pub use laws::{
     the_rows_before_a_bound_are_next, windows_are_safe_steps, windows_write_the_next_rows,
 };
 pub use part::{Done, Part};
+pub use steps::nothing;

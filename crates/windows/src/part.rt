@@ -20,9 +20,9 @@ ghost use Rattle.windows.specs.Wears.{OverflowsInWindow};
 use crate::cluster::Cluster;
 use crate::own_members::OwnMembers;
 use crate::setting::Setting;
-use crate::steps::{in_parts, run_from};
+use crate::steps::{in_parts, nothing, run_from};
 use base::{Key, MemberId, Memory, Moment, Profile};
-use member::{Event, EventKind, Member, StepError, content_of};
+use member::{Effects, Event, EventKind, Member, StepError, content_of};
 use scenario::Scenario;
 use std::alloc::Global;
 use trace::Row;
@@ -167,12 +167,51 @@ impl<Q: EventQueue<Event> + Drop> Part<Q> {
         // Memory apart, only a counter that has no room refuses the window.
         ensures overflow { IsErrOf result StepError.CounterOverflow → OverflowsInWindow cluster.entry.scenario.now (min bound (cluster.entry.scenario.now.end + 1)) (world_of Q.set self) }
     {
+        let mut part = self;
+        let mut spare = nothing(alloc);
+        let mut made = Effects {
+            events: Vec::new(alloc),
+            rows: room,
+        };
+        part.run_window(alloc, bound, cluster, &mut spare, &mut made)?;
+        let Effects { events: out, rows } = made;
+        Ok(Done { part, out, rows })
+    }
+
+    /// The same. What goes out and the rows go into the lists of `made`, which are empty before; those of `spare` serve each
+    /// step. Handed in again and again, all of them grow once for many windows. After a refusal the part is of no use.
+    #[inline(always)]
+    pub fn run_window(
+        &mut self,
+        alloc: Global,
+        bound: Moment,
+        cluster: Cluster,
+        spare: &mut Effects,
+        made: &mut Effects,
+    ) -> Result<(), StepError>
+        requires sound { IsSound cluster.scenario.now }
+        requires consistent { IsConsistentPart cluster.scenario.now (world_of Q.set self.old) }
+        requires none { made.old.events.items ≡ [] }
+        requires no_rows { made.old.rows.items ≡ [] }
+
+        // What went out, the rows and the part that is left are those of the part's window.
+        ensures ok { OnOk result (RunsWindow cluster.entry.scenario.now (min bound (cluster.entry.scenario.now.end + 1)) (world_of Q.set self.old) made.new.events.items made.new.rows.items (world_of Q.set self.new)) }
+        ensures number { OnOk result (self.new.number ≡ self.old.number) }
+        ensures consistent { OnOk result (IsConsistentPart cluster.entry.scenario.now (world_of Q.set self.new)) }
+        ensures among { OnOk result (All (λ (e : AnEvent). IsAmongMembers cluster.entry.scenario.now e.key e.content) made.new.events.items) }
+
+        // Each event that went out takes at least as long as the link of its pair.
+        ensures far { OnOk result (TakeTheirLinks cluster.entry.scenario.now (world_of Q.set self.old) made.new.events.items) }
+
+        // Memory apart, only a counter that has no room refuses the window.
+        ensures overflow { IsErrOf result StepError.CounterOverflow → OverflowsInWindow cluster.entry.scenario.now (min bound (cluster.entry.scenario.now.end + 1)) (world_of Q.set self.old) }
+    {
         let past_the_end = cluster.scenario.end().ticks() + 1;
         let setting = Setting {
             bound: Moment(bound.ticks().min(past_the_end)),
             cluster,
         };
-        run_from(alloc, self, &setting, room)
+        run_from(alloc, self, &setting, spare, made)
     }
 }
 

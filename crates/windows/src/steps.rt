@@ -21,46 +21,41 @@ ghost use Rattle.windows.specs.Handling.{HandlesTaken, OverflowsReceiver, Advanc
 
 use crate::cluster::Cluster;
 use crate::own_members::OwnMembers;
-use crate::part::{Done, Part, push};
+use crate::part::{Part, push};
 use crate::setting::Setting;
 use base::{Key, Memory};
 use member::{Effects, Event, StepError};
 use std::alloc::Global;
-use trace::Row;
 use worker_queue::EventQueue;
 
-/// Runs the window that begins in this part. Its rows go into this room, which has none yet.
+/// Runs the window that begins in this part. What goes out and the rows go into the lists of `made`, which are empty before;
+/// the spare lists serve each step, as in `handle_taken`.
 #[inline(always)]
 pub(crate) fn run_from<Q: EventQueue<Event> + Drop>(
     alloc: Global,
-    mut part: Part<Q>,
+    part: &mut Part<Q>,
     setting: &Setting,
-    room: Vec<Row>,
-) -> Result<Done<Q>, StepError>
+    spare: &mut Effects,
+    made: &mut Effects,
+) -> Result<(), StepError>
     requires sound { IsSound setting.now.cluster.scenario.now }
     requires in_time { setting.now.bound ≤ setting.now.cluster.scenario.now.end + 1 }
-    requires consistent { IsConsistentPart setting.now.cluster.scenario.now (world_of Q.set part) }
-    requires no_rows { room.items ≡ [] }
-    ensures ok { let before = world_of Q.set part in
-        IfOk result (λ done. RunsWindow setting.now.cluster.scenario.now setting.now.bound before done.out.items done.rows.items (world_of Q.set done.part)) }
-    ensures number { IfOk result (λ done. done.part.number ≡ part.number) }
-    ensures consistent { IfOk result (λ done. IsConsistentPart setting.now.cluster.scenario.now (world_of Q.set done.part)) }
-    ensures among { IfOk result (λ done. All (λ (e : Event). IsAmongMembers setting.now.cluster.scenario.now e.key e.content) done.out.items) }
-    ensures far { IfOk result (λ done. TakeTheirLinks setting.now.cluster.scenario.now (world_of Q.set part) done.out.items) }
-    ensures overflow { IsErrOf result StepError.CounterOverflow → OverflowsInWindow setting.now.cluster.scenario.now setting.now.bound (world_of Q.set part) }
+    requires consistent { IsConsistentPart setting.now.cluster.scenario.now (world_of Q.set part.old) }
+    requires none { made.old.events.items ≡ [] }
+    requires no_rows { made.old.rows.items ≡ [] }
+    ensures ok { OnOk result (RunsWindow setting.now.cluster.scenario.now setting.now.bound (world_of Q.set part.old) made.new.events.items made.new.rows.items (world_of Q.set part.new)) }
+    ensures number { OnOk result (part.new.number ≡ part.old.number) }
+    ensures consistent { OnOk result (IsConsistentPart setting.now.cluster.scenario.now (world_of Q.set part.new)) }
+    ensures among { OnOk result (All (λ (e : Event). IsAmongMembers setting.now.cluster.scenario.now e.key e.content) made.new.events.items) }
+    ensures far { OnOk result (TakeTheirLinks setting.now.cluster.scenario.now (world_of Q.set part.old) made.new.events.items) }
+    ensures overflow { IsErrOf result StepError.CounterOverflow → OverflowsInWindow setting.now.cluster.scenario.now setting.now.bound (world_of Q.set part.old) }
 {
-    let mut made = Effects {
-        events: Vec::new(alloc),
-        rows: room,
-    };
-    let mut spare = nothing(alloc);
-    while advance(alloc, &mut part, setting, &mut spare, &mut made)? {}
-    let Effects { events: out, rows } = made;
-    Ok(Done { part, out, rows })
+    while advance(alloc, part, setting, spare, made)? {}
+    Ok(())
 }
 
-/// Empty lists. They take no memory.
-pub(crate) fn nothing(alloc: Global) -> Effects
+/// No events and no rows. They take no memory.
+pub fn nothing(alloc: Global) -> Effects
     ensures events { result.events.items ≡ [] }
     ensures rows { result.rows.items ≡ [] }
 {

@@ -1,8 +1,7 @@
-use Rattle.std.proofs.Common.{◌≡◌, ◌∷◌, [], ◌++◌, append-nil, ap, ◌∙◌, sym}
+use Rattle.std.proofs.Common.{◌∷◌, [], ap, ◌∙◌, sym}
 use Rattle.base.specs.declared.key.Key.{Key}
 use Rattle.scenario.specs.Setup.{crash_of, leave_of}
 use Rattle.member.specs.declared.event_kind.EventKind.{EventKind}
-use Rattle.member.specs.declared.event_kind.EventKind.TheVariants.{Crash}
 use Rattle.windows.proofs.Admitting.{one_ending}
 use Rattle.windows.proofs.part.ending_of.Goals as goal
 

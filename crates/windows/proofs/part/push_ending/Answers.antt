@@ -1,11 +1,10 @@
-use Rattle.std.proofs.Common.{◌≡◌, false, List, [], ◌∷◌, Option, ap, ◌∙◌, sym, subst}
+use Rattle.std.proofs.Common.{◌≡◌, false, [], ◌∷◌, Option, ap, ◌∙◌, sym, subst}
 use Rattle.std.specs.Option.{option_map_or}
 use Rattle.std.specs.FinMap.{contains_key}
 use Rattle.base.specs.declared.key.Key.{Key}
 use Rattle.scenario.specs.Setup.{crash_of, leave_of}
 use Rattle.member.specs.StateOf.{pair_of}
 use Rattle.member.specs.declared.event.Event.{Event}
-use Rattle.member.specs.declared.event_kind.EventKind.{EventKind}
 use Rattle.windows.specs.WorldOf.{contents_in}
 use Rattle.windows.proofs.Admitting.{ending_key}
 use Rattle.windows.proofs.part.push_ending.Goals as goal

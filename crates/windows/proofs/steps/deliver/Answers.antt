@@ -2,7 +2,7 @@ use Rattle.std.proofs.Common.{◌≡◌, ◌∙◌, [], sym, arith}
 use Rattle.std.specs.FinMap.{contains_key}
 use Rattle.std.proofs.lemmas.Bool.{eqb-true}
 use Rattle.std.proofs.lemmas.List.{nil_from_length}
-use Rattle.windows.specs.WorldOf.{states_in, contents_in}
+use Rattle.windows.specs.WorldOf.{states_in}
 use Rattle.windows.proofs.Deliveries.{if_ok, left_are_new, own_pended, others_sent, none_left_own, none_left_others}
 use Rattle.windows.proofs.steps.deliver.Goals as goal
 

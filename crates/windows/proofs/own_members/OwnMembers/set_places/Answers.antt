@@ -1,7 +1,7 @@
-use Rattle.std.proofs.Common.{◌≡◌, ◌<◌, ◌≤◌, ℕ, length, Some, None, ap, ◌∙◌, sym, arith}
+use Rattle.std.proofs.Common.{◌≡◌, ◌<◌, length, None, ap, ◌∙◌, sym, arith}
 use Rattle.std.proofs.lemmas.List.{get_or_past}
-use Rattle.windows.specs.ByNumber.{place_at, states_of}
-use Rattle.windows.proofs.Slots.{row_place, row_table}
+use Rattle.windows.specs.ByNumber.{states_of}
+use Rattle.windows.proofs.Slots.{row_table}
 use Rattle.windows.proofs.own_members.OwnMembers.set_places.Goals as goal
 
 pub returns-clause-same : goal.returns-clause-same

@@ -1,4 +1,4 @@
-use Rattle.std.proofs.Common.{◌≡◌, ap, ◌∙◌, arith}
+use Rattle.std.proofs.Common.{ap, ◌∙◌, arith}
 use Rattle.base.specs.declared.key.Key.{Key}
 use Rattle.member.specs.declared.event_kind.EventKind.{EventKind}
 use Rattle.windows.specs.WorldOf.{contents_in}
