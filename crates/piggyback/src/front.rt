@@ -82,8 +82,12 @@ fn passed_behind(entries: &[(Update, u64)], many: usize, first: &(Update, u64)) 
     place_among(&entries[many..], first)
 }
 
+// How many of the others must stand before all that were sent, for these to move at once: turning a block takes some
+// 300 instructions more than merging so few.
+const LONG_BLOCK: usize = 16;
+
 // Merges these into the entries behind as many places as they are, which are free, where the others are in order:
-// those that go before all of these move forward at once.
+// those that go before all of these move forward at once, where they are many.
 fn place_sent(entries: &mut [(Update, u64)], sent: &[(Update, u64)])
     requires room { length sent.now ≤ length entries.old }
     requires ordered { IsTrue (is_in_order sent.now) }
@@ -93,7 +97,12 @@ fn place_sent(entries: &mut [(Update, u64)], sent: &[(Update, u64)])
     if sent.is_empty() {
         return;
     }
-    let before = passed_behind(entries, sent.len(), &sent[0]);
+    let first = &sent[0];
+    if comes_first(first, entries, sent.len() + LONG_BLOCK) {
+        merge(entries, sent);
+        return;
+    }
+    let before = passed_behind(entries, sent.len(), first);
     entries[..sent.len() + before].rotate_left(sent.len());
     merge(&mut entries[before..], sent);
 }
