@@ -4,7 +4,9 @@ use Rattle.std.specs.Option.{option_map}
 use Rattle.std.specs.List.{AllByRecursion, slice_get}
 use Rattle.std.proofs.lemmas.Bool.{eqb-true, eqb-false}
 use Rattle.std.proofs.lemmas.Option.{same_Some, slice_get_within, slice_get-map}
-use Rattle.std.proofs.lemmas.List.{map-append, append-nil}
+use Rattle.std.specs.Prelude.{slice_range}
+use Rattle.std.proofs.lemmas.List.{map-append, append-nil, drop_all}
+use Rattle.std.proofs.lemmas.List.Folds.{drop_split}
 use Rattle.std.proofs.lemmas.List.Elements.{filter-append}
 use Rattle.base.specs.declared.key.Key.{Key}
 use Rattle.member.specs.declared.event_kind.EventKind.{EventKind}
@@ -13,6 +15,11 @@ use Rattle.member.specs.StateOf.{pair_of}
 use Rattle.windows.specs.Parts.{is_in, for_own}
 use Rattle.turns.proofs.Coming.{at_place, elsewhere}
 use Rattle.lookahead_windows.specs.Windows.{AreDealt}
+
+-- all of a list are drained
+pub all_drained : {X : Type 0} (xs : List X) (n : ℕ) → n ≡ length xs → slice_range xs 0 n ≡ xs
+all_drained xs n same =
+    sym (append-nil (slice_range xs 0 n)) ∙ ap (λ l. slice_range xs 0 n ++ l) (sym (drop_all n xs (omega (arith, same)))) ∙ sym (drop_split xs 0 n (omega arith))
 
 nothing_at : {V : Type 0} (items : V → List Event) (lists : List V) (i : ℕ) → i < length lists → AllByRecursion (λ list. items list ≡ []) lists → option_map (map pair_of) (slice_get (map items lists) i) ≡ Some []
 nothing_at items [] i low all = absurd (omega arith)

@@ -1,7 +1,5 @@
 -- The bounds of a round are the parts' own.
-use Rattle.std.proofs.Common.{◌≡◌, ℕ, ◌+◌, ◌-◌, ◌<◌, ◌≤◌, zero-le, List, [], ◌∷◌, Option, Some, ap, ◌∙◌, sym, subst, refl, arith}
-use Rattle.base.specs.declared.key.Key.{Key}
-use Rattle.base.specs.World.{IsPending}
+use Rattle.std.proofs.Common.{◌≡◌, ℕ, ◌-◌, ◌<◌, ◌≤◌, zero-le, List, [], ◌∷◌, Option, Some, ap, ◌∙◌, sym, subst, refl, arith}
 use Rattle.scenario.specs.Setup.{Setup}
 use Rattle.member_laws.specs.Runs.{Cluster}
 use Rattle.windows.specs.Cluster.{link_delay, IsPeopled, LiesBetween}

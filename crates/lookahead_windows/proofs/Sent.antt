@@ -1,5 +1,5 @@
 -- A part, its events and rows may go to another thread, and a scenario and its links may be seen by several.
-use denote.Param.Send.{IsSend, IsSync, AllSend, AllSync, recorded_send, recorded_sync, struct_send, struct_sync, view_sync, sendable}
+use denote.Param.Send.{IsSend, IsSync, AllSend, AllSync, recorded_send, recorded_sync, struct_send, struct_sync, sendable}
 use denote.Struct.Struct.{Struct}
 use denote.Struct.Declared as declared
 use denote.Struct.Declared.{Declared, shape}

@@ -1,5 +1,5 @@
 -- The ways into the parts of a division, and that rounds may go by them.
-use Rattle.std.proofs.Common.{◌≡◌, ◌↔◌, ℕ, ◌+◌, ◌<◌, ◌≤◌, ◌^◌, min, max, List, [], ◌∷◌, ◌++◌, length, unwrap_or, Option, Some, None, ap, ◌∙◌, sym, subst, refl, arith}
+use Rattle.std.proofs.Common.{◌≡◌, ◌↔◌, ℕ, ◌<◌, ◌≤◌, ◌^◌, min, max, List, [], ◌∷◌, ◌++◌, length, unwrap_or, Option, Some, None, ap, ◌∙◌, sym, subst, refl, arith}
 use Rattle.std.specs.List.{AllByRecursion, slice_get}
 use Rattle.base.proofs.Rising.{all_append}
 use Rattle.scenario.specs.Setup.{Setup, IsSound, member_count}

@@ -25,4 +25,4 @@ pub use laws::{
     there_is_one_world_before_a_moment,
 };
 pub use own_bounds::each_part_has_a_bound_of_its_own;
-pub use window::{Ran, run_window};
+pub use window::{WindowLists, run_window};

@@ -1,5 +1,5 @@
 //! The events that go out of a window, dealt to the parts of their receivers.
-ghost use Rattle.std.specs.Prelude.{◌≡◌, ◌<◌, ◌++◌, ◌∷◌, [], length, map, All, IfOk, OnOk};
+ghost use Rattle.std.specs.Prelude.{◌≡◌, ◌<◌, ◌++◌, ◌∷◌, [], length, map, All, OnOk};
 ghost use Rattle.std.specs.List.{AllByRecursion};
 ghost use Rattle.member.specs.declared.event.Event.{Event as AnEvent};
 ghost use Rattle.lookahead.specs.Between.{part_number};
@@ -10,34 +10,49 @@ use member::Event;
 use scenario::Division;
 use std::alloc::Global;
 
-/// The events by the parts of their receivers: for each part a list, in the order of the parts.
-pub(crate) fn dealt(
+/// Empties these lists, whose room stays, and has so many of them.
+pub(crate) fn begin_lists(
     alloc: Global,
-    events: Vec<Event>,
-    division: &Division,
-) -> Result<Vec<Vec<Event>>, Memory>
-    requires named { All (λ (event : AnEvent). event.key.to < length division.now.part_of) events.items }
-    ensures count { IfOk result (λ lists. length lists.items ≡ division.now.parts) }
-    ensures dealt { IfOk result (λ lists. AreDealt (part_number division.now) division.now.parts events.items (map (λ list. list.items) lists.items)) }
+    lists: &mut Vec<Vec<Event>>,
+    count: usize,
+) -> Result<(), Memory>
+    ensures count { OnOk result (length lists.new.items ≡ count) }
+    ensures empty { OnOk result (AllByRecursion (λ list. list.items ≡ []) lists.new.items) }
 {
-    let mut lists = empty_lists(alloc, division.parts())?;
-    for event in events {
-        add(&mut lists, event, division)?;
+    lists.truncate(count);
+    empty_each(lists);
+    while lists.len() < count {
+        lists.push(Vec::new(alloc))?;
     }
-    Ok(lists)
+    Ok(())
 }
 
-/// So many empty lists.
-fn empty_lists(alloc: Global, count: usize) -> Result<Vec<Vec<Event>>, Memory>
-    ensures count { IfOk result (λ lists. length lists.items ≡ count) }
-    ensures empty { IfOk result (λ lists. AllByRecursion (λ list. list.items ≡ []) lists.items) }
+/// Empties each of these lists.
+fn empty_each(lists: &mut Vec<Vec<Event>>)
+    ensures count { length lists.new.items ≡ length lists.old.items }
+    ensures empty { AllByRecursion (λ list. list.items ≡ []) lists.new.items }
 {
-    let mut lists = Vec::new(alloc);
-    for _ in 0..count {
-        let list = Vec::new(alloc);
-        lists.push(list)?;
+    for place in 0..lists.len() {
+        lists[place].clear();
     }
-    Ok(lists)
+}
+
+/// Deals the events, which leave their list: each goes behind those for the part of its receiver. The lists are empty, one
+/// for each part.
+pub(crate) fn deal(
+    lists: &mut Vec<Vec<Event>>,
+    events: &mut Vec<Event>,
+    division: &Division,
+) -> Result<(), Memory>
+    requires named { All (λ (event : AnEvent). event.key.to < length division.now.part_of) events.old.items }
+    requires count { length lists.old.items ≡ division.now.parts }
+    requires empty { AllByRecursion (λ list. list.items ≡ []) lists.old.items }
+    ensures dealt { OnOk result (AreDealt (part_number division.now) division.now.parts events.old.items (map (λ list. list.items) lists.new.items)) }
+{
+    for event in events.drain(..) {
+        add(lists, event, division)?;
+    }
+    Ok(())
 }
 
 /// Puts an event behind those for its part.

@@ -1,6 +1,7 @@
 -- What is dealt and taken on the board of a run, part by part.
-use Rattle.std.proofs.Common.{◌≡◌, ℕ, suc, ◌+◌, ◌<◌, List, Vec, Global, get_or, swap_remove, [], ◌∷◌, ◌++◌, length, map, Option, Result, Ok, Err, IfOk, OnOk, ap, ◌∙◌, sym, subst, refl, append_assoc, append-nil, arith}
-use Rattle.std.specs.List.{sum_by, flat_map, range_with_len}
+use Rattle.std.proofs.Common.{◌≡◌, ℕ, suc, ◌+◌, ◌<◌, List, Vec, Global, get_or, swap_remove, [], ◌∷◌, ◌++◌, length, map, Option, Result, Ok, Err, IfOk, OnOk, ap, ◌∙◌, sym, subst, refl, append_assoc, arith}
+use Rattle.std.specs.Box.{box_value}
+use Rattle.std.specs.List.{sum_by}
 use Rattle.std.proofs.lemmas.List.{get_or_default, map-append}
 use Rattle.std.proofs.lemmas.List.FromFn.{map-range_with_len_more, sum_by-map-range_with_len_more}
 use Rattle.std.proofs.lemmas.List.Sums.{sum_by-cons, sum_by-swap_remove}
@@ -25,13 +26,13 @@ use Rattle.parallel_run.proofs.Worked.{worked}
 
 module _ {K Q : Type 0} {G : Ghosts K} where
   -- one more process, whose number is how many there are before it
-  pub begun_more : (processes more : List (Process K Q G)) (one : Process K Q G) (count : ℕ) → more ≡ processes ++ one ∷ [] → length processes ≡ count → one.lines.number ≡ count → map begun_entry processes ≡ all_begun (length processes)
+  pub begun_more : (processes more : List (Process K Q G)) (one : Process K Q G) (count : ℕ) → more ≡ processes ++ one ∷ [] → length processes ≡ count → (box_value one.state).lines.number ≡ count → map begun_entry processes ≡ all_begun (length processes)
       → map begun_entry more ≡ all_begun (suc count)
   begun_more processes more one count joined counted number so_far =
       let last : 0 + count ≡ count = omega arith in
       let longer : count + 1 ≡ suc count = omega arith in
       ap (map begun_entry) joined ∙ (map-append begun_entry processes (one ∷ [])
-      ∙ (ap (λ l. l ++ BoardEntry.Process one.lines.number ∷ []) (so_far ∙ ap all_begun counted)
+      ∙ (ap (λ l. l ++ BoardEntry.Process (box_value one.state).lines.number ∷ []) (so_far ∙ ap all_begun counted)
       ∙ (ap (λ n. all_begun count ++ BoardEntry.Process n ∷ []) number ∙ (sym (map-range_with_len_more (λ (n : ℕ). BoardEntry.Process n) 0 count count last) ∙ ap all_begun longer))))
 
   -- the first of those that are left was dealt

@@ -18,6 +18,8 @@ use Rattle.board.specs.declared.rule.ItemRule as item_rule
 use Rattle.board.specs.declared.site.Site as site
 use Rattle.lookahead_windows.proofs.Sent.{declared_send, scenario_sync, links_sync, part_send, event_send, row_send, division_sync}
 use Rattle.lookahead_windows.specs.contracts.course.Rounds as rounds
+use Rattle.lookahead_windows.specs.contracts.window.WindowLists as lists
+use Rattle.member.specs.contracts.event.Effects as effects
 use Rattle.relay.proofs.Sent.{send_seat_send, relay_sync}
 use Rattle.parallel_run.specs.declared.of_run.OfRun as of_run
 use Rattle.parallel_run.specs.contracts.batch_sender.BatchSender as batch_sender
@@ -33,6 +35,7 @@ use Rattle.parallel_run.specs.contracts.peers.Peer as peer
 use Rattle.parallel_run.specs.contracts.rows.Gathered as gathered
 use Rattle.parallel_run.specs.contracts.connections.Connections as lines
 use Rattle.parallel_run.specs.contracts.process.Process as process
+use Rattle.parallel_run.specs.contracts.process.ProcessState as state
 use Rattle.parallel_run.specs.contracts.board_item.BoardItem as board_item
 use Rattle.parallel_run.specs.contracts.crew.Crew as crew
 
@@ -65,7 +68,7 @@ taker_send β T P p s = search (end_send, heap.the_send, event_count_sync, cross
 
 peer_send : (β : NamedLft) (K : RattleType) (k : of_run.Ghosts K.Denot) → IsSend (peer.the_row β K k)
 peer_send β K k =
-    let all : AllSend (shape (peer.the_type β K k)).fields = (search sendable, (sender_send β told.the_row _ _ told_send, (taker_send β told.the_row _ _ told_send, (search (event_send, crosses, sendable) depth 60 fits 20000, tt)))) in
+    let all : AllSend (shape (peer.the_type β K k)).fields = (search sendable, (sender_send β told.the_row _ _ told_send, (taker_send β told.the_row _ _ told_send, (search (event_send, crosses, sendable) depth 60 fits 20000, (search (event_send, crosses, sendable) depth 60 fits 20000, tt))))) in
     declared_send (peer.the_type β K k) all
 
 batch_sender_send : (β : NamedLft) (K : RattleType) (k : of_run.Ghosts K.Denot) → IsSend (batch_sender.the_field β K k).row
@@ -76,8 +79,17 @@ batch_sender_send β K k =
 lines_send : (β : NamedLft) (K : RattleType) (k : of_run.Ghosts K.Denot) → IsSend (lines.the_field β K k).row
 lines_send β K k = search (peer_send, batch_sender_send, crosses, sendable) depth 60 fits 20000
 
+effects_send : IsSend (effects.the_field).row
+effects_send = search (event_send, row_send, crosses, sendable) depth 60 fits 20000
+
+lists_send : IsSend (lists.the_field).row
+lists_send = search (effects_send, event_send, crosses, sendable) depth 60 fits 20000
+
+state_send : (β : NamedLft) (K Q : RattleType) (k : of_run.Ghosts K.Denot) → IsSend Q → IsSend (state.the_field β K Q k).row
+state_send β K Q k s = search (part_send, gathered_send, lists_send, lines_send, crosses, sendable) depth 60 fits 20000
+
 process_send : (β : NamedLft) (K Q : RattleType) (k : of_run.Ghosts K.Denot) → IsSend Q → IsSend (process.the_field β K Q k).row
-process_send β K Q k s = search (part_send, gathered_send, lines_send, crosses, sendable) depth 60 fits 20000
+process_send β K Q k s = search (state_send, crosses, sendable) depth 60 fits 20000
 
 -- what lies on the board of a run may go to another thread, where its queue may
 pub item_send : (β : NamedLft) (K Q : RattleType) (k : of_run.Ghosts K.Denot) → IsSend Q → IsSend (board_item.the_row β K Q k)

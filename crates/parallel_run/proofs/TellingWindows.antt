@@ -13,8 +13,8 @@ use Rattle.member.specs.declared.event.Event.{Event}
 use Rattle.member.specs.StateOf.{pair_of}
 use Rattle.windows.specs.Parts.{for_own, is_in}
 use Rattle.lookahead_windows.specs.Messages.{IsMessage}
-use Rattle.lookahead_windows.specs.declared.window.Ran.{Ran}
 use Rattle.lookahead_windows.specs.Basis.{Basis, division_of, plan_of}
+use Rattle.lookahead_windows.specs.Windows.{Ran}
 use Rattle.parallel_run.specs.Peers.{AreOthers}
 use Rattle.parallel_run.specs.Windows.{HasRanRound, AfterWindow, CanTell}
 use Rattle.parallel_run.proofs.TellingInTurn.{AreUntouched, of_next, untouched_next}
@@ -26,13 +26,13 @@ dealt_pairs (Some list) es is = same_Some (map pair_of list) es is
 
 module _ {Q : Type 0} (set : Q → FinMap key_cmp Event) (basis : Basis) (own round : ℕ) (ran : Ran Q) (has : HasRanRound set basis own round ran) where
   -- each list of the window is what may be sent to the other part
-  pub can_tell : CanTell basis own round ran.least (map (λ list. list.items) ran.out.items)
+  pub can_tell : CanTell basis own round ran.least ran.out
   can_tell to low other = record {
     window = has.window;
     sender = has.own;
     runs = has.runs;
     told =
-        dealt_pairs (slice_get (map (λ list. list.items) ran.out.items) to) _ (has.dealt to low)
+        dealt_pairs (slice_get ran.out to) _ (has.dealt to low)
         ∙ ap (for_own (is_in (division_of basis) to)) (sym has.sent);
     after = has.least;
   }

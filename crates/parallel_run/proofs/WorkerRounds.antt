@@ -21,10 +21,9 @@ use Rattle.lookahead_windows.proofs.WindowResult.{begins_consistent, window_here
 use Rattle.lookahead_windows.proofs.Lots.{lot_none, lot_joins}
 use Rattle.lookahead_windows.proofs.LotWindows.{lot_of_window, lot_rest}
 use Rattle.lookahead_windows.specs.declared.course.Rounds.{Rounds}
-use Rattle.lookahead_windows.specs.declared.window.Ran.{Ran}
 use Rattle.lookahead_windows.specs.Basis.{Basis, IsBasis, GoBy, basis_of, division_of, plan_of}
 use Rattle.lookahead_windows.specs.Bounds.{IsOwnBound}
-use Rattle.lookahead_windows.specs.Windows.{HasRan}
+use Rattle.lookahead_windows.specs.Windows.{HasRan, Ran}
 use Rattle.lookahead_windows.proofs.OwnBounds.{own_bound}
 use Rattle.turns.proofs.After.{of_events}
 use Rattle.parallel_run.specs.declared.of_run.OfRun.{Ghosts}
@@ -96,11 +95,12 @@ module _ {Q : Type 0} (set : Q → FinMap key_cmp Event) (basis : Basis) (is : I
         (own_bound (plan_of basis) round number from begins.world is.plan low (subst (IsRound (plan_of basis) round begins.world) pends.0 begins.in_round) (omega (arith, in_time, ends)))
 
     -- the window that was run is that of the round
-    pub ran_round : (ran : Ran Q) → HasRan set basis (bound_of (plan_of basis) first number) (world_of set part) ran → HasRanRound set basis number round ran
-    ran_round ran has =
-        let window = window_here (plan_of basis) number round first (world_of set part) (world_of set ran.part) has.out ran.rows.items is.plan low begins has.window in
+    pub ran_round : (bound : ℕ) (ran : Ran Q) → bound ≡ bound_of (plan_of basis) first number → HasRan set basis bound (world_of set part) ran → HasRanRound set basis number round ran
+    ran_round bound ran same given =
+        let has = subst (λ t. HasRan set basis t (world_of set part) ran) same given in
+        let window = window_here (plan_of basis) number round first (world_of set part) (world_of set ran.part) has.out ran.rows is.plan low begins has.window in
         record {
-          window = record { part = number; keys = window.0; out = map pair_of has.out; rows = ran.rows.items; after = world_of set ran.part };
+          window = record { part = number; keys = window.0; out = map pair_of has.out; rows = ran.rows; after = world_of set ran.part };
           own = refl;
           runs = window.1;
           after = refl;
@@ -154,7 +154,7 @@ module _ (basis : Basis) (is : IsBasis basis) (number : ℕ) where
 
   -- with those of the round's window they go as far as that
   pub gathers_more : {Q : Type 0} (set : Q → FinMap key_cmp Event) (round : ℕ) (ran : Ran Q) (before after : Gathered) → number < basis.deal.parts → HasRanRound set basis number round ran → after.since ≡ before.since
-      → after.rows.items ≡ before.rows.items ++ ran.rows.items → GathersSoFar basis number round before → GathersUpTo basis number ran.until after
+      → after.rows.items ≡ before.rows.items ++ ran.rows → GathersSoFar basis number round before → GathersUpTo basis number ran.until after
   gathers_more set round ran before after low has since rows (to, run, gathers) =
       let own : has.window.part < basis.deal.parts = subst (λ n. n < basis.deal.parts) (sym has.own) low in
       let begun = subst (λ n. HasRunTo (plan_of basis) round n to) (sym has.own) run in
@@ -164,4 +164,4 @@ module _ (basis : Basis) (is : IsBasis basis) (number : ℕ) where
       (subst (λ n. IsLot basis.setup (division_of basis) n to ran.until has.window.rows) has.own lot) in
       subst (λ from. IsLot basis.setup (division_of basis) number from ran.until after.rows.items) (sym since)
       (subst (IsLot basis.setup (division_of basis) number before.since ran.until) (sym rows)
-      (lot_joins basis.setup (division_of basis) number before.since to ran.until before.rows.items ran.rows.items is.plan.sound gathers lot_here))
+      (lot_joins basis.setup (division_of basis) number before.since to ran.until before.rows.items ran.rows is.plan.sound gathers lot_here))

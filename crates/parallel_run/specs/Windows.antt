@@ -15,9 +15,8 @@ use Rattle.lookahead_windows.specs.Starts.{HasRunTo}
 use Rattle.lookahead_windows.specs.Messages.{BeginsRound, IsMessage, IsWindowOfRound, IsLeastAfter}
 use Rattle.lookahead_windows.specs.Lots.{IsLot}
 use Rattle.parallel_run.specs.declared.rows.Gathered.{Gathered}
-use Rattle.lookahead_windows.specs.declared.window.Ran.{Ran}
 use Rattle.lookahead_windows.specs.Basis.{Basis, division_of, plan_of}
-use Rattle.lookahead_windows.specs.Windows.{AreDealt}
+use Rattle.lookahead_windows.specs.Windows.{AreDealt, Ran}
 
 module _ {Q : Type 0} (set : Q → FinMap key_cmp Event) where
   -- the window of the part of that number in this round gave that
@@ -27,10 +26,10 @@ module _ {Q : Type 0} (set : Q → FinMap key_cmp Event) where
     pub runs : IsWindowOfRound (plan_of basis) round window
     pub after : window.after ≡ world_of set ran.part
     pub to : HasRunTo (plan_of basis) (round + 1) number ran.until
-    pub rows : window.rows ≡ ran.rows.items
+    pub rows : window.rows ≡ ran.rows
     pub out : List Event
     pub sent : window.out ≡ map pair_of out
-    pub dealt : AreDealt (division_of basis) basis.deal.parts out (map (λ list. list.items) ran.out.items)
+    pub dealt : AreDealt (division_of basis) basis.deal.parts out ran.out
     pub least : IsLeastAfter window ran.least
 
   -- the part of that number is as its window in this round left it, and this is the least moment after it

@@ -38,7 +38,7 @@ impl<'b, K: OfRun, Q: EventQueue<Event>> ItemRule<BoardItem<'b, K, Q>, BoardEntr
 
     fn entry_of(item: &BoardItem<'b, K, Q>) -> BoardEntry {
         match item {
-            BoardItem::Process(process) => BoardEntry::Process(process.lines.number),
+            BoardItem::Process(process) => BoardEntry::Process(process.state.lines.number),
             BoardItem::Ended(lines) => BoardEntry::Ended(lines.lots.number),
         }
     }

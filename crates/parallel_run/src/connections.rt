@@ -1,11 +1,11 @@
 //! The lines of a process: to the others, and to who writes.
-ghost use Rattle.std.specs.Prelude.{◌≡◌, ◌⊎◌, ℕ, ◌+◌, ◌≤◌, Some, OnOk, IfOk, IfErr};
+ghost use Rattle.std.specs.Prelude.{◌≡◌, ◌⊎◌, ℕ, ◌+◌, ◌≤◌, ◌++◌, Some, map, OnOk, IfOk, IfErr};
 ghost use Rattle.std.specs.Bool.{OnTrue};
 ghost use Rattle.lookahead_windows.specs.Lots.{HasLasted};
 ghost use Rattle.lookahead_windows.specs.Basis.{Basis, IsBasis, plan_of};
 ghost use Rattle.parallel_run.specs.Peers.{AreLines};
 ghost use Rattle.parallel_run.specs.Messages.{MayEndBy};
-ghost use Rattle.parallel_run.specs.Windows.{AfterWindow, GathersUpTo, GathersSoFar, HasRanRound};
+ghost use Rattle.parallel_run.specs.Windows.{CanTell, GathersUpTo};
 
 use crate::batch_sender::BatchSender;
 use crate::exchange::tell_all;
@@ -14,12 +14,8 @@ use crate::peers::{Peer, WindowSummary};
 use crate::row_batch::Delivery;
 use crate::rows::Gathered;
 use base::{Fault, Moment};
-use lookahead_windows::Ran;
-use member::Event;
-use std::alloc::Global;
+use lookahead_windows::WindowLists;
 use std::sync::Wait;
-use windows::Part;
-use worker_queue::EventQueue;
 
 /// A process's rings to the others, and its end of the relay to who writes.
 #[derive(Drop)]
@@ -31,46 +27,37 @@ pub struct Connections<'b, K: OfRun> {
 }
 
 impl<'b, K: OfRun> Connections<'b, K> {
-    /// Sends the others what the window gave, and how often the worker has slept. Returns the part, and what
-    /// was sent.
+    /// Sends the others what the window of its part gave, with the least moment after it and how often the worker has
+    /// slept. The rows go behind those that wait. Returns what was sent.
     ///
     /// Faults: `Memory`; `ThreadLost` where a message can't be sent.
-    pub(crate) fn tell<Q: EventQueue<Event> + Drop>(
+    pub(crate) fn tell(
         &mut self,
-        alloc: Global,
         round: u64,
         slept: u64,
-        came: Ran<Q>,
+        least: Option<Moment>,
+        lists: &mut WindowLists,
         gathered: &mut Gathered,
-    ) -> Result<(Part<Q>, WindowSummary), Fault>
-        requires basis { (basis : Basis) → K.basis ≡ Some basis → IsBasis basis }
+    ) -> Result<WindowSummary, Fault>
         requires lines { (basis : Basis) → K.basis ≡ Some basis → AreLines basis self.old }
-        requires came { (basis : Basis) → K.basis ≡ Some basis → HasRanRound Q.set basis self.old.number round came }
-        requires gathered { (basis : Basis) → K.basis ≡ Some basis → GathersSoFar basis self.old.number round gathered.old }
+        requires known { (basis : Basis) → K.basis ≡ Some basis → CanTell basis self.old.number round least (map (λ list. list.items) lists.old.out.items) }
         ensures lines { (basis : Basis) → K.basis ≡ Some basis → AreLines basis self.new }
         ensures own { self.new.number ≡ self.old.number }
-        ensures told { IfOk result (λ r. (r.1.from ≡ self.old.number) × (r.1.round ≡ round)) }
-        ensures window { IfOk result (λ r. (basis : Basis) → K.basis ≡ Some basis → AfterWindow Q.set basis self.old.number round r.1.least r.0) }
-        ensures gathered { OnOk result ((basis : Basis) → K.basis ≡ Some basis → GathersUpTo basis self.old.number came.until gathered.new) }
+        ensures told { IfOk result (λ told. (told.from ≡ self.old.number) × (told.round ≡ round) × (told.least ≡ least)) }
+        ensures since { gathered.new.since ≡ gathered.old.since }
+        ensures more { OnOk result (gathered.new.rows.items ≡ gathered.old.rows.items ++ lists.old.made.rows.items) }
         ensures fault { IfErr result (λ fault. (fault ≡ Fault.Memory) ⊎ (fault ≡ Fault.ThreadLost)) }
     {
-        let Ran {
-            part,
-            mut out,
-            least,
-            rows,
-            ..
-        } = came;
         let telling = WindowSummary {
             from: self.number,
             round,
             least,
-            rows: rows.len() as u64,
+            rows: lists.made.rows.len() as u64,
             slept,
         };
-        tell_all(alloc, &mut self.peers, &telling, &mut out)?;
-        gathered.add(rows)?;
-        Ok((part, telling))
+        tell_all(&mut self.peers, &telling, &mut lists.out)?;
+        gathered.add(&mut lists.made.rows)?;
+        Ok(telling)
     }
 
     /// Sends to who writes, before a round, the rows before a moment.

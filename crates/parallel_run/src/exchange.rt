@@ -19,7 +19,7 @@ use crate::window_message::WindowMessage;
 use base::{Fault, Memory, Moment};
 use lookahead_windows::lesser_moment;
 use member::Event;
-use std::alloc::{AllocError, Global};
+use std::alloc::AllocError;
 use std::sync::Wait;
 use windows::Part;
 use worker_queue::EventQueue;
@@ -37,7 +37,6 @@ pub(crate) struct WindowResult {
 
 /// Sends each other process its message of a round.
 pub(crate) fn tell_all<'b, K: OfRun>(
-    alloc: Global,
     peers: &mut Vec<Peer<'b, K>>,
     telling: &WindowSummary,
     out: &mut Vec<Vec<Event>>,
@@ -48,7 +47,7 @@ pub(crate) fn tell_all<'b, K: OfRun>(
     ensures fault { IfErr result (λ fault. fault ≡ Fault.ThreadLost) }
 {
     for peer in peers.iter_mut() {
-        if !peer.tell(alloc, telling, out) {
+        if !peer.tell(telling, out) {
             return Err(Fault::ThreadLost);
         }
     }
@@ -79,13 +78,14 @@ pub(crate) fn hear_all<'b, K: OfRun, Q: EventQueue<Event> + Drop>(
         let word = peer.hear(rt, patience, told.from, told.round)?;
         let WindowMessage {
             events,
+            spent,
             least,
             rows: theirs,
             slept: sleeps,
             ..
         } = word;
         receive(part, &events)?;
-        peer.keep(events);
+        peer.keep(events, spent);
         first = lesser_moment(first, least);
         rows = rows.saturating_add(theirs);
         slept = slept.saturating_add(sleeps);

@@ -178,7 +178,7 @@ impl<'b, K: OfRun, Q: EventQueue<Event> + Drop> Hold<'b, K, Q> {
         requires { (basis : Basis) → K.basis ≡ Some basis → MayEndBy basis fault }
     {
         for process in self.ready.iter_mut() {
-            process.lines.tell_end(rt, fault);
+            process.state.lines.tell_end(rt, fault);
         }
         for process in self.waiting.iter_mut() {
             process.tell_end(rt, fault);
@@ -213,7 +213,8 @@ fn run_process<'p, 'b, K: OfRun, Q: EventQueue<Event> + Drop, J: Site, G: Gate>(
         return Ok(None);
     };
     let bound = process.bound(from, rounds);
-    let entered = enter(gate, worker, process.round + 1, process.lines.number, bound);
+    let number = process.state.lines.number;
+    let entered = enter(gate, worker, process.round + 1, number, bound);
     let waiting = process.run(rt, alloc, from, entered, slept, rounds)?;
     Ok(Some(waiting))
 }
@@ -243,7 +244,7 @@ fn tell_lost<'b, K: OfRun, Q: EventQueue<Event> + Drop>(rt: &impl Wait, item: Bo
     match item {
         BoardItem::Process(process) => {
             let mut process = process;
-            process.lines.tell_end(rt, Fault::ThreadLost);
+            process.state.lines.tell_end(rt, Fault::ThreadLost);
         }
         BoardItem::Ended(_lines) => {}
     }

@@ -1,5 +1,6 @@
 //! The processes of a run, with their rings and relays, as it begins.
-ghost use Rattle.std.specs.Prelude.{◌≡◌, length, map, Some, IfOk};
+ghost use Rattle.std.specs.Prelude.{◌≡◌, [], length, map, Some, IfOk};
+ghost use Rattle.std.specs.Box.{box_value};
 ghost use Rattle.std.specs.List.{AllByRecursion};
 ghost use Rattle.member.specs.Opening.{opening};
 ghost use Rattle.turns.specs.Parts.{StandFor};
@@ -13,10 +14,11 @@ use crate::connections::Connections;
 use crate::event_count::EventCount;
 use crate::of_run::OfRun;
 use crate::peers::peers_of;
-use crate::process::Process;
+use crate::process::{Process, ProcessState};
 use crate::relay_ends::RelayEnds;
 use crate::rows::Gathered;
 use base::{Memory, Moment};
+use lookahead_windows::WindowLists;
 use member::Event;
 use std::alloc::Global;
 use windows::Part;
@@ -40,6 +42,29 @@ fn same_moment(moment: &Option<Moment>) -> Option<Moment>
     match moment {
         Some(moment) => Some(*moment),
         None => None,
+    }
+}
+
+/// The state of a process before its first round.
+fn state_of<'b, K: OfRun, Q: EventQueue<Event> + Drop>(
+    alloc: Global,
+    part: Part<Q>,
+    lines: Connections<'b, K>,
+) -> Result<Box<ProcessState<'b, K, Q>>, Memory>
+    ensures part { IfOk result (λ state. (box_value state).part ≡ part) }
+    ensures lines { IfOk result (λ state. (box_value state).lines ≡ lines.entry) }
+    ensures since { IfOk result (λ state. (box_value state).gathered.since ≡ 0) }
+    ensures none { IfOk result (λ state. (box_value state).gathered.rows.items ≡ []) }
+{
+    let state = ProcessState {
+        part,
+        gathered: Gathered::new(alloc),
+        lists: WindowLists::new(alloc),
+        lines,
+    };
+    match Box::new(alloc, state) {
+        Ok(state) => Ok(state),
+        Err(_) => Err(Memory),
     }
 }
 
@@ -70,17 +95,16 @@ pub(crate) fn processes_of<'b, K: OfRun, Q: EventQueue<Event> + Drop>(
             unreachable!()
         };
         let own = std::mem::replace(&mut peers[number], Vec::new(alloc));
-        let gathered = Gathered::new(alloc);
+        let lines = Connections {
+            number,
+            peers: own,
+            lots: sender,
+        };
+        let state = state_of(alloc, part, lines)?;
         processes.push(Process {
-            part,
+            state,
             round: 0,
             first: same_moment(&first),
-            gathered,
-            lines: Connections {
-                number,
-                peers: own,
-                lots: sender,
-            },
         })?;
         takers.push(taker)?;
     }

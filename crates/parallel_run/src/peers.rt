@@ -30,8 +30,10 @@ pub(crate) struct Peer<'b, K: OfRun> {
     pub(crate) number: usize,
     to: Sender<'b, PeerMessage, Words<K>>,
     from: Taker<'b, PeerMessage, Words<K>>,
-    // what the other sent last: it goes back, so that who took its memory frees it
+    // what the other sent last: its memory goes back to the thread that took it
     spent: Vec<Event>,
+    // memory that came back: it serves what is sent next
+    back: Vec<Event>,
 }
 
 /// What a process sends each other one about its round.
@@ -84,12 +86,14 @@ fn joined_peers<'b, K: OfRun>(
             to,
             from,
             spent: Vec::new(alloc),
+            back: Vec::new(alloc),
         })?;
         others.push(Peer {
             number,
             to: back,
             from: there,
             spent: Vec::new(alloc),
+            back: Vec::new(alloc),
         })?;
     }
     Ok(peers)
@@ -97,18 +101,15 @@ fn joined_peers<'b, K: OfRun>(
 
 impl<'b, K: OfRun> Peer<'b, K> {
     /// Sends the other process its message of a round. False where it can't be sent.
-    pub(crate) fn tell(
-        &mut self,
-        alloc: Global,
-        telling: &WindowSummary,
-        out: &mut Vec<Vec<Event>>,
-    ) -> bool
+    pub(crate) fn tell(&mut self, telling: &WindowSummary, out: &mut Vec<Vec<Event>>) -> bool
         requires known { (basis : Basis) → K.basis ≡ Some basis → IsMessage (plan_of basis) telling.now.from self.old.number telling.now.round
             (map pair_of (unwrap_or (slice_get (map (λ list. list.items) out.old.items) self.old.number) [])) telling.now.least }
         ensures number { self.new.number ≡ self.old.number }
         ensures others { (i : ℕ) → i ≢ self.old.number → slice_get out.new.items i ≡ slice_get out.old.items i }
     {
-        let events = taken_out(alloc, out, self.number);
+        let alloc = *self.spent.allocator();
+        let back = mem::replace(&mut self.back, Vec::new(alloc));
+        let events = taken_out(alloc, out, self.number, back);
         let word = WindowMessage {
             from: telling.from,
             to: self.number,
@@ -122,12 +123,14 @@ impl<'b, K: OfRun> Peer<'b, K> {
         self.to.send_at_once(PeerMessage::WindowMessage(word))
     }
 
-    /// Keeps what the other process sent until the next word to it.
-    pub(crate) fn keep(&mut self, spent: Vec<Event>)
+    /// Keeps what the other process sent until the next word to it, and the memory that came back with it.
+    pub(crate) fn keep(&mut self, spent: Vec<Event>, back: Vec<Event>)
         ensures number { self.new.number ≡ self.old.number }
         ensures kept { self.new.spent.items ≡ spent.items }
+        ensures back { self.new.back.items ≡ back.items }
     {
         self.spent = spent;
+        self.back = back;
     }
 
     /// Reports to the other process that this one has ended by the fault.
@@ -167,13 +170,18 @@ impl<'b, K: OfRun> Peer<'b, K> {
     }
 }
 
-/// Takes the list at that place, and leaves an empty one.
-fn taken_out(alloc: Global, lists: &mut Vec<Vec<Event>>, place: usize) -> Vec<Event>
+/// Takes the list at that place, and leaves another one there.
+fn taken_out(
+    alloc: Global,
+    lists: &mut Vec<Vec<Event>>,
+    place: usize,
+    other: Vec<Event>,
+) -> Vec<Event>
     ensures taken { result.items ≡ unwrap_or (slice_get (map (λ list. list.items) lists.old.items) place) [] }
     ensures others { (i : ℕ) → i ≢ place → slice_get lists.new.items i ≡ slice_get lists.old.items i }
 {
     match lists.get_mut(place) {
-        Some(list) => mem::replace(list, Vec::new(alloc)),
+        Some(list) => mem::replace(list, other),
         None => Vec::new(alloc),
     }
 }

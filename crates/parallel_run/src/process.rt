@@ -1,5 +1,6 @@
 //! A logical process of a run: a part of the cluster, and its lines to the others.
 ghost use Rattle.std.specs.Prelude.{◌≡◌, ◌⊎◌, ◌+◌, ◌<◌, ◌≤◌, Some, IfOk, IfErr, OnOk, IfSome, IfNone};
+ghost use Rattle.std.specs.Box.{box_value};
 ghost use Rattle.lookahead_windows.specs.Starts.{IsUpTo};
 ghost use Rattle.lookahead_windows.specs.Plan.{bound_of};
 ghost use Rattle.lookahead_windows.specs.Basis.{basis_of, plan_of, GoBy};
@@ -15,36 +16,42 @@ use crate::peers::WindowSummary;
 use crate::rows::Gathered;
 use crate::spin_policy::SpinPolicy;
 use base::{Fault, Moment};
-use lookahead_windows::{Entered, Rounds, round_bound, run_window};
+use lookahead_windows::{Entered, Rounds, WindowLists, round_bound, run_window};
 use member::Event;
 use std::alloc::Global;
 use std::sync::Wait;
 use windows::Part;
 use worker_queue::EventQueue;
 
+/// What a process has from round to round. It stays in one place while the process goes from hand to hand.
+#[derive(Drop)]
+pub struct ProcessState<'b, K: OfRun, Q: EventQueue<Event>> {
+    pub(crate) part: Part<Q>,
+    pub(crate) gathered: Gathered,
+    /// Those of its windows.
+    pub(crate) lists: WindowLists,
+    pub(crate) lines: Connections<'b, K>,
+}
+
 /// A process that begins a round.
 #[derive(Drop)]
 pub struct Process<'b, K: OfRun, Q: EventQueue<Event>> {
-    pub(crate) part: Part<Q>,
+    pub(crate) state: Box<ProcessState<'b, K, Q>>,
     /// The round, from 0.
     pub(crate) round: u64,
     /// The first moment that pends anywhere.
     pub(crate) first: Option<Moment>,
-    pub(crate) gathered: Gathered,
-    pub(crate) lines: Connections<'b, K>,
 }
 
 /// A process that has run its window of a round and sent the others its messages, and is to hear from them.
 #[derive(Drop)]
 pub struct Waiting<'b, K: OfRun, Q: EventQueue<Event>> {
-    part: Part<Q>,
+    state: Box<ProcessState<'b, K, Q>>,
     told: WindowSummary,
     /// The round after that.
     next: u64,
     /// The moment that all parts have passed then.
     common: Moment,
-    gathered: Gathered,
-    lines: Connections<'b, K>,
 }
 
 /// What all processes did in a round.
@@ -72,10 +79,10 @@ impl<'b, K: OfRun, Q: EventQueue<Event> + Drop> Process<'b, K, Q> {
     /// that pends.
     pub(crate) fn bound(&self, from: Moment, rounds: &Rounds) -> Moment
         requires rounds { GoBy rounds.now }
-        requires own { self.now.lines.number < rounds.now.division.now.parts }
-        ensures { result ≡ bound_of (plan_of (basis_of rounds.now)) (Some from) self.now.lines.number }
+        requires own { (box_value self.now.state).lines.number < rounds.now.division.now.parts }
+        ensures { result ≡ bound_of (plan_of (basis_of rounds.now)) (Some from) (box_value self.now.state).lines.number }
     {
-        round_bound(from, rounds.end, rounds.ways[self.lines.number])
+        round_bound(from, rounds.end, rounds.ways[self.state.lines.number])
     }
 
     /// Runs the window of its part in the round, in which this is the first moment that pends, up to the
@@ -96,16 +103,14 @@ impl<'b, K: OfRun, Q: EventQueue<Event> + Drop> Process<'b, K, Q> {
         requires run { K.basis ≡ Some (basis_of rounds.now) }
         requires ready { IsReady Q.set (basis_of rounds.now) self }
         requires pends { (self.first ≡ Some from) × (from ≤ rounds.now.end) }
-        requires entered { (entered.window ≡ self.round + 1) × (entered.part ≡ self.lines.number) }
-        requires bound { entered.bound ≡ bound_of (plan_of (basis_of rounds.now)) (Some from) self.lines.number }
+        requires entered { (entered.window ≡ self.round + 1) × (entered.part ≡ (box_value self.state).lines.number) }
+        requires bound { entered.bound ≡ bound_of (plan_of (basis_of rounds.now)) (Some from) (box_value self.state).lines.number }
         ensures waiting { IfOk result (IsWaiting Q.set (basis_of rounds.now)) }
         ensures fault { IfErr result (MayEndBy (basis_of rounds.now)) }
     {
         let Process {
-            part,
+            mut state,
             round,
-            mut gathered,
-            mut lines,
             ..
         } = self;
         let window = Window {
@@ -114,17 +119,15 @@ impl<'b, K: OfRun, Q: EventQueue<Event> + Drop> Process<'b, K, Q> {
             bound: entered.bound,
             slept,
         };
-        match told(alloc, part, window, &mut gathered, &mut lines, rounds) {
-            Ok((part, told)) => Ok(Waiting {
-                part,
+        match told(alloc, &mut *state, window, rounds) {
+            Ok(told) => Ok(Waiting {
+                state,
                 told,
                 next: round + 1,
                 common: round_bound(from, rounds.end, rounds.shortest),
-                gathered,
-                lines,
             }),
             Err(fault) => {
-                lines.tell_end(rt, fault);
+                state.lines.tell_end(rt, fault);
                 Err(fault)
             }
         }
@@ -140,13 +143,12 @@ impl<'b, K: OfRun, Q: EventQueue<Event> + Drop> Process<'b, K, Q> {
         requires past { IsUpTo self.first (rounds.now.end + 1) }
         ensures fault { IfErr result (MayEndBy (basis_of rounds.now)) }
     {
-        let Process {
-            part: _,
-            round,
+        let Process { state, round, .. } = self;
+        let ProcessState {
             mut gathered,
             mut lines,
             ..
-        } = self;
+        } = Box::into_inner(state);
         let until = Moment(rounds.end.ticks() + 1);
         match lines.send_lot(rt, &mut gathered, until, round, true) {
             Ok(()) => Ok(lines),
@@ -179,30 +181,41 @@ struct Window {
     slept: u64,
 }
 
-/// Runs the window of the part, and sends the others what it gave. Returns the part then, and what was sent.
+/// Runs the window of the part, and sends the others what it gave. Returns what was sent.
 fn told<'b, K: OfRun, Q: EventQueue<Event> + Drop>(
     alloc: Global,
-    part: Part<Q>,
+    state: &mut ProcessState<'b, K, Q>,
     window: Window,
-    gathered: &mut Gathered,
-    lines: &mut Connections<'b, K>,
     rounds: &Rounds,
-) -> Result<(Part<Q>, WindowSummary), Fault>
+) -> Result<WindowSummary, Fault>
     requires rounds { GoBy rounds.now }
     requires run { K.basis ≡ Some (basis_of rounds.now) }
-    requires begins { Begins Q.set (basis_of rounds.now) lines.old.number window.round (Some window.from) part }
-    requires gathered { GathersSoFar (basis_of rounds.now) lines.old.number window.round gathered.old }
-    requires lines { AreLines (basis_of rounds.now) lines.old }
-    requires bound { window.bound ≡ bound_of (plan_of (basis_of rounds.now)) (Some window.from) lines.old.number }
-    ensures lines { AreLines (basis_of rounds.now) lines.new }
-    ensures own { lines.new.number ≡ lines.old.number }
-    ensures told { IfOk result (λ r. (r.1.from ≡ lines.old.number) × (r.1.round ≡ window.round)) }
-    ensures window { IfOk result (λ r. AfterWindow Q.set (basis_of rounds.now) lines.old.number window.round r.1.least r.0) }
-    ensures gathered { OnOk result (GathersUpTo (basis_of rounds.now) lines.old.number (bound_of (plan_of (basis_of rounds.now)) (Some window.from) lines.old.number) gathered.new) }
+    requires begins { Begins Q.set (basis_of rounds.now) state.old.lines.number window.round (Some window.from) state.old.part }
+    requires gathered { GathersSoFar (basis_of rounds.now) state.old.lines.number window.round state.old.gathered }
+    requires lines { AreLines (basis_of rounds.now) state.old.lines }
+    requires bound { window.bound ≡ bound_of (plan_of (basis_of rounds.now)) (Some window.from) state.old.lines.number }
+    ensures lines { AreLines (basis_of rounds.now) state.new.lines }
+    ensures own { state.new.lines.number ≡ state.old.lines.number }
+    ensures told { IfOk result (λ told. (told.from ≡ state.old.lines.number) × (told.round ≡ window.round)) }
+    ensures window { IfOk result (λ told. AfterWindow Q.set (basis_of rounds.now) state.old.lines.number window.round told.least state.new.part) }
+    ensures gathered { OnOk result (GathersUpTo (basis_of rounds.now) state.old.lines.number (bound_of (plan_of (basis_of rounds.now)) (Some window.from) state.old.lines.number) state.new.gathered) }
     ensures fault { IfErr result (MayEndBy (basis_of rounds.now)) }
 {
-    let came = run_window(alloc, part, window.bound, rounds)?;
-    lines.tell(alloc, window.round, window.slept, came, gathered)
+    let least = run_window(
+        alloc,
+        &mut state.part,
+        window.bound,
+        rounds,
+        &mut state.lists,
+    )?;
+    let told = state.lines.tell(
+        window.round,
+        window.slept,
+        least,
+        &mut state.lists,
+        &mut state.gathered,
+    )?;
+    Ok(told)
 }
 
 impl<'b, K: OfRun, Q: EventQueue<Event> + Drop> Waiting<'b, K, Q> {
@@ -224,37 +237,24 @@ impl<'b, K: OfRun, Q: EventQueue<Event> + Drop> Waiting<'b, K, Q> {
         ensures fault { IfErr result (MayEndBy (basis_of rounds.now)) }
     {
         let Waiting {
-            mut part,
+            mut state,
             told,
             next,
             common,
-            mut gathered,
-            mut lines,
         } = self;
-        let lot = Due { next, common };
-        match heard(
-            rt,
-            patience,
-            &mut part,
-            told,
-            lot,
-            &mut gathered,
-            &mut lines,
-            rounds,
-        ) {
+        let due = Due { next, common };
+        match heard(rt, patience, &mut *state, told, due, rounds) {
             Ok(heard) => {
                 let WindowResult { first, rows, slept } = heard;
                 let process = Process {
-                    part,
+                    state,
                     round: next,
                     first,
-                    gathered,
-                    lines,
                 };
                 Ok((process, Counts { rows, slept }))
             }
             Err(fault) => {
-                lines.tell_end(rt, fault);
+                state.lines.tell_end(rt, fault);
                 Err(fault)
             }
         }
@@ -264,7 +264,7 @@ impl<'b, K: OfRun, Q: EventQueue<Event> + Drop> Waiting<'b, K, Q> {
     pub(crate) fn tell_end(&mut self, rt: &impl Wait, fault: Fault)
         requires { (basis : _) → K.basis ≡ Some basis → MayEndBy basis fault }
     {
-        self.lines.tell_end(rt, fault);
+        self.state.lines.tell_end(rt, fault);
     }
 }
 
@@ -281,29 +281,34 @@ struct Due {
 fn heard<'b, K: OfRun, Q: EventQueue<Event> + Drop>(
     rt: &impl Wait,
     patience: &mut SpinPolicy,
-    part: &mut Part<Q>,
+    state: &mut ProcessState<'b, K, Q>,
     told: WindowSummary,
     due: Due,
-    gathered: &mut Gathered,
-    lines: &mut Connections<'b, K>,
     rounds: &Rounds,
 ) -> Result<WindowResult, Fault>
     requires rounds { GoBy rounds.now }
     requires run { K.basis ≡ Some (basis_of rounds.now) }
-    requires lines { AreLines (basis_of rounds.now) lines.old }
-    requires told { told.from ≡ lines.old.number }
-    requires window { AfterWindow Q.set (basis_of rounds.now) lines.old.number told.round told.least part.old }
-    requires gathered { (to : _) × (due.common ≤ to) × GathersUpTo (basis_of rounds.now) lines.old.number to gathered.old }
-    ensures lines { AreLines (basis_of rounds.now) lines.new }
-    ensures own { lines.new.number ≡ lines.old.number }
-    ensures next { IfOk result (λ heard. Begins Q.set (basis_of rounds.now) lines.old.number (told.round + 1) heard.first part.new) }
-    ensures gathered { OnOk result ((to : _) → due.common ≤ to → GathersUpTo (basis_of rounds.now) lines.old.number to gathered.old
-        → GathersUpTo (basis_of rounds.now) lines.old.number to gathered.new) }
+    requires lines { AreLines (basis_of rounds.now) state.old.lines }
+    requires told { told.from ≡ state.old.lines.number }
+    requires window { AfterWindow Q.set (basis_of rounds.now) state.old.lines.number told.round told.least state.old.part }
+    requires gathered { (to : _) × (due.common ≤ to) × GathersUpTo (basis_of rounds.now) state.old.lines.number to state.old.gathered }
+    ensures lines { AreLines (basis_of rounds.now) state.new.lines }
+    ensures own { state.new.lines.number ≡ state.old.lines.number }
+    ensures next { IfOk result (λ heard. Begins Q.set (basis_of rounds.now) state.old.lines.number (told.round + 1) heard.first state.new.part) }
+    ensures gathered { OnOk result ((to : _) → due.common ≤ to → GathersUpTo (basis_of rounds.now) state.old.lines.number to state.old.gathered
+        → GathersUpTo (basis_of rounds.now) state.old.lines.number to state.new.gathered) }
     ensures fault { IfErr result (MayEndBy (basis_of rounds.now)) }
 {
     let _ = rounds;
-    let heard = hear_all(rt, &mut lines.peers, patience, part, told)?;
-    send_due(rt, heard.rows, due, gathered, lines, rounds)?;
+    let heard = hear_all(rt, &mut state.lines.peers, patience, &mut state.part, told)?;
+    send_due(
+        rt,
+        heard.rows,
+        due,
+        &mut state.gathered,
+        &mut state.lines,
+        rounds,
+    )?;
     Ok(heard)
 }
 

@@ -37,16 +37,16 @@ impl Gathered {
         }
     }
 
-    /// Adds the rows of the part's window in a round.
-    pub(crate) fn add(&mut self, mut rows: Vec<Row>) -> Result<(), Memory>
+    /// Adds the rows of the part's window in a round. They leave their list.
+    pub(crate) fn add(&mut self, rows: &mut Vec<Row>) -> Result<(), Memory>
         ensures since { self.new.since ≡ self.old.since }
-        ensures more { OnOk result (self.new.rows.items ≡ self.old.rows.items ++ rows.items) }
+        ensures more { OnOk result (self.new.rows.items ≡ self.old.rows.items ++ rows.old.items) }
     {
         if self.rows.is_empty() {
-            self.rows = rows;
+            mem::swap(&mut self.rows, rows);
             return Ok(());
         }
-        self.rows.append(&mut rows)?;
+        self.rows.append(rows)?;
         Ok(())
     }
 

@@ -165,8 +165,8 @@ fn clear_own<'p, 'b, 'c, K: OfRun, Q: EventQueue<Event> + Drop, J: Site>(
         match own.take(rt) {
             Some(BoardItem::Process(process)) => {
                 let mut process = process;
-                process.lines.tell_others(fault);
-                give_up(takers, process.lines.number);
+                process.state.lines.tell_others(fault);
+                give_up(takers, process.state.lines.number);
             }
             Some(BoardItem::Ended(_lines)) => {}
             None => return,

@@ -75,7 +75,7 @@ fn clear<'p, 'b, K: OfRun, Q: EventQueue<Event> + Drop, J: Site>(
         match post.take(rt) {
             Some(BoardItem::Process(process)) => {
                 let mut process = process;
-                process.lines.tell_end(rt, fault);
+                process.state.lines.tell_end(rt, fault);
             }
             Some(BoardItem::Ended(_lines)) => {}
             None => return,

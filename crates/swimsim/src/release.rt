@@ -1,8 +1,8 @@
 //! Which release of the program this is.
 
 /// The number of the version.
-pub const VERSION: &str = "1.25.0";
+pub const VERSION: &str = "1.26.0";
 /// The digest of the sources.
-pub const SOURCES: &str = "81967eab5511acfb298c7320aec054df15dd280d48e88949ac80f69c0e6d7562";
+pub const SOURCES: &str = "fc8f06c2a4eec211191d5f9abafdc30dbfa3c6d933e3d80595712dc71f836cbd";
 /// The kit.
 pub const KIT: &str = "rattle-kit-13f logic dac8208d650f15bf";

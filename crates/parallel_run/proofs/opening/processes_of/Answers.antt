@@ -1,16 +1,19 @@
 use Rattle.std.proofs.Common.{◌≡◌, suc, ◌<◌, [], ◌∷◌, ◌++◌, map, length, Vec, Global, append_assoc, refl, ap, ◌∙◌, sym, subst, arith}
+use Rattle.std.specs.Box.{box_value}
 use Rattle.std.specs.List.{AllByRecursion}
 use Rattle.std.proofs.lemmas.List.{length-append, length-map}
 use Rattle.std.proofs.lemmas.Option.{slice_get_read}
 use Rattle.member.specs.Opening.{opening}
+use Rattle.windows.specs.declared.part.Part.{Part}
 use Rattle.lookahead_windows.specs.Starts.{IsFirstMoment}
 use Rattle.turns.proofs.Coming.{same_count, elsewhere}
 use Rattle.parallel_run.specs.declared.peers.Peer.{Peer}
 use Rattle.parallel_run.specs.declared.process.Process.{Process}
 use Rattle.parallel_run.specs.declared.connections.Connections.{Connections}
-use Rattle.parallel_run.specs.Peers.{AreJoined, AreOthers, numbers_of}
+use Rattle.parallel_run.specs.Peers.{AreJoined, AreLines, AreOthers, numbers_of}
 use Rattle.parallel_run.specs.Dealt.{all_begun}
 use Rattle.parallel_run.specs.Processes.{IsReady, begun_entry}
+use Rattle.parallel_run.specs.Windows.{Begins}
 use Rattle.parallel_run.proofs.Dealing.{begun_more}
 use Rattle.parallel_run.proofs.Joining.{rings_of, joined_there}
 use Rattle.parallel_run.proofs.JoiningPlaces.{all_with_one}
@@ -54,7 +57,9 @@ loop-part-preserved g c =
     subst (λ n. AreOthers (length c.args.parts.items) n (numbers_of own.items)) is_next
     (subst (λ (v : Vec (Peer g.row.K.Denot) Global). AreOthers (length c.args.parts.items) number (numbers_of v.items)) (sym c.replace-own.ensures.value) (so_far.others number c.index_mut.result.now (omega arith) there)) in
     let lines : Connections g.row.K.Denot g.K.OfRun = record { number = number; peers = own; lots = c.in-Some-pop.field-0.sender } in
-    let process : Process g.row.K.Denot g.row.Q.Denot g.K.OfRun = record { part = part; round = 0; first = c.same_moment.result; gathered = c.new-gathered.result; lines = lines } in
+    let state = box_value c.in_ok-state.state in
+    let made = c.in_ok-state.ensures in
+    let process : Process g.row.K.Denot g.row.Q.Denot g.K.OfRun = record { state = c.in_ok-state.state; round = 0; first = c.same_moment.result } in
     let longer : suc (length c.loop-part.processes.items) ≡ length c.push.new.self.items = omega (arith, c.in_ok-push.ensures.len) in
     record {
       left = append_assoc yielded (part ∷ []) rest ∙ all;
@@ -64,13 +69,19 @@ loop-part-preserved g c =
       rings = same_count peers number c.replace-own.new.dest ∙ so_far.rings;
       others = λ i peers low here. so_far.others i peers (omega (arith, more)) (sym (elsewhere c.loop-part.peers.items number i c.replace-own.new.dest (λ same. omega (arith, more))) ∙ here);
       numbers =
-          begun_more c.loop-part.processes.items c.push.new.self.items process (length c.loop-part.processes.items) c.in_ok-push.ensures.items refl (omega (arith, is_next, so_far.count)) so_far.numbers
+          begun_more c.loop-part.processes.items c.push.new.self.items process (length c.loop-part.processes.items) c.in_ok-push.ensures.items refl (ap (λ (l : Connections g.row.K.Denot g.K.OfRun). l.number) made.lines ∙ omega (arith, is_next, so_far.count)) so_far.numbers
           ∙ ap all_begun longer;
       processes = λ basis is.
           let given = c.requires.run basis is in
           let begun = begins_first g.Q.EventQueue.set basis c.args.parts.items yielded rest part c.same_moment.result lines given.1 (subst (IsFirstMoment (opening basis.setup)) (sym c.same_moment.ensures) given.2) all is_next others in
           all_with_one (IsReady g.Q.EventQueue.set basis) c.loop-part.processes.items c.push.new.self.items process c.in_ok-push.ensures.items (so_far.processes basis is)
-          (record { begins = begun.0; gathered = gathers_none basis given.0 number c.new-gathered.result c.new-gathered.ensures.since c.new-gathered.ensures.none; lines = begun.1 });
+          (record {
+            begins =
+                subst (λ (l : Connections g.row.K.Denot g.K.OfRun). Begins g.Q.EventQueue.set basis l.number 0 c.same_moment.result state.part) (sym made.lines)
+                (subst (λ (p : Part _). Begins g.Q.EventQueue.set basis number 0 c.same_moment.result p) (sym made.part) begun.0);
+            gathered = gathers_none basis given.0 state.lines.number state.gathered made.since made.none;
+            lines = subst (AreLines basis) (sym made.lines) begun.1;
+          });
     }
 
 -- there is an end of a relay for each part

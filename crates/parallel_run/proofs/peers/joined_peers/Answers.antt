@@ -15,8 +15,8 @@ loop-other-preserved g c =
     let other = c.loop-other.other in
     let item = get_or c.loop-other.others-items other c.others-item.result in
     let here = slice_get-get_or c.loop-other.others-items other c.others-item.result (omega arith) in
-    let to : Peer g.row.K.Denot = record { number = other; to = c.in_ok-to.to; from = c.in_ok-back.from; spent = c.new.result } in
-    let back : Peer g.row.K.Denot = record { number = c.len-number.result; to = c.in_ok-back.back; from = c.in_ok-to.there; spent = c.new-in-loop-other.result } in
+    let to : Peer g.row.K.Denot = record { number = other; to = c.in_ok-to.to; from = c.in_ok-back.from; spent = c.new.result; back = c.new-in-loop-other.result } in
+    let back : Peer g.row.K.Denot = record { number = c.len-number.result; to = c.in_ok-back.back; from = c.in_ok-to.there; spent = c.new-in-loop-other-2.result; back = c.new-in-loop-other-3.result } in
     record {
       own = own_more other c.loop-other.peers.items c.push.new.self.items to c.loop-other.invariant.own c.in_ok-push.ensures.items refl;
       done =
