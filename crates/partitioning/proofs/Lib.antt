@@ -1,3 +1,4 @@
+mod Beating
 mod Counting
 mod Dividing
 mod Evenly

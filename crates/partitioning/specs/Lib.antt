@@ -1,4 +1,5 @@
 pub mod Asked
+pub mod Beats
 pub mod Hands
 pub mod Parts
 pub mod Paying

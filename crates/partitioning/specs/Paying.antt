@@ -3,6 +3,7 @@ use Rattle.std.specs.Prelude.{◌≡◌, ℕ, ◌+◌, ◌<◌, ◌≤◌, ◌�
 use Rattle.std.specs.List.{AllByRecursion, Contains}
 use Rattle.scenario.specs.Setup.{Setup, member_count}
 use Rattle.scenario.specs.Division.{Deal, in_turn}
+use Rattle.partitioning.specs.Beats.{AreByBeats}
 use Rattle.partitioning.specs.Parts.{IsFolded}
 use Rattle.partitioning.specs.Rounds.{IsLongRound, IsLeastWalkOf}
 use Rattle.partitioning.specs.Sites.{AreSites}
@@ -29,7 +30,7 @@ abbrev pub TakesLonger : Setup → Deal → ℕ → Deal → Deal → ℕ → Ty
 TakesLonger s first least second taken ticks =
     (rounds : ℕ) × IsLeastWalkOf s second rounds × (((rounds < least) × (taken ≡ first) × (ticks ≡ least)) ⊎ ((least ≤ rounds) × (taken ≡ second) × (ticks ≡ rounds)))
 
--- The parts with the longest rounds, of these: those that were asked for, the cluster's sites, both put together into one for each of so many hands, and the members in turn.
+-- The parts with the longest rounds, of these: those that were asked for, the cluster's sites, both put together into one for each of so many hands, and the members in turn in the order of their first beats.
 -- All members are one part where no such rounds have six messages.
 pub record ArePaying (s : Setup) (asked : Deal) (hands : ℕ) (used : Deal) : Type 0 where
   pub long : ℕ
@@ -40,4 +41,6 @@ pub record ArePaying (s : Setup) (asked : Deal) (hands : ℕ) (used : Deal) : Ty
   pub of_cluster : AreSites s long sites.part_of
   pub near : Deal
   pub of_sites : IsFolded sites hands near
-  pub best : AreOne s long (in_turn (member_count s) hands ∷ near ∷ given ∷ []) used ⊎ AreLongest s long (in_turn (member_count s) hands ∷ near ∷ given ∷ []) used
+  pub turns : Deal
+  pub in_order : AreByBeats s hands turns
+  pub best : AreOne s long (turns ∷ near ∷ given ∷ []) used ⊎ AreLongest s long (turns ∷ near ∷ given ∷ []) used

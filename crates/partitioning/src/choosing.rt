@@ -6,6 +6,7 @@ ghost use Rattle.partitioning.specs.Hands.{AreChosen, AreShares};
 ghost use Rattle.partitioning.specs.Parts.{Divides, PutsTogether};
 ghost use Rattle.partitioning.specs.Paying.{ArePaying, TakesLonger};
 
+use crate::beats::by_first_beats;
 use crate::divisions::same_parts;
 use crate::folding::folded;
 use crate::hands::simulating;
@@ -74,8 +75,8 @@ fn chosen_parts(
 }
 
 /// The parts by which the run is likely to take the least time, at most one for each of so many
-/// hands: those of the division, or the cluster's sites, or the members in turn, whichever have the
-/// longest rounds. All members as one part where no such rounds are worth it.
+/// hands: those of the division, or the cluster's sites, or the members in turn in the order of their first beats,
+/// whichever have the longest rounds. All members as one part where no such rounds are worth it.
 fn parts_that_pay(
     alloc: Global,
     cluster: Cluster,
@@ -92,7 +93,7 @@ fn parts_that_pay(
     let given = folded(alloc, scenario, division, hands)?;
     let sites = by_sites(alloc, cluster, ticks)?;
     let near = folded(alloc, scenario, &sites, hands)?;
-    let turns = Division::in_turn(alloc, scenario, hands)?;
+    let turns = by_first_beats(alloc, scenario, hands)?;
     let parts = Division::in_turn(alloc, scenario, 1)?;
     let whole = Choice { parts, ticks };
     let of_given = longer(alloc, cluster, whole, given)?;

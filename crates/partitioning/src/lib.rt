@@ -1,6 +1,7 @@
 //! Which parts a run is divided into, and whether several threads pay.
 #![tactic(auto)]
 
+mod beats;
 mod choosing;
 mod divisions;
 mod folding;

@@ -25,8 +25,8 @@ use trace::Sink;
 /// alone simulates and writes. Of several no more go than there are processors. Where a round of the parts is long,
 /// or there are two, all of them simulate, and the calling thread writes beside them; else all but one, which writes.
 /// Those that simulate share the parts of the division, where it has more than there are workers, or fewer into which these
-/// are joined; else each has a part for itself, as the division has them, or by the cluster's sites, or in turn, whichever
-/// have the longest rounds.
+/// are joined; else each has a part for itself, as the division has them, or by the cluster's sites, or in turn in the
+/// order of their first beats, whichever have the longest rounds.
 /// Where no rounds are long enough, one worker runs all members while the calling thread writes.
 /// What is written is always the same: the trace, and once that is whole and its sink flushed the
 /// report, whose sink is flushed too. After a fault the sinks have got a beginning of that. An observer

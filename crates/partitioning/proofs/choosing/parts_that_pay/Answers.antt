@@ -1,13 +1,11 @@
-use Rattle.std.proofs.Common.{[], ◌∷◌, subst, arith}
-use Rattle.scenario.specs.Setup.{member_count}
-use Rattle.scenario.specs.Division.{Deal, in_turn}
+use Rattle.std.proofs.Common.{[], ◌∷◌, arith}
 use Rattle.partitioning.specs.Parts.{Divides}
 use Rattle.partitioning.proofs.Dividing.{turns_divide}
-use Rattle.partitioning.proofs.Paying.{best_of_all, divides_still, none_yet, one_more, IsBest}
+use Rattle.partitioning.proofs.Paying.{best_of_all, divides_still, none_yet, one_more}
 use Rattle.partitioning.proofs.choosing.parts_that_pay.Goals as goal
 
 pub longer-requires-3 : goal.longer-requires-3
-longer-requires-3 c = record { divides = (turns_divide c.args.cluster.scenario.now c.in_ok-turns.turns c.args.hands c.in_ok-turns.ensures c.requires.few.0).one_each }
+longer-requires-3 c = record { divides = c.in_ok-turns.ensures.divides.one_each }
 
 pub returns-clause-divides : goal.returns-clause-divides
 returns-clause-divides c =
@@ -17,7 +15,7 @@ returns-clause-divides c =
     let one : Divides s hands c.in_ok-parts.parts = record { one_each = alone.one_each; below = alone.below; few = omega (arith, alone.few, c.requires.few.0) } in
     let two = divides_still s hands _ _ _ _ _ c.in_ok-of_given.ensures one c.in_ok-given.ensures.divides in
     let three = divides_still s hands _ _ _ _ _ c.in_ok-of_near.ensures two c.in_ok-near.ensures.divides in
-    divides_still s hands _ _ _ _ _ c.in_ok-chosen.ensures three (turns_divide s c.in_ok-turns.turns hands c.in_ok-turns.ensures c.requires.few.0)
+    divides_still s hands _ _ _ _ _ c.in_ok-chosen.ensures three c.in_ok-turns.ensures.divides
 
 pub returns-clause-pays : goal.returns-clause-pays
 returns-clause-pays c =
@@ -40,6 +38,7 @@ returns-clause-pays c =
       of_cluster = c.in_ok-sites.ensures;
       near = near;
       of_sites = c.in_ok-near.ensures.folded;
-      best = best_of_all s long (in_turn (member_count s) c.args.hands ∷ near ∷ given ∷ []) chosen.parts chosen.ticks
-          (subst (λ (deal : Deal). IsBest s long (deal ∷ near ∷ given ∷ []) chosen.parts chosen.ticks) c.in_ok-turns.ensures all);
+      turns = turns;
+      in_order = c.in_ok-turns.ensures.in_order;
+      best = best_of_all s long (turns ∷ near ∷ given ∷ []) chosen.parts chosen.ticks all;
     }
